@@ -1,0 +1,107 @@
+-- Laws of what is said of 0, 1, .. n - 1, and of tests in a row.
+use Prim.Native.Nat.{ℕ, zero, suc, _+_, _*_, _≤_, _<_}
+use mathlib.Core.Path.{_≡_, refl, sym, ap, ap₂, _∙_, subst}
+use mathlib.Core.Bool.{Bool, true, false, not, cond, _&&_, _||_, true≢false}
+use mathlib.Core.List.{List, [], _∷_, _++_}
+use native.Mathlib.Omega.{arith}
+use native.Mathlib.Decide.{decLt, ℕ-discrete}
+use native.Mathlib.Nat.{zero-mul, suc-mul}
+use lib.ListN.{length, getD, length-append}
+use lib.Dec.{ltb}
+use borrow.Author.Tests.{lt-ltb, le-ltb, ltb-true, ltb-false}
+use Rattle.model.specs.Range.{cat, allB, anyB, orNext, firstB}
+
+-- ---- tests in a row
+
+pub both : {a b : Bool} → a ≡ true → b ≡ true → (a && b) ≡ true
+both p q = rw (p, q)
+
+pub and-left : (a b : Bool) → (a && b) ≡ true → a ≡ true
+and-left true b e = refl
+and-left false b e = e
+
+pub and-right : (a b : Bool) → (a && b) ≡ true → b ≡ true
+and-right true b e = e
+and-right false b e = cc
+
+pub or-left : {a : Bool} (b : Bool) → a ≡ true → (a || b) ≡ true
+or-left b p = rw p
+
+pub or-right : (a : Bool) {b : Bool} → b ≡ true → (a || b) ≡ true
+or-right true p = refl
+or-right false p = p
+
+-- the second, where the first fails
+pub or-else : (a b : Bool) → (a || b) ≡ true → a ≡ false → b ≡ true
+or-else true b e f = cc
+or-else false b e f = e
+
+-- ---- joined lists
+
+module _ {A : Type 0} where
+  pub cat-ext : (n : ℕ) (f g : ℕ → List A) → ((i : ℕ) → i < n → f i ≡ g i) → cat n f ≡ cat n g
+  unfolding cat
+  cat-ext zero f g h = refl
+  cat-ext (suc n) f g h = ap₂ (λ (x y : List A). x ++ y) (cat-ext n f g (λ i l. h i (omega arith))) (h n (omega arith))
+
+  -- each of k elements
+  pub length-cat : (n k : ℕ) (f : ℕ → List A) → ((i : ℕ) → i < n → length (f i) ≡ k) → length (cat n f) ≡ n * k
+  unfolding cat
+  length-cat zero k f h = sym (zero-mul k)
+  length-cat (suc n) k f h =
+      length-append (cat n f) (f n) ∙ ap₂ _+_ (length-cat n k f (λ i l. h i (omega arith))) (h n (omega arith)) ∙ sym (suc-mul n k)
+
+-- ---- tests of every number
+
+pub all-at : (n : ℕ) (P : ℕ → Bool) → allB n P ≡ true → (i : ℕ) → i < n → P i ≡ true
+unfolding allB
+all-at zero P h i l = let z : ⊥ = omega arith in absurd z
+all-at (suc n) P h i l =
+    elim (decLt i n)
+    [ yes b ↦ all-at n P (and-left (allB n P) (P n) h) i b
+    | no b ↦ (let e : i ≡ n = omega arith in rw e (and-right (allB n P) (P n) h))
+    ]
+
+pub all-from : (n : ℕ) (P : ℕ → Bool) → ((i : ℕ) → i < n → P i ≡ true) → allB n P ≡ true
+unfolding allB
+all-from zero P h = refl
+all-from (suc n) P h = both (all-from n P (λ i l. h i (omega arith))) (h n (omega arith))
+
+pub any-at : (n : ℕ) (P : ℕ → Bool) (i : ℕ) → i < n → P i ≡ true → anyB n P ≡ true
+unfolding anyB
+any-at zero P i l e = let z : ⊥ = omega arith in absurd z
+any-at (suc n) P i l e =
+    elim (decLt i n)
+    [ yes b ↦ or-left (P n) (any-at n P i b e)
+    | no b ↦ (let q : i ≡ n = omega arith in or-right (anyB n P) (subst (λ (k : ℕ). P k ≡ true) q e))
+    ]
+
+pub any-none : (n : ℕ) (P : ℕ → Bool) → anyB n P ≡ false → (i : ℕ) → i < n → P i ≡ false
+any-none n P h i l = go (P i) refl
+  where
+    go : (b : Bool) → P i ≡ b → P i ≡ false
+    go false e = e
+    go true e = let w : anyB n P ≡ true = any-at n P i l e in cc
+
+-- ---- the first number
+
+pub first-none : (n : ℕ) (P : ℕ → Bool) → ((k : ℕ) → k < n → P k ≡ false) → firstB n P ≡ n
+unfolding firstB orNext
+first-none zero P h = refl
+first-none (suc n) P h =
+    let e : firstB n P ≡ n = first-none n P (λ k l. h k (omega arith)) in
+    rw (e, le-ltb n n (omega arith), h n (omega arith))
+
+-- where there is one, it is found
+pub first-some : (n : ℕ) (P : ℕ → Bool) → anyB n P ≡ true → (firstB n P < n) × (P (firstB n P) ≡ true)
+unfolding firstB anyB orNext
+first-some zero P h = absurd (true≢false (sym h))
+first-some (suc n) P h = go (anyB n P) (P n) refl refl (first-some n P)
+  where
+    go : (a b : Bool) → anyB n P ≡ a → P n ≡ b → (anyB n P ≡ true → (firstB n P < n) × (P (firstB n P) ≡ true))
+      → (orNext (firstB n P) n (P n) < suc n) × (P (orNext (firstB n P) n (P n)) ≡ true)
+    go true b e q ih = let x = ih e in rw (lt-ltb (firstB n P) n (x .0)) (omega arith, x .1)
+    go false true e q ih =
+      let f : firstB n P ≡ n = first-none n P (λ k l. any-none n P e k l) in
+      rw (f, le-ltb n n (omega arith), q) (omega arith, q)
+    go false false e q ih = absurd (true≢false (sym h ∙ ap₂ (λ (x y : Bool). x || y) e q))

@@ -1,0 +1,118 @@
+-- The metadata of an image: committed epoch, segment states, pairs; when it is valid; which bytes are the checkpoint.
+-- States and pairs are taken as functions, so that each rule can be read for either line of states. Assumes nothing.
+use Prim.Native.Nat.{ℕ, zero, suc, _+_, _*_, _≤_, _<_}
+use mathlib.Core.Path.{_≡_}
+use mathlib.Core.Logic.{_≢_, _⊎_}
+use mathlib.Core.Bool.{Bool, not, _&&_, _||_}
+use mathlib.Core.List.{List, [], _∷_}
+use lib.Dec.{leb, ltb, eqb}
+use lib.ListN.{length, take, drop, replicate}
+use Rattle.model.specs.declared.Layout.{Layout}
+use Rattle.model.specs.Range.{cat, allB, anyB, firstB}
+use Rattle.model.specs.Words.{Image, byteAt, wordAt}
+use Rattle.model.specs.Layout.{most, epochAt, mainsAt, backupsAt, blocksAt, pairsAt, unpaired, ssInitial, ssMain, ssBackup, stateLine, segmentSize, mainAt, backupAt, sizesOk, imageSize}
+use Rattle.model.specs.Status.{Errors}
+
+-- the number of checkpoints (document 01: epoch)
+abbrev pub committedEpoch : Image → ℕ
+committedEpoch I = wordAt I epochAt
+
+-- the line of states that the epoch's parity picks, and the other (document 01: active and idle line)
+abbrev pub activeLine : Image → ℕ
+activeLine I = stateLine (committedEpoch I)
+
+abbrev pub inactiveLine : Image → ℕ
+inactiveLine I = stateLine (suc (committedEpoch I))
+
+-- the state of main segment i on a line of states
+abbrev pub segState : Image → ℕ → ℕ → ℕ
+segState I line i = byteAt I (line + i)
+
+-- the main segment of backup segment j, or `unpaired` (document 01: pairs)
+abbrev pub backupToMain : Image → ℕ → ℕ
+backupToMain I j = byteAt I (pairsAt + j)
+
+-- ---- valid metadata (document 01: sound); st gives the states, pr the pairs
+
+pub record Valid (l : Layout) (st pr : ℕ → ℕ) : Type 0 where
+  -- states of main segments are 0, 1 or 2, and the rest of the line is 0
+  pub states : (i : ℕ) → i < l .mains → st i ≤ ssBackup
+  pub statesRest : (i : ℕ) → l .mains ≤ i → i < most → st i ≡ ssInitial
+  -- pairs of backup segments are 255 or a main segment, and the rest of the line is 255
+  pub pairs : (j : ℕ) → j < l .backups → (pr j ≡ unpaired) ⊎ (pr j < l .mains)
+  pub pairsRest : (j : ℕ) → l .backups ≤ j → j < most → pr j ≡ unpaired
+  -- no main segment is paired twice
+  pub once : (j k : ℕ) → j < l .backups → k < l .backups → pr j < l .mains → pr j ≡ pr k → j ≡ k
+  -- each main segment in state 2 has a backup, and none in state 0 has one
+  pub kept : (i : ℕ) → i < l .mains → st i ≡ ssBackup → (j : ℕ) × (j < l .backups) × (pr j ≡ i)
+  pub bare : (i : ℕ) → i < l .mains → st i ≡ ssInitial → (j : ℕ) → j < l .backups → pr j ≢ i
+
+-- some backup segment is paired with main segment i
+unfoldable pub isPaired : Layout → (ℕ → ℕ) → ℕ → Bool
+isPaired l pr i = anyB (l .backups) (λ j. eqb (pr j) i)
+
+-- the same as a test
+unfoldable pub validMetadata : Layout → (ℕ → ℕ) → (ℕ → ℕ) → Bool
+validMetadata l st pr =
+    allB (l .mains) (λ i. leb (st i) ssBackup)
+    && allB most (λ i. ltb i (l .mains) || eqb (st i) ssInitial)
+    && allB (l .backups) (λ j. eqb (pr j) unpaired || ltb (pr j) (l .mains))
+    && allB most (λ j. ltb j (l .backups) || eqb (pr j) unpaired)
+    && allB (l .backups) (λ j. allB (l .backups) (λ k. not (ltb (pr j) (l .mains)) || not (eqb (pr j) (pr k)) || eqb j k))
+    && allB (l .mains) (λ i. not (eqb (st i) ssBackup) || isPaired l pr i)
+    && allB (l .mains) (λ i. not (eqb (st i) ssInitial) || not (isPaired l pr i))
+
+-- ---- backup segments
+
+-- the backup segment of main segment i, or the number of backups where it has none (document 01: its spare)
+unfoldable pub pairedBackup : Layout → (ℕ → ℕ) → ℕ → ℕ
+pairedBackup l pr i = firstB (l .backups) (λ j. eqb (pr j) i)
+
+-- a backup segment that may be given to another main segment: it is unpaired, or its main segment is not in state 2
+abbrev pub Free : Layout → (ℕ → ℕ) → (ℕ → ℕ) → ℕ → Type 0
+Free l st pr j = (j < l .backups) × ((pr j ≡ unpaired) ⊎ (st (pr j) ≢ ssBackup))
+
+unfoldable pub isFree : (ℕ → ℕ) → (ℕ → ℕ) → ℕ → Bool
+isFree st pr j = eqb (pr j) unpaired || not (eqb (st (pr j)) ssBackup)
+
+unfoldable pub anyFree : Layout → (ℕ → ℕ) → (ℕ → ℕ) → Bool
+anyFree l st pr = anyB (l .backups) (isFree st pr)
+
+-- ---- the checkpoint state (document 01: saved bytes)
+
+-- a choice by the state of a main segment: initial, main, backup
+unfoldable pub byState : {A : Type 0} → ℕ → A → A → A → A
+byState zero a b c = a
+byState (suc zero) a b c = b
+byState (suc (suc n)) a b c = c
+
+-- the bytes of a segment that starts at a place
+abbrev pub segmentBytes : Layout → Image → ℕ → List ℕ
+segmentBytes l I at = take (segmentSize l) (drop at I)
+
+-- the checkpoint of main segment i, by a line of states: zeros, its own bytes, or its backup's
+unfoldable pub checkpointSegment : Layout → Image → ℕ → ℕ → List ℕ
+checkpointSegment l I line i =
+    byState (segState I line i) (replicate (segmentSize l) 0) (segmentBytes l I (mainAt l i))
+      (segmentBytes l I (backupAt l (pairedBackup l (backupToMain I) i)))
+
+-- the checkpoint of all main segments, one after the other
+unfoldable pub checkpointBytes : Layout → Image → ℕ → List ℕ
+checkpointBytes l I line = cat (l .mains) (checkpointSegment l I line)
+
+-- ---- refusals 1 to 4, which every call but replay shares
+
+-- the image carries the sizes of the layout
+abbrev pub HeaderOk : Layout → Image → Type 0
+HeaderOk l I = (wordAt I mainsAt ≡ l .mains) × (wordAt I backupsAt ≡ l .backups) × (wordAt I blocksAt ≡ l .blocks)
+
+unfoldable pub headerOk : Layout → Image → Bool
+headerOk l I = eqb (wordAt I mainsAt) (l .mains) && eqb (wordAt I backupsAt) (l .backups) && eqb (wordAt I blocksAt) (l .blocks)
+
+abbrev pub sizeErrors : Layout → Image → Errors
+sizeErrors l I = (1, not (sizesOk l)) ∷ (2, not (eqb (length I) (imageSize l))) ∷ []
+
+abbrev pub containerErrors : Layout → Image → Errors
+containerErrors l I =
+    (1, not (sizesOk l)) ∷ (2, not (eqb (length I) (imageSize l))) ∷ (3, not (headerOk l I))
+    ∷ (4, not (validMetadata l (segState I (activeLine I)) (backupToMain I))) ∷ []

@@ -1,0 +1,33 @@
+-- What a crash may leave (document 01: a cut; what then stands). The whole crash model is this file.
+--
+-- I was durable (document 01: held), and O is every operation played since, across calls. Each line, on its own, holds its
+-- bytes after some first part of O, and not less than every store before a clwb of that line that a later sfence of O
+-- followed. What is assumed of the hardware is in README.md: a word is not torn, stores to one line arrive in program
+-- order, and clwb with sfence keep their promise.
+use Prim.Native.Nat.{ℕ, _/_, _≤_}
+use mathlib.Core.Path.{_≡_}
+use mathlib.Core.List.{_∷_, _++_}
+use lib.ListN.{length, take}
+use Rattle.model.specs.Words.{Image, byteAt}
+use Rattle.model.specs.Layout.{lineSize}
+use Rattle.model.specs.Ops.{Ops, clwb, sfence, replay}
+
+-- k operations of O hold every store before a clwb of line ℓ that a later sfence followed
+abbrev pub Durable : ℕ → Ops → ℕ → Type 0
+Durable ℓ O k = (A C D : Ops) (p : ℕ) → p / lineSize ≡ ℓ → O ≡ A ++ clwb p ∷ C ++ sfence ∷ D → length A ≤ k
+
+-- two images agree on line ℓ
+abbrev pub AgreeOn : ℕ → Image → Image → Type 0
+AgreeOn ℓ H J = (i : ℕ) → i / lineSize ≡ ℓ → byteAt H i ≡ byteAt J i
+
+-- line ℓ of H is one that a crash may leave (document 01: a stage of the line)
+pub record Stage (ℓ : ℕ) (I : Image) (O : Ops) (H : Image) : Type 0 where
+  pub k : ℕ
+  pub within : k ≤ length O
+  pub durable : Durable ℓ O k
+  pub agree : AgreeOn ℓ H (replay (take k O) I)
+
+-- H is one of the images that a crash may leave
+pub record CrashImage (I : Image) (O : Ops) (H : Image) : Type 0 where
+  pub long : length H ≡ length I
+  pub lines : (ℓ : ℕ) → Stage ℓ I O H

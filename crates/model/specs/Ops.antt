@@ -1,0 +1,98 @@
+-- Persist operations and the trace that holds them (document 01: orders and tape). Assumes nothing.
+use Prim.Native.Nat.{ℕ, _+_, _*_, _/_}
+use mathlib.Core.Bool.{Bool, cond}
+use mathlib.Core.List.{List, [], _∷_, _++_}
+use lib.Dec.{ltb, eqb}
+use lib.ListN.{length, drop}
+use Rattle.model.specs.declared.Session.{Session}
+use Rattle.model.specs.Range.{cat}
+use Rattle.model.specs.Words.{Image, byteAt, wordOf, wordAt, storeWord, overlay}
+use Rattle.model.specs.Layout.{wordSize, lineSize, blockWords, blockLines}
+
+-- store a word at a place; write the line of a place back; wait for what was written back (document 01: store, flush, fence)
+pub data Op : Type 0 where
+  store : ℕ → ℕ → Op
+  clwb : ℕ → Op
+  sfence : Op
+
+abbrev pub Ops : Type 0
+Ops = List Op
+
+-- a run of numbers, three an operation: kind, place, word (document 01: tape)
+abbrev pub Trace : Type 0
+Trace = List ℕ
+
+-- ---- an operation as three numbers, and back
+
+abbrev pub triple : Op → Trace → Trace
+triple (store p w) t = 1 ∷ p ∷ w ∷ t
+triple (clwb p) t = 2 ∷ p ∷ 0 ∷ t
+triple sfence t = 3 ∷ 0 ∷ 0 ∷ t
+
+unfoldable pub encode : Ops → Trace
+encode [] = []
+encode (o ∷ O) = triple o (encode O)
+
+unfoldable pub opOf : ℕ → ℕ → ℕ → Op
+opOf kind p w = cond (eqb kind 1) (store p w) (cond (eqb kind 2) (clwb p) sfence)
+
+unfoldable pub decode : Trace → Ops
+decode [] = []
+decode (k ∷ []) = []
+decode (k ∷ p ∷ []) = []
+decode (k ∷ p ∷ w ∷ t) = opOf k p w ∷ decode t
+
+-- the trace after a call that wrote the operations O: they stand at its start, later numbers keep their contents
+unfoldable pub written : Ops → Trace → Trace
+written O t = encode O ++ drop (3 * length O) t
+
+-- the trace is too short for the operations
+unfoldable pub traceShort : Ops → Trace → Bool
+traceShort O t = ltb (length t) (3 * length O)
+
+-- what opening, write and checkpoint answer: the status, the session, and the operations that stand on the trace;
+-- the number of operations that is reported is their length
+pub record Outcome : Type 0 where
+  pub status : ℕ
+  pub session : Session
+  pub ops : Ops
+
+-- ---- what an operation does to an image
+
+unfoldable pub apply : Op → Image → Image
+apply (store p w) I = storeWord I p w
+apply (clwb p) I = I
+apply sfence I = I
+
+-- the operations, one after the other
+unfoldable pub replay : Ops → Image → Image
+replay [] I = I
+replay (o ∷ O) I = replay O (apply o I)
+
+-- ---- runs of operations
+
+-- n words stored from the place a on, upward
+unfoldable pub stores : ℕ → ℕ → (ℕ → ℕ) → Ops
+stores n a w = cat n (λ k. store (a + wordSize * k) (w k) ∷ [])
+
+-- n lines written back from the place a on, upward
+unfoldable pub clwbs : ℕ → ℕ → Ops
+clwbs n a = cat n (λ k. clwb (a + lineSize * k) ∷ [])
+
+-- a block stored and written back: 32 stores, then 4 write-backs, each ascending
+unfoldable pub putBlock : ℕ → (ℕ → ℕ) → Ops
+putBlock a w = stores blockWords a w ++ clwbs blockLines a
+
+-- a block copied (document 01: copying a frame), its words gathered from the image, and a block of zeros by the same operations
+unfoldable pub persistCopy : Image → ℕ → ℕ → Ops
+persistCopy I from to = putBlock to (λ k. wordAt I (from + wordSize * k))
+
+unfoldable pub persistZero : ℕ → Ops
+persistZero to = putBlock to (λ k. 0)
+
+-- the place of the word that holds a byte, and the operation that stores one byte in its word
+abbrev pub wordPlace : ℕ → ℕ
+wordPlace i = wordSize * (i / wordSize)
+
+abbrev pub storeByte : Image → ℕ → ℕ → Op
+storeByte I i b = store (wordPlace i) (wordOf (overlay (byteAt I) i (b ∷ [])) (wordPlace i))

@@ -1,0 +1,41 @@
+-- The reference model (document 01: the book) that a history is compared with. It sees the arguments of a call and
+-- whether it was served, and neither image, session nor trace. Assumes nothing.
+use Prim.Native.Nat.{ℕ, _+_, _*_}
+use mathlib.Core.Bool.{Bool, true, false}
+use mathlib.Core.List.{List}
+use lib.ListN.{take, drop}
+use lib.Seq.{sets}
+use Rattle.model.specs.declared.Layout.{Layout}
+use Rattle.model.specs.Layout.{blockSize}
+use Rattle.model.specs.Write.{WriteArgs}
+
+-- the bytes of all main segments, one after the other
+abbrev pub Page : Type 0
+Page = List ℕ
+
+-- the working state and the checkpoint state (document 01: working and saved page)
+pub record Model : Type 0 where
+  pub working : Page
+  pub checkpoint : Page
+
+-- the arguments of a call
+pub data CallArgs : Type 0 where
+  openArgs : Layout → CallArgs
+  writeArgs : WriteArgs → CallArgs
+  checkpointArgs : CallArgs
+
+-- where block b of main segment i stands in a page
+abbrev pub pageAt : Layout → ℕ → ℕ → ℕ
+pageAt l i b = blockSize * (i * l .blocks + b)
+
+abbrev pub pageBlock : Layout → Page → ℕ → ℕ → List ℕ
+pageBlock l P i b = take blockSize (drop (pageAt l i b) P)
+
+-- what a call does to the model
+unfoldable pub modelStep : Layout → CallArgs → Bool → Model → Model
+modelStep l (openArgs m) true b = record { working = b .checkpoint; checkpoint = b .checkpoint }
+modelStep l (openArgs m) false b = b
+modelStep l (writeArgs w) true b = record { working = sets (b .working) (pageAt l (w .main) (w .block) + w .offset) (w .bytes); checkpoint = b .checkpoint }
+modelStep l (writeArgs w) false b = b
+modelStep l checkpointArgs true b = record { working = b .working; checkpoint = b .working }
+modelStep l checkpointArgs false b = b

@@ -1,0 +1,33 @@
+-- Equality of two checkpoints (document 01: likeness). Assumes nothing.
+use Prim.Native.Nat.{ℕ, _+_, _*_}
+use mathlib.Core.Bool.{Bool, false, cond, _&&_}
+use mathlib.Core.List.{List, _++_}
+use lib.Dec.{eqb}
+use lib.ListN.{length, getD}
+use Rattle.model.specs.declared.Layout.{Layout}
+use Rattle.model.specs.Range.{allB}
+use Rattle.model.specs.Words.{Image}
+use Rattle.model.specs.Layout.{segmentSize}
+use Rattle.model.specs.Status.{Errors, firstError, served}
+use Rattle.model.specs.Container.{activeLine, checkpointBytes, containerErrors}
+
+-- the first image wholly before the second
+abbrev pub sameErrors : Layout → Image → Image → Errors
+sameErrors l I J = containerErrors l I ++ containerErrors l J
+
+-- two lists have the same n first elements
+unfoldable pub sameBytes : ℕ → List ℕ → List ℕ → Bool
+sameBytes n x y = allB n (λ k. eqb (getD x k 0) (getD y k 0))
+
+-- all checkpoint bytes of the two images agree
+unfoldable pub sameCheckpoint : Layout → Image → Image → Bool
+sameCheckpoint l I J = sameBytes (segmentSize l * l .mains) (checkpointBytes l I (activeLine I)) (checkpointBytes l J (activeLine J))
+
+pub record Compared : Type 0 where
+  pub status : ℕ
+  pub same : Bool
+
+unfoldable pub sameOutcome : Layout → Image → Image → Compared
+sameOutcome l I J =
+    let e : ℕ = firstError (sameErrors l I J) in
+    record { status = e; same = cond (served e) (sameCheckpoint l I J) false }

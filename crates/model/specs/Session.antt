@@ -1,0 +1,62 @@
+-- The volatile session (document 01: the card): which main segments and blocks are dirty, and when it is valid.
+-- Assumes nothing.
+use Prim.Native.Nat.{ℕ, zero, suc, _+_, _*_, _^_, _/_, _%_, _<_}
+use mathlib.Core.Path.{_≡_}
+use mathlib.Core.Logic.{_≢_}
+use mathlib.Core.Bool.{Bool, true, not, cond, _&&_}
+use lib.Bits.{bitOr}
+use lib.Dec.{ltb, eqb}
+use lib.ListN.{getD, set, replicate}
+use Rattle.model.specs.declared.Layout.{Layout}
+use Rattle.model.specs.declared.Session.{Session}
+use Rattle.model.specs.Range.{allB}
+use Rattle.model.specs.Layout.{most, ssMain}
+
+-- bit f of a number, 0 or 1
+unfoldable pub bit : ℕ → ℕ → ℕ
+bit m f = m / 2 ^ f % 2
+
+-- a number with bit f set
+unfoldable pub setBit : ℕ → ℕ → ℕ
+setBit m f = bitOr m (2 ^ f)
+
+-- the word of dirty blocks of main segment i
+abbrev pub dirtyWord : Session → ℕ → ℕ
+dirtyWord s i = getD (s .«dirty_blocks») i 0
+
+-- main segment i was written since the last checkpoint (document 01: touched)
+unfoldable pub dirtySegment : Session → ℕ → Bool
+dirtySegment s i = eqb (bit (s .«dirty_segments») i) 1
+
+-- block b of main segment i is dirty (document 01: marked)
+unfoldable pub dirtyBlock : Session → ℕ → ℕ → Bool
+dirtyBlock s i b = eqb (bit (dirtyWord s i) b) 1
+
+-- a session of a layout with no bit set
+unfoldable pub freshSession : Layout → Session
+freshSession l = record { layout = l; «dirty_segments» = 0; «dirty_blocks» = replicate most 0 }
+
+-- the session of zeros, which a refused opening answers
+unfoldable pub zeroSession : Session
+zeroSession = freshSession (record { mains = 0; backups = 0; blocks = 0 })
+
+-- the session after a write to block b of main segment i whose word of dirty blocks was m
+unfoldable pub withDirty : Session → ℕ → ℕ → ℕ → Session
+withDirty s i b m = record { layout = s .layout; «dirty_segments» = setBit (s .«dirty_segments») i; «dirty_blocks» = set (s .«dirty_blocks») i (setBit m b) }
+
+-- the session after a checkpoint: dirty blocks stay, dirty segments are cleared
+unfoldable pub withCheckpoint : Session → Session
+withCheckpoint s = record { layout = s .layout; «dirty_segments» = 0; «dirty_blocks» = s .«dirty_blocks» }
+
+-- a valid session (document 01: a true card): no bit is set beyond the sizes, and no dirty segment is in state 1
+pub record SessionValid (s : Session) (st : ℕ → ℕ) : Type 0 where
+  pub segments : (i : ℕ) → dirtySegment s i ≡ true → i < s .layout .mains
+  pub blocks : (i b : ℕ) → dirtyBlock s i b ≡ true → (i < s .layout .mains) × (b < s .layout .blocks)
+  pub moved : (i : ℕ) → dirtySegment s i ≡ true → st i ≢ ssMain
+
+-- the same as a test
+unfoldable pub validSession : Session → (ℕ → ℕ) → Bool
+validSession s st =
+    ltb (s .«dirty_segments») (2 ^ s .layout .mains)
+    && allB most (λ i. ltb (dirtyWord s i) (cond (ltb i (s .layout .mains)) (2 ^ s .layout .blocks) 1))
+    && allB (s .layout .mains) (λ i. not (dirtySegment s i && eqb (st i) ssMain))

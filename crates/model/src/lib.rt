@@ -1,0 +1,68 @@
+// The types that every contract speaks of: the sizes of a container, the volatile session, the status of a call and the
+// action of recovery. What they mean is said in specs/; this crate has no function.
+
+// The sizes of a container (document 01: M levels, S spares, B frames), each 1 to 64.
+pub struct Layout {
+    // Main segments (document 01: levels).
+    pub mains: u64,
+    // Backup segments (document 01: spares).
+    pub backups: u64,
+    // Blocks in each segment (document 01: frames).
+    pub blocks: u64,
+}
+
+// Every size and place of an image.
+impl Layout {
+    pub const WORD_SIZE: u64 = 8;
+    pub const LINE_SIZE: u64 = 64;
+    pub const BLOCK_SIZE: u64 = 256;
+    pub const METADATA_SIZE: u64 = 512;
+    // The most main segments, backup segments or blocks.
+    pub const MOST: u64 = 64;
+    pub const EPOCH_AT: u64 = 0;
+    pub const MAINS_AT: u64 = 64;
+    pub const BACKUPS_AT: u64 = 72;
+    pub const BLOCKS_AT: u64 = 80;
+    pub const STATES_AT: u64 = 128;
+    pub const PAIRS_AT: u64 = 256;
+    // The pair byte of a backup segment that has no main segment.
+    pub const UNPAIRED: u64 = 255;
+    // The three states of a main segment: its checkpoint is all zero, stands in itself, stands in its backup.
+    pub const SS_INITIAL: u64 = 0;
+    pub const SS_MAIN: u64 = 1;
+    pub const SS_BACKUP: u64 = 2;
+}
+
+// What is kept in volatile memory between calls (document 01: the card).
+pub struct Session {
+    pub layout: Layout,
+    // One bit for each main segment written since the last checkpoint (document 01: touched).
+    pub dirty_segments: u64,
+    // For each main segment one word, with one bit for each dirty block (document 01: marked).
+    pub dirty_blocks: [u64; 64],
+}
+
+// How a call ends (document 01: refusals by number).
+pub enum Status {
+    Served,
+    BadSize,
+    BadLength,
+    Foreign,
+    Invalid,
+    BadSession,
+    NoSuchMain,
+    NoSuchBlock,
+    BadSpan,
+    NoFreeBackup,
+    EpochLimit,
+    TraceShort,
+    TraceBad,
+}
+
+// What recovery does to a main segment and its backup (document 01: the opening table).
+pub enum Action {
+    Nothing,
+    ZeroMain,
+    CopyToBackup,
+    CopyToMain,
+}
