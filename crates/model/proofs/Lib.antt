@@ -1,1 +1,4 @@
 pub mod Range
+pub mod WordLaws
+pub mod Persist
+pub mod Settled
