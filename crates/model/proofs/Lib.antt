@@ -1,4 +1,14 @@
 pub mod Range
+pub mod Refusals
+pub mod Metadata
+pub mod SessionLaws
+pub mod Places
+pub mod TraceLaws
+pub mod WellFormed
 pub mod WordLaws
 pub mod Persist
 pub mod Settled
+pub mod Runs
+pub mod View
+pub mod Invariant
+pub mod Recovery
