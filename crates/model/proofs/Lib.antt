@@ -12,3 +12,4 @@ pub mod Runs
 pub mod View
 pub mod Invariant
 pub mod Recovery
+pub mod CheckpointArgument
