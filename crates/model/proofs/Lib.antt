@@ -13,3 +13,5 @@ pub mod View
 pub mod Invariant
 pub mod Recovery
 pub mod CheckpointArgument
+pub mod Agreement
+pub mod SpanArgument

@@ -1,0 +1,233 @@
+-- The stores of a write's span: they go into a block of a main segment that does not hold its checkpoint, so that no
+-- stage of them matters to recovery.
+use Prim.Native.Nat.{ℕ, zero, suc, _+_, _-_, _*_, _/_, _%_, _≤_, _<_}
+use mathlib.Core.Path.{_≡_, refl, sym, ap, _∙_, subst}
+use mathlib.Core.Logic.{_≢_, _⊎_, inl, inr, ⊎-elim}
+use mathlib.Core.Bool.{Bool, true, false, true≢false}
+use mathlib.Core.List.{List, [], _∷_, _++_}
+use native.Mathlib.Decide.{decLe, decLt, ℕ-discrete}
+use native.Mathlib.Omega.{arith}
+use lib.Dec.{eqb}
+use lib.ListN.{length, take}
+use Rattle.model.specs.declared.Layout.{Layout}
+use Rattle.model.specs.declared.Session.{Session}
+use Rattle.model.specs.Words.{Image, byteAt, Bytes, wordOf, overlay}
+use Rattle.model.specs.Layout.{segmentSize, mainAt, backupAt}
+use Rattle.model.specs.Container.{committedEpoch, activeLine, backupToMain}
+use Rattle.model.specs.Session.{bit, dirtySegment, dirtyBlock, dirtyWord, withDirty}
+use Rattle.model.specs.Ops.{Ops, replay, stores, wordPlace}
+use Rattle.model.specs.Write.{WriteArgs, spanAt, spanWords, spanOps}
+use Rattle.model.specs.Crash.{CrashImage}
+use Rattle.model.proofs.WordLaws.{byte-of-word, overlay-before, overlay-after, overlay-small}
+use Rattle.model.proofs.Persist.{Misses, Clear, each-take, length-replay, replay-clear, replay-append, replay-small}
+use Rattle.model.proofs.Settled.{Settled, Off, crash-byte, crash-bytes, settled-more}
+use Rattle.model.proofs.Runs.{Puts, puts-clear, puts-stores}
+use Rattle.model.proofs.Places.{segment-in-image, segment-inside, apart, state-line-high}
+use Rattle.model.proofs.SessionLaws.{dirty-segment-same, dirty-segment-other, dirty-block-same, dirty-block-rest, dirty-block-other}
+use Rattle.model.proofs.View.{Contents, Recoverable, stateOf, Alike, recoverable-alike, alike-state}
+use Rattle.model.proofs.Invariant.{Invariant}
+
+-- ---- the session with block b of main segment i dirty
+
+abbrev pub marked : Session → ℕ → ℕ → Session
+marked s i b = withDirty s i b (dirtyWord s i)
+
+module _ (s : Session) (i b : ℕ) where
+  marked-segment : (u : ℕ) (d : Bool) → u ≢ i → dirtySegment (marked s i b) u ≡ d → dirtySegment s u ≡ d
+  marked-segment u d ne e = sym (dirty-segment-other s i b (dirtyWord s i) u ne) ∙ e
+
+  marked-clean : (u : ℕ) → dirtySegment (marked s i b) u ≡ false → (u ≢ i) × (dirtySegment s u ≡ false)
+  marked-clean u e = (ne, marked-segment u false ne e)
+    where
+      ne : u ≢ i
+      ne q = true≢false (sym (dirty-segment-same s i b (dirtyWord s i)) ∙ subst (λ (n : ℕ). dirtySegment (marked s i b) n ≡ false) q e)
+
+  marked-block : i < length (s .«dirty_blocks») → (u k : ℕ) → dirtyBlock (marked s i b) u k ≡ false → (dirtyBlock s u k ≡ false) × (u ≡ i → k ≢ b)
+  marked-block h u k e = go (ℕ-discrete u i) (ℕ-discrete k b)
+    where
+      m : ℕ
+      m = dirtyWord s i
+      go : Dec (u ≡ i) → Dec (k ≡ b) → (dirtyBlock s u k ≡ false) × (u ≡ i → k ≢ b)
+      go (no q) d = (sym (dirty-block-other s i b m u q k) ∙ e, λ x. absurd (q x))
+      go (yes q) (yes r) = absurd (true≢false (sym (dirty-block-same s i b m h)
+        ∙ subst (λ (n : ℕ). dirtyBlock (marked s i b) i n ≡ false) r (subst (λ (n : ℕ). dirtyBlock (marked s i b) n k ≡ false) q e)))
+      go (yes q) (no r) =
+        (subst (λ (n : ℕ). dirtyBlock s n k ≡ false) (sym q)
+          (unfold dirtyBlock in (sym (dirty-block-rest s i b m h k r) ∙ subst (λ (n : ℕ). dirtyBlock (marked s i b) n k ≡ false) q e)),
+         λ x. r)
+
+-- ---- stores E into block b of main segment i, leaving g in a stretch of it
+
+module _ (l : Layout) (O : Ops) (I₀ : Image) (s : Session) (P W : Contents) (held : Bytes I₀) (inv : Invariant l O (replay O I₀) s P W)
+  (i b : ℕ) (hi : i < l .mains) (hb : b < l .blocks) (ne : stateOf (replay O I₀) i ≢ 1)
+  (E : Ops) (a n : ℕ) (g : ℕ → ℕ) (puts : Puts E a n g) (from : mainAt l i + 256 * b ≤ a) (upto : a + n ≤ mainAt l i + 256 * b + 256) where
+
+  abbrev I : Image
+  I = replay O I₀
+
+  abbrev base : ℕ
+  base = mainAt l i + 256 * b
+
+  -- outside the block
+  Beyond : ℕ → Type 0
+  Beyond k = (k < base) ⊎ (base + 256 ≤ k)
+
+  beyond-clear : (k : ℕ) → Beyond k → Clear k E
+  unfolding Beyond
+  beyond-clear k (inl h) = puts-clear puts k (inl (omega arith))
+  beyond-clear k (inr h) = puts-clear puts k (inr (omega arith))
+
+  beyond-off : (m : ℕ) → Beyond m → Off (m / 64) E
+  unfolding Beyond
+  beyond-off m (inl h) k e = beyond-clear k (inl (omega arith))
+  beyond-off m (inr h) k e = beyond-clear k (inr (omega arith))
+
+  beyond-meta : (k : ℕ) → k < 512 → Beyond k
+  unfolding Beyond
+  beyond-meta k h = inl (omega arith)
+
+  beyond-segment : (u x : ℕ) → x < segmentSize l → u ≢ i → Beyond (mainAt l u + x)
+  unfolding Beyond
+  beyond-segment u x h q = ⊎-elim (λ y. inl (omega arith)) (λ y. inr (omega arith)) (apart l i u (mainAt l u + x) (λ e. q (sym e)) (omega arith) (omega arith))
+
+  beyond-block : (x : ℕ) → x / 256 ≢ b → Beyond (mainAt l i + x)
+  unfolding Beyond
+  beyond-block x q = go (decLt (x / 256) b)
+    where
+      go : Dec (x / 256 < b) → (mainAt l i + x < base) ⊎ (base + 256 ≤ mainAt l i + x)
+      go (yes d) = inl (omega arith)
+      go (no d) = inr (omega arith)
+
+  beyond-backup : (j x : ℕ) → x < segmentSize l → Beyond (backupAt l j + x)
+  beyond-backup j x h = beyond-segment (l .mains + j) x h (omega arith)
+
+  beyond-other : (u x : ℕ) → x < segmentSize l → (u ≡ i → x / 256 ≢ b) → Beyond (mainAt l u + x)
+  beyond-other u x h q = go (ℕ-discrete u i)
+    where
+      go : Dec (u ≡ i) → Beyond (mainAt l u + x)
+      go (yes e) = subst (λ (w : ℕ). Beyond (mainAt l w + x)) (sym e) (beyond-block x (q e))
+      go (no e) = beyond-segment u x h e
+
+  span-alike : (H : Image) → length H ≡ length I → Bytes H → ((k : ℕ) → Beyond k → Settled (k / 64) O → byteAt H k ≡ byteAt I k) → Alike l I H
+  span-alike H long small same = record {
+      long = long; bytes = small;
+      epochs = λ k h. low k (omega arith);
+      header = λ k h x. low k (omega arith);
+      states = λ u h. low (activeLine I + u) (omega (arith, state-line-high (committedEpoch I)));
+      pairs = λ j h. low (256 + j) (omega arith);
+      owns = λ u x h k e. same (mainAt l u + x) (beyond-segment u x k (λ q. ne (subst (λ (w : ℕ). stateOf I w ≡ 1) q e))) (inv .firmOwn u x h k e);
+      backups = λ u j x h m k e d. same _ (beyond-backup j x k) (inv .firmBackup j x m k) }
+    where
+      low : (k : ℕ) → k < 512 → byteAt H k ≡ byteAt I k
+      low k h = same k (beyond-meta k h) (inv .firmMeta k h)
+
+  -- CRASHED: the same contents
+  pub span-crash : (p : ℕ) (H : Image) → CrashImage I₀ (O ++ take p E) H → Recoverable l H P
+  span-crash p H c = recoverable-alike l I H P
+      (span-alike H (c .long ∙ sym (length-replay O I₀)) (crash-bytes c held)
+        (λ k q t. crash-byte I₀ H O (take p E) k t (each-take (Misses k) p E (beyond-clear k q)) (c .lines (k / 64))))
+      (inv .recovers)
+
+  module _ (len : i < length (s .«dirty_blocks»)) (W′ : Contents)
+    (outside : (u x : ℕ) → u < l .mains → x < segmentSize l → (mainAt l u + x < a) ⊎ (a + n ≤ mainAt l u + x) → W′ u x ≡ W u x)
+    (inside : (u x : ℕ) → u < l .mains → x < segmentSize l → a ≤ mainAt l u + x → mainAt l u + x < a + n → g (mainAt l u + x) ≡ W′ u x) where
+
+    abbrev K : Image
+    K = replay (O ++ E) I₀
+
+    kept : (k : ℕ) → Clear k E → byteAt K k ≡ byteAt I k
+    kept k h = ap (λ (J : Image). byteAt J k) (replay-append O E I₀) ∙ replay-clear E I k h
+
+    other-same : (u x : ℕ) → u < l .mains → x < segmentSize l → u ≢ i → W′ u x ≡ W u x
+    other-same u x h k q = outside u x h k (⊎-elim (λ y. inl (omega arith)) (λ y. inr (omega arith)) (apart l i u (mainAt l u + x) (λ e. q (sym e)) (omega arith) (omega arith)))
+
+    worked : (u x : ℕ) → u < l .mains → x < segmentSize l → byteAt K (mainAt l u + x) ≡ W′ u x
+    worked u x h k = go (decLt (mainAt l u + x) a) (decLt (mainAt l u + x) (a + n))
+      where
+        go : Dec (mainAt l u + x < a) → Dec (mainAt l u + x < a + n) → byteAt K (mainAt l u + x) ≡ W′ u x
+        go (yes y) t = kept _ (puts-clear puts _ (inl y)) ∙ inv .working u x h k ∙ sym (outside u x h k (inl y))
+        go (no y) (no t) = kept _ (puts-clear puts _ (inr (omega arith))) ∙ inv .working u x h k ∙ sym (outside u x h k (inr (omega arith)))
+        go (no y) (yes t) =
+          ap (λ (J : Image). byteAt J (mainAt l u + x)) (replay-append O E I₀)
+          ∙ puts .leaves I (mainAt l u + x) (omega (arith, inv .recovers .fit .long, segment-in-image l i (omega arith))) (omega arith) t
+          ∙ inside u x h k (omega arith) t
+
+    settle : (m : ℕ) → Beyond m → Settled (m / 64) O → Settled (m / 64) (O ++ E)
+    settle m q t = settled-more (m / 64) O E t (beyond-off m q)
+
+    alike : Alike l I K
+    alike = span-alike K (length-replay (O ++ E) I₀ ∙ sym (length-replay O I₀)) (replay-small (O ++ E) I₀ held) (λ k q t. kept k (beyond-clear k q))
+
+    st : (u : ℕ) → u < l .mains → stateOf K u ≡ stateOf I u
+    st u h = alike-state l I K alike u (omega (arith, inv .recovers .fit .sizes .0))
+
+    not-own : (u : ℕ) → u < l .mains → stateOf K u ≡ 1 → u ≢ i
+    not-own u h e q = ne (subst (λ (w : ℕ). stateOf I w ≡ 1) q (sym (st u h) ∙ e))
+
+    below : (u : ℕ) → dirtySegment (marked s i b) u ≡ true → u < l .mains
+    below u e = go (ℕ-discrete u i)
+      where
+        go : Dec (u ≡ i) → u < l .mains
+        go (yes q) = omega arith
+        go (no q) = inv .low u (marked-segment s i b u true q e)
+
+    not-main : (u : ℕ) → dirtySegment (marked s i b) u ≡ true → stateOf K u ≢ 1
+    not-main u e q = go (ℕ-discrete u i)
+      where
+        go : Dec (u ≡ i) → ⊥
+        go (yes y) = not-own u (below u e) q y
+        go (no y) = inv .moved u (marked-segment s i b u true y e) (sym (st u (below u e)) ∙ q)
+
+    -- PLAYED WHOLE: the working contents become W′
+    pub span-done : Invariant l (O ++ E) K (marked s i b) P W′
+    span-done = record {
+        recovers = recoverable-alike l I K P alike (inv .recovers);
+        working = worked;
+        low = below;
+        moved = not-main;
+        clean = λ u x h k e. let y = marked-clean s i b u e in other-same u x h k (y .0) ∙ inv .clean u x h k (y .1);
+        twin = λ u j x h m k e d. let y = marked-block s i b len u (x / 256) d in
+          kept _ (beyond-clear _ (beyond-backup j x k))
+          ∙ inv .twin u j x h m k (sym (alike .pairs j (omega (arith, inv .recovers .fit .sizes .1))) ∙ e) (y .0)
+          ∙ sym (kept _ (beyond-clear _ (beyond-other u x k (y .1))));
+        firmMeta = λ k h. settle k (beyond-meta k h) (inv .firmMeta k h);
+        firmOwn = λ u x h k e. settle _ (beyond-segment u x k (not-own u h e)) (inv .firmOwn u x h k (sym (st u h) ∙ e));
+        firmClean = λ u x h k d. let y = marked-block s i b len u (x / 256) d in settle _ (beyond-other u x k (y .1)) (inv .firmClean u x h k (y .0));
+        firmBackup = λ j x h k. settle _ (beyond-backup j x k) (inv .firmBackup j x h k) }
+
+-- ---- the words of a span
+
+-- a span that a served write has
+pub record SpanOk (l : Layout) (w : WriteArgs) : Type 0 where
+  pub main : w .main < l .mains
+  pub block : w .block < l .blocks
+  pub some : 0 < length (w .bytes)
+  pub fits : w .offset + length (w .bytes) ≤ 256
+  pub small : Bytes (w .bytes)
+
+module _ (l : Layout) (I : Image) (w : WriteArgs) (ok : SpanOk l w) (bytes : Bytes I) where
+  abbrev at : ℕ
+  at = spanAt l w
+
+  abbrev first : ℕ
+  first = wordPlace at
+
+  abbrev wide : ℕ
+  wide = 8 * spanWords at (length (w .bytes))
+
+  -- the image with the bytes laid over it
+  abbrev pub laid : ℕ → ℕ
+  laid = overlay (byteAt I) at (w .bytes)
+
+  pub span-bounds : (mainAt l (w .main) + 256 * w .block ≤ first) × (first + wide ≤ mainAt l (w .main) + 256 * w .block + 256) × (first ≤ at) × (at + length (w .bytes) ≤ first + wide)
+  span-bounds = omega (arith, ok)
+
+  pub span-puts : Puts (spanOps l I w) first wide laid
+  unfolding spanOps
+  span-puts = puts-stores (spanWords at (length (w .bytes))) first _ laid
+      (λ k b x y. byte-of-word laid (first + 8 * k) b (overlay-small (byteAt I) at (w .bytes) bytes (ok .small)) y)
+
+  -- outside its words nothing is laid
+  pub laid-outside : (k : ℕ) → (k < first) ⊎ (first + wide ≤ k) → laid k ≡ byteAt I k
+  laid-outside k (inl h) = overlay-before (byteAt I) at (w .bytes) k (omega (arith, span-bounds))
+  laid-outside k (inr h) = overlay-after (byteAt I) at (w .bytes) k (omega (arith, span-bounds))
