@@ -1,24 +1,32 @@
 -- Every operation that recovery, a write or a checkpoint writes is well formed: it meets its image, at a whole word or line.
 use Prim.Native.Nat.{ℕ, zero, suc, _+_, _*_, _%_, _≤_, _<_}
-use mathlib.Core.Path.{_≡_, refl}
-use mathlib.Core.Bool.{Bool, true, false, cond}
-use mathlib.Core.List.{[], _∷_, _++_}
+use mathlib.Core.Path.{_≡_, refl, sym, _∙_, subst}
+use mathlib.Core.Bool.{Bool, true, false, cond, _||_, true≢false}
+use mathlib.Core.List.{List, [], _∷_, _++_}
 use native.Mathlib.Omega.{arith}
+use lib.Dec.{ltb, eqb}
 use lib.ListN.{length}
+use borrow.Author.Tests.{ltb-false, leb-false, eqb-true, eqb-false}
 use Rattle.model.specs.declared.Layout.{Layout}
 use Rattle.model.specs.declared.Session.{Session}
 use Rattle.model.specs.Range.{cat}
 use Rattle.model.specs.Words.{Image, wordOf}
-use Rattle.model.specs.Layout.{wordSize, lineSize, blockSize, blockWords, blockLines, lineWords, most, pairsAt, ssBackup, imageSize, segmentSize, mainAt, backupAt}
+use Rattle.model.specs.Layout.{wordSize, lineSize, blockSize, metadataSize, blockWords, blockLines, lineWords, most, pairsAt, ssBackup, imageSize, segmentSize, mainAt, backupAt}
+use Rattle.model.specs.Status.{served}
 use Rattle.model.specs.Container.{committedEpoch, activeLine, inactiveLine, segState, backupToMain, isPaired, pairedBackup, byState}
 use Rattle.model.specs.Session.{dirtyBlock}
-use Rattle.model.specs.Ops.{clwb, sfence, stores, clwbs, putBlock, persistCopy, persistZero, storeByte}
-use Rattle.model.specs.Open.{recoveryAction, copySegment, zeroSegment, actionOps, recoverSegment, recoveryOps}
-use Rattle.model.specs.Write.{WriteArgs, needsCopy, needsBackup, pairOps, copyDirty, backupOps, stateOps, copyOnWriteOps, spanOps, writeOps}
-use Rattle.model.specs.Checkpoint.{flushDirty, nextStates, statesOps, epochOps, checkpointOps}
-use Rattle.model.proofs.Range.{first-some}
+use Rattle.model.specs.Ops.{clwb, sfence, Ops, Trace, replay, stores, clwbs, putBlock, persistCopy, persistZero, storeByte}
+use Rattle.model.specs.Open.{recoveryAction, copySegment, zeroSegment, actionOps, recoverSegment, recoveryOps, openStatus, openOutcome}
+use Rattle.model.specs.Write.{WriteArgs, needsCopy, needsBackup, pairOps, copyDirty, backupOps, stateOps, copyOnWriteOps, spanOps, writeOps, spanBad, writeStatus, writeOutcome, Chosen}
+use Rattle.model.specs.Checkpoint.{flushDirty, nextStates, statesOps, epochOps, checkpointOps, checkpointStatus, checkpointOutcome}
+use Rattle.model.specs.Replay.{replayCount, replayedOps, replayStatus, replayOutcome}
+use Rattle.model.specs.History.{Call, callOpen, callWrite, callCheckpoint, State, outcome, reported, replayedImage, step, run, openedImage, start, Permitted}
+use Rattle.model.specs.CrashSafety.{ReplayServesAll}
+use Rattle.model.proofs.Persist.{length-replay}
+use Rattle.model.proofs.Refusals.{served-none}
+use Rattle.model.proofs.Metadata.{paired-at, container-then}
 use Rattle.model.proofs.Places.{metadata-inside, image-lines, segment-in-image, state-line-low, state-line-high, state-line-whole}
-use Rattle.model.proofs.TraceLaws.{OpOk, AllOk, all-cat, all-when, all-ok-append}
+use Rattle.model.proofs.TraceLaws.{OpOk, AllOk, all-cat, all-when, all-ok-append, replay-serves, played-ops}
 
 -- ---- runs of operations
 
@@ -49,17 +57,12 @@ module _ (size : ℕ) where
 -- ---- recovery
 
 module _ (l : Layout) (I : Image) where
-  -- where a main segment is paired, its backup segment is one of the layout
-  pub paired-below : (i : ℕ) → isPaired l (backupToMain I) i ≡ true → pairedBackup l (backupToMain I) i < l .backups
-  unfolding isPaired pairedBackup
-  paired-below i h = first-some (l .backups) _ h .0
-
   ok-action : (i : ℕ) → i < l .mains → (st : ℕ) (b : Bool) → isPaired l (backupToMain I) i ≡ b
       → AllOk (imageSize l) (actionOps l I i (pairedBackup l (backupToMain I) i) (recoveryAction st b))
   unfolding actionOps recoveryAction byState
   ok-action i h zero true e = tt
   ok-action i h (suc zero) true e =
-      ok-copy-segment (imageSize l) l I _ _ (omega arith) (segment-in-image l _ (omega (arith, paired-below i e)))
+      ok-copy-segment (imageSize l) l I _ _ (omega arith) (segment-in-image l _ (omega (arith, paired-at l (backupToMain I) i e .0)))
   ok-action i h (suc (suc st)) true e = ok-copy-segment (imageSize l) l I _ _ (omega arith) (segment-in-image l i (omega arith))
   ok-action i h zero false e = ok-zero-segment (imageSize l) l _ (omega arith) (segment-in-image l i (omega arith))
   ok-action i h (suc zero) false e = tt
@@ -75,7 +78,7 @@ module _ (l : Layout) (I : Image) where
 -- ---- write
 
 -- one byte of the metadata stored in its word
-ok-store-byte : (l : Layout) (I : Image) (i b : ℕ) → i < 512 → OpOk (imageSize l) (storeByte I i b)
+ok-store-byte : (l : Layout) (I : Image) (i b : ℕ) → i < metadataSize → OpOk (imageSize l) (storeByte I i b)
 ok-store-byte l I i b h = (omega arith, omega (arith, metadata-inside l))
 
 module _ (s : Session) (I : Image) where
@@ -97,7 +100,7 @@ module _ (s : Session) (I : Image) where
       go : (b : Bool) → isPaired (s .layout) (backupToMain I) i ≡ b
           → AllOk size (cond b (copyDirty s I i (pairedBackup (s .layout) (backupToMain I) i))
           (storeByte I (pairsAt + j) i ∷ clwb pairsAt ∷ copySegment (s .layout) I (mainAt (s .layout) i) (backupAt (s .layout) j)))
-      go true e = ok-copy-dirty i _ (paired-below (s .layout) I i e)
+      go true e = ok-copy-dirty i _ (paired-at (s .layout) (backupToMain I) i e .0)
       go false e =
           let b : j < s .layout .backups = h e in (
             ok-store-byte (s .layout) I (pairsAt + j) i (omega arith),
@@ -168,3 +171,75 @@ module _ (s : Session) (I : Image) where
       (all-ok-append size (flushDirty s) (sfence ∷ statesOps s I) ok-flush-dirty (omega arith, ok-states))
       (omega arith, ((refl, omega arith), ((refl, omega arith), tt))))
       (omega arith, tt)
+
+-- ---- what a call writes, served or not
+
+served-ok : (size e : ℕ) (O : Ops) → (e ≡ 0 → AllOk size O) → AllOk size (cond (served e) O [])
+served-ok size e O h = all-when (OpOk size) (served e) O (λ q. h (eqb-true e 0 q))
+
+pub open-ok : (l : Layout) (I : Image) (t : Trace) → AllOk (length I) (openOutcome l I t .ops)
+unfolding openOutcome openStatus
+open-ok l I t =
+    served-ok (length I) (openStatus l I t) (recoveryOps l I (activeLine I))
+    (λ h. subst (λ (n : ℕ). AllOk n (recoveryOps l I (activeLine I))) (sym (container-then l I _ h .0 .long)) (recovery-ok l I (activeLine I)))
+
+span-good : (w : WriteArgs) → spanBad w ≡ false → (0 < length (w .bytes)) × (w .offset + length (w .bytes) ≤ blockSize)
+unfolding spanBad
+span-good w h = go (eqb (length (w .bytes)) 0) refl h
+  where
+    go : (b : Bool) → eqb (length (w .bytes)) 0 ≡ b → (b || ltb blockSize (w .offset + length (w .bytes))) ≡ false
+        → (0 < length (w .bytes)) × (w .offset + length (w .bytes) ≤ blockSize)
+    go true e q = absurd (true≢false q)
+    go false e q = (let n = eqb-false (length (w .bytes)) 0 e in omega arith, ltb-false _ _ q)
+
+pub write-outcome-ok : (s : Session) (I : Image) (w : WriteArgs) (t : Trace) (j : ℕ) → Chosen s I w t j → AllOk (length I) (writeOutcome s I w j t .ops)
+unfolding writeOutcome writeStatus
+write-outcome-ok s I w t j chosen = served-ok (length I) (writeStatus s I w j t) (writeOps s I w j) go
+  where
+    go : writeStatus s I w j t ≡ 0 → AllOk (length I) (writeOps s I w j)
+    go h =
+        let c = container-then (s .layout) I _ h in
+        let r = served-none _ (omega arith) (c .1) in
+        let g = span-good w (r .1 .1 .1 .0) in
+        subst (λ (n : ℕ). AllOk n (writeOps s I w j)) (sym (c .0 .long))
+        (write-ok s I w j (c .0 .sizes .0 .1) (c .0 .sizes .1 .1) (leb-false _ _ (r .1 .0)) (leb-false _ _ (r .1 .1 .0)) (g .0) (g .1) (λ e. chosen h e .0))
+
+pub checkpoint-outcome-ok : (s : Session) (I : Image) (t : Trace) → AllOk (length I) (checkpointOutcome s I t .ops)
+unfolding checkpointOutcome checkpointStatus
+checkpoint-outcome-ok s I t =
+    served-ok (length I) (checkpointStatus s I t) (checkpointOps s I)
+    (λ h. subst (λ (n : ℕ). AllOk n (checkpointOps s I)) (sym (container-then (s .layout) I _ h .0 .long)) (checkpoint-ok s I))
+
+-- ---- what a call of a history writes
+
+pub call-ok : (s : State) (c : Call) → Permitted s c → AllOk (length (s .image)) (outcome s c .ops)
+call-ok s (callOpen l t) h = open-ok l (s .image) t
+call-ok s (callWrite w t j) h = write-outcome-ok (s .session) (s .image) w t j (h .1)
+call-ok s (callCheckpoint t) h = checkpoint-outcome-ok (s .session) (s .image) t
+
+-- replay keeps the length of an image, whatever it is handed
+pub replayed-length : (I : Image) (O : Ops) (t : Trace) (p : ℕ) → length (replayedImage I O t p) ≡ length I
+unfolding replayedImage replayOutcome
+replayed-length I O t p = go (served (replayStatus I (reported O t) p))
+  where
+    go : (b : Bool) → length (cond b (replay (replayedOps (reported O t) (replayCount (reported O t) p)) I) I) ≡ length I
+    go true = length-replay _ I
+    go false = refl
+
+pub run-length : (s : State) (cs : List Call) → length (run s cs .image) ≡ length (s .image)
+unfolding run step
+run-length s [] = refl
+run-length s (c ∷ cs) = run-length (step s c) cs ∙ replayed-length (s .image) _ _ _
+
+pub start-length : (l : Layout) (I : Image) (t : Trace) → openStatus l I t ≡ 0 → length (start l I t .image) ≡ imageSize l
+unfolding start openedImage openStatus
+start-length l I t h = replayed-length I _ _ _ ∙ container-then l I _ h .0 .long
+
+pub replay-serves-all : ReplayServesAll
+replay-serves-all l I t b h cs permitted c q p = (replay-serves _ _ _ p whole ok, played-ops _ _ _ p whole ok)
+  where
+    whole : length (run (start l I t) cs .image) % lineSize ≡ 0
+    whole = omega (arith, image-lines l, run-length (start l I t) cs, start-length l I t h)
+
+    ok : AllOk (length (run (start l I t) cs .image)) (outcome (run (start l I t) cs) c .ops)
+    ok = call-ok (run (start l I t) cs) c q

@@ -65,6 +65,10 @@ ssMain = 1
 abbrev pub ssBackup : ℕ
 ssBackup = 2
 
+-- the layout of three sizes
+abbrev pub layoutOf : ℕ → ℕ → ℕ → Layout
+layoutOf mains backups blocks = record { mains = mains; backups = backups; blocks = blocks }
+
 -- a size that is allowed
 abbrev pub InRange : ℕ → Type 0
 InRange n = (1 ≤ n) × (n ≤ most)

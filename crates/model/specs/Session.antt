@@ -10,7 +10,7 @@ use lib.ListN.{getD, set, replicate}
 use Rattle.model.specs.declared.Layout.{Layout}
 use Rattle.model.specs.declared.Session.{Session}
 use Rattle.model.specs.Range.{allB}
-use Rattle.model.specs.Layout.{most, ssMain}
+use Rattle.model.specs.Layout.{most, ssMain, layoutOf}
 
 -- bit f of a number, 0 or 1
 unfoldable pub bit : ℕ → ℕ → ℕ
@@ -38,7 +38,7 @@ freshSession l = record { layout = l; «dirty_segments» = 0; «dirty_blocks» =
 
 -- the session of zeros, which a refused opening answers
 unfoldable pub zeroSession : Session
-zeroSession = freshSession (record { mains = 0; backups = 0; blocks = 0 })
+zeroSession = freshSession (layoutOf 0 0 0)
 
 -- the session after a write to block b of main segment i whose word of dirty blocks was m
 unfoldable pub withDirty : Session → ℕ → ℕ → ℕ → Session

@@ -1,5 +1,8 @@
 // The types that every contract speaks of: the sizes of a container, the volatile session, the status of a call and the
-// action of recovery. What they mean is said in specs/; this crate has no function.
+// action of recovery, with the constructors of layout and session. What they mean is said in specs/.
+ghost use mathlib.Core.Path.{_≡_};
+ghost use Rattle.model.specs.Layout.{layoutOf};
+ghost use Rattle.model.specs.Session.{freshSession};
 
 // The sizes of a container (document 01: M levels, S spares, B frames), each 1 to 64.
 pub struct Layout {
@@ -31,6 +34,13 @@ impl Layout {
     pub const SS_INITIAL: u64 = 0;
     pub const SS_MAIN: u64 = 1;
     pub const SS_BACKUP: u64 = 2;
+
+    // The layout of these sizes, whatever they are.
+    pub fn new(mains: u64, backups: u64, blocks: u64) -> Layout
+        ensures { λ r. ⌜ r ≡ layoutOf mains backups blocks ⌝ }
+    {
+        Layout { mains: mains, backups: backups, blocks: blocks }
+    }
 }
 
 // What is kept in volatile memory between calls (document 01: the card).
@@ -40,6 +50,15 @@ pub struct Session {
     pub dirty_segments: u64,
     // For each main segment one word, with one bit for each dirty block (document 01: marked).
     pub dirty_blocks: [u64; 64],
+}
+
+impl Session {
+    // A session of a layout in which nothing is dirty.
+    pub fn fresh(layout: Layout) -> Session
+        ensures { λ r. ⌜ r ≡ freshSession layout ⌝ }
+    {
+        Session { layout: layout, dirty_segments: 0, dirty_blocks: [0; 64] }
+    }
 }
 
 // How a call ends (document 01: refusals by number).
