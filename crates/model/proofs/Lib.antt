@@ -10,6 +10,7 @@ pub mod Persist
 pub mod WellFormed
 pub mod Counts
 pub mod FormatLaws
+pub mod Unread
 pub mod Floor
 pub mod CrashExact
 pub mod Settled

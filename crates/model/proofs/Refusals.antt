@@ -222,7 +222,6 @@ replay-ascending I t n = omega arith
 -- ---- numbers of the enum
 
 pub code-most : (s : Status) → codeOf s ≤ 12
-unfolding codeOf
 code-most Served = omega arith
 code-most BadSize = omega arith
 code-most BadLength = omega arith
@@ -237,13 +236,12 @@ code-most EpochLimit = omega arith
 code-most TraceShort = omega arith
 code-most TraceBad = omega arith
 
--- the status of a number
-unfoldable pub statusOf : ℕ → Status
+-- the status of a number, as the code's table has it
+abbrev pub statusOf : ℕ → Status
 statusOf n =
-    getD (Served ∷ BadSize ∷ BadLength ∷ Foreign ∷ Invalid ∷ BadSession ∷ NoSuchMain ∷ NoSuchBlock ∷ BadSpan ∷ NoFreeBackup ∷ EpochLimit ∷ TraceShort ∷ []) n TraceBad
+    getD (Served ∷ BadSize ∷ BadLength ∷ Foreign ∷ Invalid ∷ BadSession ∷ NoSuchMain ∷ NoSuchBlock ∷ BadSpan ∷ NoFreeBackup ∷ EpochLimit ∷ TraceShort ∷ TraceBad ∷ []) n Served
 
 pub status-code : (s : Status) → statusOf (codeOf s) ≡ s
-unfolding statusOf codeOf
 status-code Served = refl
 status-code BadSize = refl
 status-code BadLength = refl
@@ -259,7 +257,7 @@ status-code TraceShort = refl
 status-code TraceBad = refl
 
 pub code-status : (n : ℕ) → n ≤ 12 → codeOf (statusOf n) ≡ n
-unfolding allB statusOf codeOf
+unfolding allB
 code-status n h = eqb-true (codeOf (statusOf n)) n (all-at 13 (λ (k : ℕ). eqb (codeOf (statusOf k)) k) refl n (omega arith))
 
 pub code-injective : (s t : Status) → codeOf s ≡ codeOf t → s ≡ t

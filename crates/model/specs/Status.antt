@@ -7,7 +7,7 @@ use Rattle.model.specs.declared.Status.{Status}
 use Rattle.model.specs.declared.Status.the-variants.{Served, BadSize, BadLength, Foreign, Invalid, BadSession, NoSuchMain, NoSuchBlock, BadSpan, NoFreeBackup, EpochLimit, TraceShort, TraceBad}
 
 -- document 01's number of each status
-unfoldable pub codeOf : Status → ℕ
+abbrev pub codeOf : Status → ℕ
 codeOf Served = 0
 codeOf BadSize = 1
 codeOf BadLength = 2

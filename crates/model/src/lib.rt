@@ -3,6 +3,8 @@
 ghost use mathlib.Core.Path.{_≡_};
 ghost use Rattle.model.specs.Layout.{layoutOf};
 ghost use Rattle.model.specs.Session.{freshSession};
+ghost use Rattle.model.specs.Status.{codeOf};
+ghost use Prim.Native.Nat.{_≤_};
 
 // The sizes of a container (document 01: M levels, S spares, B frames), each 1 to 64.
 pub struct Layout {
@@ -77,6 +79,55 @@ pub enum Status {
     TraceShort,
     TraceBad,
 }
+
+impl Status {
+    // Document 01's number of the status.
+    pub fn code(self) -> u64
+        ensures { λ r. ⌜ r ≡ codeOf self ⌝ }
+    {
+        match self {
+            Status::Served => 0,
+            Status::BadSize => 1,
+            Status::BadLength => 2,
+            Status::Foreign => 3,
+            Status::Invalid => 4,
+            Status::BadSession => 5,
+            Status::NoSuchMain => 6,
+            Status::NoSuchBlock => 7,
+            Status::BadSpan => 8,
+            Status::NoFreeBackup => 9,
+            Status::EpochLimit => 10,
+            Status::TraceShort => 11,
+            Status::TraceBad => 12,
+        }
+    }
+
+    // The status that has this number, at most 12.
+    pub fn of(code: u64) -> Status
+        requires { ⌜ code ≤ 12 ⌝ }
+        ensures { λ r. ⌜ codeOf r ≡ code ⌝ }
+    {
+        let i = code as usize;
+        STATUS[i]
+    }
+}
+
+// The statuses by their numbers.
+const STATUS: [Status; 13] = [
+    Status::Served,
+    Status::BadSize,
+    Status::BadLength,
+    Status::Foreign,
+    Status::Invalid,
+    Status::BadSession,
+    Status::NoSuchMain,
+    Status::NoSuchBlock,
+    Status::BadSpan,
+    Status::NoFreeBackup,
+    Status::EpochLimit,
+    Status::TraceShort,
+    Status::TraceBad,
+];
 
 // What recovery does to a main segment and its backup (document 01: the opening table).
 pub enum Action {
