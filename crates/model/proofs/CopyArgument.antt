@@ -145,7 +145,7 @@ module _ (l : Layout) (O : Ops) (I₀ : Image) (s : Session) (P W : Contents) (h
           turn)
 
   -- CRASHED in the first part
-  copy-crash : (p : ℕ) (H : Image) → CrashImage I₀ (O ++ take p A) H → Recoverable l H P
+  pub copy-crash : (p : ℕ) (H : Image) → CrashImage I₀ (O ++ take p A) H → Recoverable l H P
   copy-crash p H c = ⊎-elim
       (λ old. recoverable-alike l I H P (record {
         long = long; bytes = crash-bytes c held;
@@ -187,7 +187,7 @@ module _ (l : Layout) (O : Ops) (I₀ : Image) (s : Session) (P W : Contents) (h
   line-of u h = omega (arith, line)
 
   -- CRASHED in the second part
-  state-crash : (m : ℕ) (H : Image) → CrashImage I₀ ((O ++ A) ++ take m Z) H → Recoverable l H P
+  pub state-crash : (m : ℕ) (H : Image) → CrashImage I₀ ((O ++ A) ++ take m Z) H → Recoverable l H P
   state-crash m H c = go m c
     where
       long : length H ≡ length I
@@ -262,7 +262,7 @@ module _ (l : Layout) (O : Ops) (I₀ : Image) (s : Session) (P W : Contents) (h
       go (no e) = keeps-off ℓ Z (λ k q. ((λ x y. e (omega (arith, i64, line))), tt))
 
   -- PLAYED WHOLE: the invariant, with main segment i in state 2 and none of its blocks dirty
-  copy-done : Invariant l (O ++ (A ++ Z)) K (unmarked s i) P W
+  pub copy-done : Invariant l (O ++ (A ++ Z)) K (unmarked s i) P W
   copy-done = record {
       recovers = given K (length-replay (O ++ (A ++ Z)) I₀ ∙ sym (length-replay O I₀)) (replay-small (O ++ (A ++ Z)) I₀ held)
         (λ k g w x. K-same k (⊎-elim inl (λ h. inr (omega arith)) w) ∙ replay-clear A I k x) states-K pairs-K

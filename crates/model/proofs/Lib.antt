@@ -21,3 +21,4 @@ pub mod Recovery
 pub mod CheckpointArgument
 pub mod SpanArgument
 pub mod CopyArgument
+pub mod WriteArgument

@@ -205,29 +205,30 @@ pub record SpanOk (l : Layout) (w : WriteArgs) : Type 0 where
   pub fits : w .offset + length (w .bytes) ≤ 256
   pub small : Bytes (w .bytes)
 
-module _ (l : Layout) (I : Image) (w : WriteArgs) (ok : SpanOk l w) (bytes : Bytes I) where
-  abbrev at : ℕ
-  at = spanAt l w
+-- where the words that it meets start, and how many bytes they are
+abbrev pub spanFirst : Layout → WriteArgs → ℕ
+spanFirst l w = wordPlace (spanAt l w)
 
-  abbrev first : ℕ
-  first = wordPlace at
+abbrev pub spanWide : Layout → WriteArgs → ℕ
+spanWide l w = 8 * spanWords (spanAt l w) (length (w .bytes))
 
-  abbrev wide : ℕ
-  wide = 8 * spanWords at (length (w .bytes))
+-- they stand in the block, and around the bytes
+pub span-bounds : (l : Layout) (w : WriteArgs) → SpanOk l w
+  → (mainAt l (w .main) + 256 * w .block ≤ spanFirst l w) × (spanFirst l w + spanWide l w ≤ mainAt l (w .main) + 256 * w .block + 256)
+    × (spanFirst l w ≤ spanAt l w) × (spanAt l w + length (w .bytes) ≤ spanFirst l w + spanWide l w)
+span-bounds l w ok = omega (arith, ok)
 
+module _ (l : Layout) (I : Image) (w : WriteArgs) (ok : SpanOk l w) where
   -- the image with the bytes laid over it
   abbrev pub laid : ℕ → ℕ
-  laid = overlay (byteAt I) at (w .bytes)
+  laid = overlay (byteAt I) (spanAt l w) (w .bytes)
 
-  pub span-bounds : (mainAt l (w .main) + 256 * w .block ≤ first) × (first + wide ≤ mainAt l (w .main) + 256 * w .block + 256) × (first ≤ at) × (at + length (w .bytes) ≤ first + wide)
-  span-bounds = omega (arith, ok)
-
-  pub span-puts : Puts (spanOps l I w) first wide laid
+  pub span-puts : Bytes I → Puts (spanOps l I w) (spanFirst l w) (spanWide l w) laid
   unfolding spanOps
-  span-puts = puts-stores (spanWords at (length (w .bytes))) first _ laid
-      (λ k b x y. byte-of-word laid (first + 8 * k) b (overlay-small (byteAt I) at (w .bytes) bytes (ok .small)) y)
+  span-puts bytes = puts-stores (spanWords (spanAt l w) (length (w .bytes))) (spanFirst l w) _ laid
+      (λ k b x y. byte-of-word laid (spanFirst l w + 8 * k) b (overlay-small (byteAt I) (spanAt l w) (w .bytes) bytes (ok .small)) y)
 
   -- outside its words nothing is laid
-  pub laid-outside : (k : ℕ) → (k < first) ⊎ (first + wide ≤ k) → laid k ≡ byteAt I k
-  laid-outside k (inl h) = overlay-before (byteAt I) at (w .bytes) k (omega (arith, span-bounds))
-  laid-outside k (inr h) = overlay-after (byteAt I) at (w .bytes) k (omega (arith, span-bounds))
+  pub laid-outside : (k : ℕ) → (k < spanFirst l w) ⊎ (spanFirst l w + spanWide l w ≤ k) → laid k ≡ byteAt I k
+  laid-outside k (inl h) = overlay-before (byteAt I) (spanAt l w) (w .bytes) k (omega (arith, span-bounds l w ok))
+  laid-outside k (inr h) = overlay-after (byteAt I) (spanAt l w) (w .bytes) k (omega (arith, span-bounds l w ok))
