@@ -22,3 +22,4 @@ pub mod CheckpointArgument
 pub mod SpanArgument
 pub mod CopyArgument
 pub mod WriteArgument
+pub mod Pages
