@@ -337,6 +337,10 @@ module _ (O : Ops) (I₀ : Image) (s : Session) (P W : Contents) (held : Bytes I
       firmClean = λ i x h k d. settle _ (omega arith) (settled-main i x h k);
       firmBackup = λ j x h k. settle _ (omega arith) (settled-backup j x h k) }
 
+  -- the epoch is raised by 1
+  pub checkpoint-epoch : suc (committedEpoch I) < 2 ^ 64 → committedEpoch (replay (O ++ C) I₀) ≡ suc (committedEpoch I)
+  checkpoint-epoch fits = subst (λ (Y : Ops). committedEpoch (replay (O ++ Y) I₀) ≡ suc (committedEpoch I)) (sym (checkpoint-phases s I)) (epoch-after fits)
+
   -- PLAYED WHOLE: the invariant, with the working contents as the checkpoint
   pub checkpoint-done : suc (committedEpoch I) < 2 ^ 64 → Invariant lay (O ++ C) (replay (O ++ C) I₀) (withCheckpoint s) W W
   checkpoint-done fits = subst (λ (Y : Ops). Invariant lay (O ++ Y) (replay (O ++ Y) I₀) (withCheckpoint s) W W) (sym (checkpoint-phases s I)) (done fits)

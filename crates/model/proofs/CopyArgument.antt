@@ -115,7 +115,7 @@ module _ (l : Layout) (O : Ops) (I₀ : Image) (s : Session) (P W : Contents) (h
   big : 512 ≤ length I
   big = omega (arith, inv .recovers .fit .long, metadata-inside l)
 
-  state-clear : (k : ℕ) → (k < 128) ⊎ (256 ≤ k) → Clear k Z
+  pub state-clear : (k : ℕ) → (k < 128) ⊎ (256 ≤ k) → Clear k Z
   state-clear k (inl h) = ((λ x y. omega (arith, line)), tt)
   state-clear k (inr h) = ((λ x y. omega (arith, i64, line)), tt)
 

@@ -23,3 +23,4 @@ pub mod SpanArgument
 pub mod CopyArgument
 pub mod WriteArgument
 pub mod Pages
+pub mod Theorem

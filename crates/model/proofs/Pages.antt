@@ -54,6 +54,11 @@ cat-at (suc n) c f h i x a b = go (λ q. cat-at n c f (λ k l. h k (omega arith)
 page-place : (l : Layout) (i : ℕ) → i * segmentSize l ≡ 256 * (i * l .blocks)
 page-place l i = mul-left-comm i 256 (l .blocks)
 
+-- a block of a page ends inside it
+pub block-inside : (l : Layout) (i b : ℕ) → i < l .mains → b < l .blocks → 256 * (i * l .blocks + b) + 256 ≤ segmentSize l * l .mains
+block-inside l i b h k =
+    omega (arith, suc-mul i (l .blocks), mul-le-mul-right (l .blocks) h, mul-assoc 256 (l .blocks) (l .mains), mul-comm (l .blocks) (l .mains))
+
 -- ---- the checkpoint of an image
 
 module _ (l : Layout) (I : Image) (ok : ContainerOk l I) where
@@ -120,7 +125,7 @@ module _ (l : Layout) (I : Image) (ok : ContainerOk l I) where
 
 -- ---- the reads
 
-container-of : (l : Layout) (I : Image) (P : Contents) → Recoverable l I P → ContainerOk l I
+pub container-of : (l : Layout) (I : Image) (P : Contents) → Recoverable l I P → ContainerOk l I
 container-of l I P r = record { sizes = r .fit .sizes; long = r .fit .long; header = r .fit .header; valid = r .holds .valid }
 
 module _ (l : Layout) (I : Image) (P W : Page) (wp : Whole l P) (ww : Whole l W) (r : Recoverable l I (contentsOf l P))
@@ -129,11 +134,6 @@ module _ (l : Layout) (I : Image) (P W : Page) (wp : Whole l P) (ww : Whole l W)
   served : (i b : ℕ) → i < l .mains → b < l .blocks → readStatus l I i b ≡ 0
   unfolding readStatus firstError
   served i b h k = container-passes l I ((6, leb (l .mains) i) ∷ (7, leb (l .blocks) b) ∷ []) (container-of l I (contentsOf l P) r) ∙ rw (lt-leb (l .mains) i h, lt-leb (l .blocks) b k)
-
-  -- a block of a page ends inside it
-  block-inside : (i b : ℕ) → i < l .mains → b < l .blocks → 256 * (i * l .blocks + b) + 256 ≤ segmentSize l * l .mains
-  block-inside i b h k =
-      omega (arith, suc-mul i (l .blocks), mul-le-mul-right (l .blocks) h, mul-assoc 256 (l .blocks) (l .mains), mul-comm (l .blocks) (l .mains))
 
   -- a block of the image, from a segment that holds the contents of a page
   block-is : (Q : Page) (k i b : ℕ) → Whole l Q → k < l .mains + l .backups → i < l .mains → b < l .blocks
@@ -149,7 +149,7 @@ module _ (l : Layout) (I : Image) (P W : Page) (wp : Whole l P) (ww : Whole l W)
       long = length-take-le 256 (drop (segmentAt l k + 256 * b) I)
         (omega (arith, length-drop (segmentAt l k + 256 * b) I, r .fit .long, segment-in-image l k hk))
       long′ : length (take 256 (drop (pageAt l i b) Q)) ≡ 256
-      long′ = length-take-le 256 (drop (pageAt l i b) Q) (omega (arith, length-drop (pageAt l i b) Q, whole, block-inside i b hi hb))
+      long′ = length-take-le 256 (drop (pageAt l i b) Q) (omega (arith, length-drop (pageAt l i b) Q, whole, block-inside l i b hi hb))
 
   zero-block : (i b : ℕ) → i < l .mains → b < l .blocks → stateOf I i ≡ 0 → pageBlock l P i b ≡ replicate 256 0
   zero-block i b hi hb e =
@@ -159,7 +159,7 @@ module _ (l : Layout) (I : Image) (P W : Page) (wp : Whole l P) (ww : Whole l W)
           ∙ ap (λ (n : ℕ). getD P n 0) (omega arith) ∙ r .holds .initial i (256 * b + x) hi (omega arith) e ∙ sym (getD-replicate 256 x 0 0 y))
     where
       long : length (take 256 (drop (pageAt l i b) P)) ≡ 256
-      long = length-take-le 256 (drop (pageAt l i b) P) (omega (arith, length-drop (pageAt l i b) P, wp, block-inside i b hi hb))
+      long = length-take-le 256 (drop (pageAt l i b) P) (omega (arith, length-drop (pageAt l i b) P, wp, block-inside l i b hi hb))
 
   saved : (i b : ℕ) → i < l .mains → b < l .blocks → (checkpointBlock l I i b ≡ pageBlock l P i b)
     ⊎ ((segState I (activeLine I) i ≡ 0) × (checkpointBlock l I i b ≡ []) × (pageBlock l P i b ≡ replicate 256 0))

@@ -276,7 +276,7 @@ module _ (l : Layout) (I : Image) (P : Contents) (r : Recoverable l I P) where
       nil ℓ = settled-off ℓ [] (λ i e. tt)
 
 -- a turn and a fence leave every settled line settled
-recovery-keeps : (l : Layout) (I : Image) (ℓ : ℕ) → Keeps ℓ (recoveryOps l I (activeLine I))
+pub recovery-keeps : (l : Layout) (I : Image) (ℓ : ℕ) → Keeps ℓ (recoveryOps l I (activeLine I))
 unfolding recoveryOps
 recovery-keeps l I ℓ = neat-keeps (cat (l .mains) (turn l I)) (neat-cat (l .mains) (turn l I) (λ m z. neat-turn l I m)) ℓ
 

@@ -183,7 +183,7 @@ open-ok l I t =
     served-ok (length I) (openStatus l I t) (recoveryOps l I (activeLine I))
     (λ h. subst (λ (n : ℕ). AllOk n (recoveryOps l I (activeLine I))) (sym (container-then l I _ h .0 .long)) (recovery-ok l I (activeLine I)))
 
-span-good : (w : WriteArgs) → spanBad w ≡ false → (0 < length (w .bytes)) × (w .offset + length (w .bytes) ≤ blockSize)
+pub span-good : (w : WriteArgs) → spanBad w ≡ false → (0 < length (w .bytes)) × (w .offset + length (w .bytes) ≤ blockSize)
 unfolding spanBad
 span-good w h = go (eqb (length (w .bytes)) 0) refl h
   where

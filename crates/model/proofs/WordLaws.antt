@@ -4,7 +4,7 @@ use mathlib.Core.Path.{_≡_, refl, sym, ap, _∙_, subst}
 use mathlib.Core.Logic.{_≢_}
 use mathlib.Core.Bool.{cond}
 use mathlib.Core.List.{List, [], _∷_}
-use native.Mathlib.Nat.{not-suc-le-zero, le-of-suc-le-suc}
+use native.Mathlib.Nat.{not-suc-le-zero, le-of-suc-le-suc, pow-suc}
 use native.Mathlib.Decide.{decLe, decLt, ℕ-discrete}
 use native.Mathlib.Omega.{arith}
 use borrow.Author.Tests.{le-leb, lt-leb}
@@ -62,6 +62,15 @@ number-back zero w f p h k = omega arith
 number-back (suc n) w f p h k =
     let first : f p ≡ w % 256 = ap f (omega arith) ∙ k 0 (omega arith) in
     omega (arith, first, number-back n (w / 256) f (suc p) (omega arith) (λ b l. ap f (omega arith) ∙ k (suc b) (omega arith)))
+
+number-lt : (n : ℕ) (f : ℕ → ℕ) (p : ℕ) → ((i : ℕ) → f i < 256) → littleEndian n f p < 256 ^ n
+unfolding littleEndian
+number-lt zero f p h = omega arith
+number-lt (suc n) f p h = omega (arith, h p, number-lt n f (suc p) h, pow-suc 256 n)
+
+pub word-lt : (f : ℕ → ℕ) (p : ℕ) → ((i : ℕ) → f i < 256) → wordOf f p < 2 ^ 64
+unfolding wordOf
+word-lt f p h = number-lt 8 f p h
 
 -- ---- a byte after stores
 
@@ -140,6 +149,14 @@ overlay-small f a bs h k i = go (decLe a i)
 pub overlay-cong : (f g : ℕ → ℕ) (a : ℕ) (bs : List ℕ) (i : ℕ) → f i ≡ g i → overlay f a bs i ≡ overlay g a bs i
 unfolding overlay
 overlay-cong f g a bs i e = rw e
+
+-- the same bytes laid over at a place that is d further on
+pub overlay-shift : (f g : ℕ → ℕ) (a b : ℕ) (bs : List ℕ) (i k d : ℕ) → b ≡ d + a → k ≡ d + i → f i ≡ g k → overlay f a bs i ≡ overlay g b bs k
+overlay-shift f g a b bs i k d ab ik e = go (decLe a i)
+  where
+    go : Dec (a ≤ i) → overlay f a bs i ≡ overlay g b bs k
+    go (yes q) = let n : k - b ≡ i - a = omega arith in overlay-in f a bs i q ∙ ap (getD bs (i - a)) e ∙ ap (λ (m : ℕ). getD bs m (g k)) (sym n) ∙ sym (overlay-in g b bs k (omega arith))
+    go (no q) = overlay-before f a bs i (omega arith) ∙ e ∙ sym (overlay-before g b bs k (omega arith))
 
 -- one byte laid over
 pub overlay-same : (f : ℕ → ℕ) (i b : ℕ) → overlay f i (b ∷ []) i ≡ b

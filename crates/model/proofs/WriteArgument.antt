@@ -19,12 +19,14 @@ use Rattle.model.specs.Ops.{Op, sfence, Ops, replay}
 use Rattle.model.specs.Write.{WriteArgs, needsCopy, needsBackup, backupOps, stateOps, copyOnWriteOps, spanAt, spanOps, writeOps, writeSession}
 use Rattle.model.specs.Crash.{CrashImage}
 use Rattle.model.proofs.Range.{and-left, and-right, both}
+use Rattle.model.proofs.Persist.{Misses, Clear, each-append}
 use Rattle.model.proofs.Settled.{crash-seq}
+use Rattle.model.proofs.Runs.{puts-clear}
 use Rattle.model.proofs.Metadata.{paired-at, unpaired-none}
 use Rattle.model.proofs.View.{Contents, Choice, Recoverable, stateOf}
 use Rattle.model.proofs.Invariant.{Invariant}
 use Rattle.model.proofs.SpanArgument.{marked, span-crash, span-done, SpanOk, spanFirst, spanWide, span-bounds, span-puts, laid-outside}
-use Rattle.model.proofs.CopyArgument.{unmarked, Ready, statePhase, copy-crash, state-crash, copy-done, state-two, ready-new, ready-old}
+use Rattle.model.proofs.CopyArgument.{unmarked, Ready, statePhase, copy-crash, state-clear, state-crash, copy-done, state-two, ready-new, ready-old}
 
 -- ---- the two cases
 
@@ -137,6 +139,21 @@ module _ (O : Ops) (I₀ : Image) (s : Session) (P W : Contents) (held : Bytes I
 
     turned : (p : Prepared j) → stateOf (replay (O ++ X) I₀) i ≢ 1
     turned p e = omega (arith, state-two l O I₀ s P W held inv i (p .backup) (p .choice) A (p .ready))
+
+    -- the epoch's line is not stored to
+    pub write-low : (k : ℕ) → k < 64 → Clear k (writeOps s I w j)
+    write-low k h = go (needsCopy s I i) refl
+      where
+        span : Clear k U
+        span = puts-clear (span-puts l I w ok small) k (inl (omega (arith, span-bounds l w ok)))
+        go : (b : Bool) → needsCopy s I i ≡ b → Clear k (writeOps s I w j)
+        go true e =
+          let p = prepared j e free in
+          subst (λ (Y : Ops). Clear k Y) (sym (copy-ops e))
+            (each-append (Misses k) X U
+              (each-append (Misses k) A (statePhase I i) (p .ready .clear k (inl (omega arith)))
+                (state-clear l O I₀ s P W held inv i (p .backup) (p .choice) A (p .ready) k (inl (omega arith)))) span)
+        go false e = subst (λ (Y : Ops). Clear k Y) (sym (plain-ops e)) span
 
     -- CRASHED: the same contents
     pub write-crash : (n : ℕ) (H : Image) → CrashImage I₀ (O ++ take n (writeOps s I w j)) H → Recoverable l H P

@@ -1,0 +1,415 @@
+-- DEMAND 3 and its sisters, proved: `crash-safety : CrashSafety` (specs/CrashSafety.antt). Every call of a history keeps the
+-- invariant and, crashed anywhere, leaves what recovers to a permitted page; openings keep that, cut or not.
+use Prim.Native.Nat.{ℕ, zero, suc, _+_, _-_, _*_, _^_, _/_, _%_, _≤_, _<_}
+use mathlib.Core.Path.{_≡_, refl, sym, ap, ap₂, _∙_, subst, subst₂}
+use mathlib.Core.Logic.{_≢_, _⊎_, inl, inr, ⊎-elim}
+use mathlib.Core.Bool.{Bool, true, false, cond, true≢false}
+use mathlib.Core.List.{List, [], _∷_, _++_, append-nil}
+use native.Mathlib.Decide.{decLe, decLt, ℕ-discrete}
+use native.Mathlib.Omega.{arith}
+use borrow.Author.Tests.{eq-eqb, ne-eqb, eqb-false, leb-false, le-leb, lt-leb, ltb-false}
+use lib.Dec.{eqb, leb, ltb}
+use lib.ListN.{length, take, length-set}
+use lib.Seq.{sets, take-length, take-all, length-sets}
+use Rattle.model.specs.declared.Layout.{Layout}
+use Rattle.model.specs.declared.Session.{Session}
+use Rattle.model.specs.Words.{Image, byteAt, Bytes, wordOf, overlay}
+use Rattle.model.specs.Layout.{most, segmentSize, mainAt, imageSize}
+use Rattle.model.specs.Status.{firstError, served}
+use Rattle.model.specs.Container.{committedEpoch, activeLine, segState, backupToMain, checkpointBytes, HeaderOk, Free}
+use Rattle.model.specs.Session.{freshSession, zeroSession, withDirty, withCheckpoint}
+use Rattle.model.specs.Ops.{Op, store, clwb, sfence, Ops, Trace, traceShort, replay, Outcome}
+use Rattle.model.specs.Open.{recoveryOps, openStatus, openOutcome}
+use Rattle.model.specs.Write.{WriteArgs, needsBackup, spanAt, writeOps, writeSession, writeStatus, writeOutcome}
+use Rattle.model.specs.Checkpoint.{checkpointOps, checkpointStatus, checkpointOutcome}
+use Rattle.model.specs.Crash.{CrashImage}
+use Rattle.model.specs.Reference.{Page, Model, CallArgs, modelStep, openArgs, writeArgs, checkpointArgs, pageAt}
+use Rattle.model.specs.History.{Call, callOpen, callWrite, callCheckpoint, argsOf, traceOf, State, outcome, playedOps, replayedImage, calledOps, step, run, openedImage, start, Permitted, AllPermitted}
+use Rattle.model.specs.CrashSafety.{Reads, Recovers, Moment, between, during, PermittedAt, playedAt, EpochStored, Window, lastCheckpoint, MayShow, Leaves, CutOpenings, none, again, CrashSafetyFor, CrashSafety, CrashSafetyWithin, ReadsFollowModel, OpeningSettles, OpeningSafety, countOf, checkpoints, EpochCounts}
+use Rattle.model.proofs.Refusals.{served-none}
+use Rattle.model.proofs.Metadata.{ContainerOk, container-then, container-passes}
+use Rattle.model.proofs.SessionLaws.{dirty-length}
+use Rattle.model.proofs.Places.{image-lines, image-size}
+use Rattle.model.proofs.Agreement.{length-checkpoint, zero-write, zero-checkpoint}
+use Rattle.model.proofs.TraceLaws.{AllOk, played-ops, replayed-image}
+use Rattle.model.proofs.WellFormed.{open-ok, call-ok, span-good}
+use Rattle.model.proofs.WordLaws.{word-lt, word-cong, overlay-sets, overlay-shift}
+use Rattle.model.proofs.Persist.{length-replay, replay-clear, replay-append, replay-small}
+use Rattle.model.proofs.Settled.{Settled, settled-off, take-past}
+use Rattle.model.proofs.CrashExact.{settled-only}
+use Rattle.model.proofs.View.{Contents, Fit, Recoverable, stateOf}
+use Rattle.model.proofs.Invariant.{Invariant}
+use Rattle.model.proofs.Recovery.{meta, recovery-clear, recovery-crash, recovery-shows, recovery-keeps, opened-durable, reopen-crash, reopen-done}
+use Rattle.model.proofs.CheckpointArgument.{beforeEpoch, epochPhase, checkpoint-phases, checkpoint-crash, checkpoint-epoch, checkpoint-done}
+use Rattle.model.proofs.SpanArgument.{SpanOk}
+use Rattle.model.proofs.WriteArgument.{write-low, write-crash, write-done}
+use Rattle.model.proofs.Pages.{contentsOf, Whole, block-inside, container-of, checkpoint-holds, checkpoint-is, reads}
+
+-- ---- answers, taken apart
+
+fit-of : (l : Layout) (I : Image) → Bytes I → ContainerOk l I → Fit l I
+fit-of l I b c = record { sizes = c .sizes; long = c .long; bytes = b; header = c .header }
+
+-- an image that an opening serves recovers to its checkpoint
+accepted : (l : Layout) (I : Image) (t : Trace) → openStatus l I t ≡ 0 → ContainerOk l I
+unfolding openStatus
+accepted l I t h = container-then l I _ h .0
+
+starting : (l : Layout) (I : Image) (t : Trace) → Bytes I → openStatus l I t ≡ 0 → Recoverable l I (contentsOf l (checkpointBytes l I (activeLine I)))
+starting l I t b h = record { fit = fit-of l I b (accepted l I t h); holds = checkpoint-holds l I (accepted l I t h) }
+
+-- a recoverable image is accepted, with any trace that 11 does not refuse
+accepts : (l : Layout) (H : Image) (P : Contents) (t : Trace) → Recoverable l H P → openStatus l H t ≢ 11 → openStatus l H t ≡ 0
+unfolding openStatus firstError
+accepts l H P t r h = go (traceShort (recoveryOps l H (activeLine H)) t) refl
+  where
+    passes : openStatus l H t ≡ firstError ((11, traceShort (recoveryOps l H (activeLine H)) t) ∷ [])
+    passes = container-passes l H ((11, traceShort (recoveryOps l H (activeLine H)) t) ∷ []) (container-of l H P r)
+    go : (b : Bool) → traceShort (recoveryOps l H (activeLine H)) t ≡ b → openStatus l H t ≡ 0
+    go true e = absurd (h (passes ∙ rw e))
+    go false e = passes ∙ rw e
+
+-- the fields of an answer that is served, and of one that is refused
+record Served (o : Outcome) (t : Session) (O : Ops) : Type 0 where
+  status : served (o .status) ≡ true
+  session : o .session ≡ t
+  ops : o .ops ≡ O
+
+open-served : (l : Layout) (I : Image) (t : Trace) → openStatus l I t ≡ 0 → Served (openOutcome l I t) (freshSession l) (recoveryOps l I (activeLine I))
+unfolding openOutcome
+open-served l I t h = let e : served (openStatus l I t) ≡ true = eq-eqb _ _ h in record { status = e; session = rw e; ops = rw e }
+
+write-served : (s : Session) (I : Image) (w : WriteArgs) (j : ℕ) (t : Trace) → writeStatus s I w j t ≡ 0 → Served (writeOutcome s I w j t) (writeSession s I w) (writeOps s I w j)
+unfolding writeOutcome
+write-served s I w j t h = let e : served (writeStatus s I w j t) ≡ true = eq-eqb _ _ h in record { status = e; session = rw e; ops = rw e }
+
+checkpoint-served : (s : Session) (I : Image) (t : Trace) → checkpointStatus s I t ≡ 0 → Served (checkpointOutcome s I t) (withCheckpoint s) (checkpointOps s I)
+unfolding checkpointOutcome
+checkpoint-served s I t h = let e : served (checkpointStatus s I t) ≡ true = eq-eqb _ _ h in record { status = e; session = rw e; ops = rw e }
+
+record Refused (o : Outcome) (t : Session) : Type 0 where
+  status : served (o .status) ≡ false
+  session : o .session ≡ t
+  ops : o .ops ≡ []
+
+open-refused : (l : Layout) (I : Image) (t : Trace) → openStatus l I t ≢ 0 → Refused (openOutcome l I t) zeroSession
+unfolding openOutcome
+open-refused l I t h = let e : served (openStatus l I t) ≡ false = ne-eqb _ _ h in record { status = e; session = rw e; ops = rw e }
+
+write-refused : (s : Session) (I : Image) (w : WriteArgs) (j : ℕ) (t : Trace) → writeStatus s I w j t ≢ 0 → Refused (writeOutcome s I w j t) s
+unfolding writeOutcome
+write-refused s I w j t h = let e : served (writeStatus s I w j t) ≡ false = ne-eqb _ _ h in record { status = e; session = rw e; ops = rw e }
+
+checkpoint-refused : (s : Session) (I : Image) (t : Trace) → checkpointStatus s I t ≢ 0 → Refused (checkpointOutcome s I t) s
+unfolding checkpointOutcome
+checkpoint-refused s I t h = let e : served (checkpointStatus s I t) ≡ false = ne-eqb _ _ h in record { status = e; session = rw e; ops = rw e }
+
+open-ops : (l : Layout) (I : Image) (t : Trace) → openStatus l I t ≡ 0 → openOutcome l I t .ops ≡ recoveryOps l I (activeLine I)
+open-ops l I t h = open-served l I t h .ops
+
+-- a refused call leaves the model as it is
+model-refused : (l : Layout) (a : CallArgs) (m : Model) → modelStep l a false m ≡ m
+unfolding modelStep
+model-refused l (openArgs k) m = refl
+model-refused l (writeArgs w) m = refl
+model-refused l checkpointArgs m = refl
+
+-- what a served call does to it
+model-open : (l k : Layout) (m : Model) → modelStep l (openArgs k) true m ≡ record { working = m .checkpoint; checkpoint = m .checkpoint }
+unfolding modelStep
+model-open l k m = refl
+
+model-write : (l : Layout) (w : WriteArgs) (m : Model)
+  → modelStep l (writeArgs w) true m ≡ record { working = sets (m .working) (pageAt l (w .main) (w .block) + w .offset) (w .bytes); checkpoint = m .checkpoint }
+unfolding modelStep
+model-write l w m = refl
+
+model-checkpoint : (l : Layout) (m : Model) → modelStep l checkpointArgs true m ≡ record { working = m .working; checkpoint = m .working }
+unfolding modelStep
+model-checkpoint l m = refl
+
+fresh-sized : (l : Layout) → (freshSession l .layout ≡ l) × (length (freshSession l .«dirty_blocks») ≡ 64)
+unfolding freshSession
+fresh-sized l = (refl, refl)
+
+layout-path : (k l : Layout) → k .mains ≡ l .mains → k .backups ≡ l .backups → k .blocks ≡ l .blocks → k ≡ l
+layout-path k l p q r = λ i. record { mains = p i; backups = q i; blocks = r i }
+
+-- ---- what an opening leaves
+
+module _ (l : Layout) (I : Image) (P : Contents) (r : Recoverable l I P) (t : Trace) (h : openStatus l I t ≡ 0) where
+  whole-lines : length I % 64 ≡ 0
+  whole-lines = omega (arith, r .fit .long, image-lines l)
+
+  abbrev E : Ops
+  E = recoveryOps l I (activeLine I)
+
+  pub open-played : (p : ℕ) → playedOps I (openOutcome l I t .ops) t p ≡ take p E
+  open-played p = played-ops I (openOutcome l I t .ops) t p whole-lines (open-ok l I t) ∙ ap (take p) (open-ops l I t h)
+
+  pub opened-is : openedImage l I t ≡ replay E I
+  unfolding openedImage
+  opened-is = replayed-image I (openOutcome l I t .ops) t (length (openOutcome l I t .ops)) whole-lines (open-ok l I t)
+      ∙ ap (λ (X : Ops). replay X I) (take-length (openOutcome l I t .ops) ∙ open-ops l I t h)
+
+-- openings that are cut keep what stands recoverable
+openings-keep : {l : Layout} {H H′ : Image} (P : Contents) → Recoverable l H P → CutOpenings CrashImage l H H′ → Recoverable l H′ P
+openings-keep P r none = r
+openings-keep {l} P r (again {H = H} {H′ = H₁} t p ne c rest) =
+    openings-keep P
+      (recovery-crash l H P r p H₁ (subst (λ (X : Ops). CrashImage H X H₁) (open-played l H P r t (accepts l H P t r ne) p) c)) rest
+
+-- the last opening shows the page
+recovers : (l : Layout) (H : Image) (t : Trace) (Q : Page) → Whole l Q → Recoverable l H (contentsOf l Q) → openStatus l H t ≢ 11 → Recovers l H t Q
+recovers l H t Q whole r ne =
+    let h : openStatus l H t ≡ 0 = accepts l H (contentsOf l Q) t r ne in
+    let inv = opened-durable l H (contentsOf l Q) r in
+    record {
+      accepted = h;
+      shows = subst (λ (K : Image). Reads l K Q Q) (sym (opened-is l H (contentsOf l Q) r t h)) (reads l _ Q Q whole whole (inv .recovers) (inv .working));
+      begins = checkpoint-is l H (container-of l H (contentsOf l Q) r) Q whole (r .holds) }
+
+-- ---- what a served write and a served checkpoint may go by
+
+span-ok : (s : Session) (I : Image) (w : WriteArgs) (j : ℕ) (t : Trace) → Bytes (w .bytes) → writeStatus s I w j t ≡ 0 → SpanOk (s .layout) w
+unfolding writeStatus
+span-ok s I w j t small h =
+    let r = served-none _ (omega arith) (container-then (s .layout) I _ h .1) in
+    let g = span-good w (r .1 .1 .1 .0) in
+    record { main = leb-false _ _ (r .1 .0); block = leb-false _ _ (r .1 .1 .0); some = g .0; fits = g .1; small = small }
+
+write-sized : (s : Session) (I : Image) (w : WriteArgs) → (writeSession s I w .layout ≡ s .layout) × (length (writeSession s I w .«dirty_blocks») ≡ length (s .«dirty_blocks»))
+unfolding writeSession withDirty
+write-sized s I w = (refl, length-set (s .«dirty_blocks») (w .main) _)
+
+checkpoint-sized : (s : Session) → (withCheckpoint s .layout ≡ s .layout) × (length (withCheckpoint s .«dirty_blocks») ≡ length (s .«dirty_blocks»))
+unfolding withCheckpoint
+checkpoint-sized s = (refl, refl)
+
+epoch-fits : (s : Session) (I : Image) (t : Trace) → Bytes I → checkpointStatus s I t ≡ 0 → suc (committedEpoch I) < 2 ^ 64
+unfolding checkpointStatus
+epoch-fits s I t b h =
+    let r = served-none _ (omega arith) (container-then (s .layout) I _ h .1) in
+    let ne : committedEpoch I ≢ 2 ^ 64 - 1 = eqb-false _ _ (r .1 .0) in
+    omega (arith, ne, word-lt (byteAt I) 0 b)
+
+-- after the operations before it the epoch's store is among those played
+epoch-among : (s : Session) (I : Image) (p : ℕ) → length (beforeEpoch s I) < p → EpochStored (take p (checkpointOps s I))
+epoch-among s I p h = go (p - length (beforeEpoch s I)) refl
+  where
+    go : (m : ℕ) → p - length (beforeEpoch s I) ≡ m → EpochStored (take p (checkpointOps s I))
+    go zero e = absurd (omega arith)
+    go (suc m) e = (beforeEpoch s I, take m (clwb 0 ∷ sfence ∷ []), suc (committedEpoch I),
+      ap (take p) (checkpoint-phases s I) ∙ take-past p (beforeEpoch s I) (epochPhase I) (omega arith) ∙ ap (λ (k : ℕ). beforeEpoch s I ++ take k (epochPhase I)) e)
+
+-- ---- where a history stands
+
+pub record Stands (s : State) : Type 0 where
+  pub bytes : Bytes (s .held)
+  pub image : s .image ≡ replay (s .played) (s .held)
+  -- the session of the last served call; a refused opening may have answered zeros since
+  pub session : Session
+  pub sized : session .layout ≡ s .layout
+  pub wide : length (session .«dirty_blocks») ≡ 64
+  pub known : (s .session ≡ session) ⊎ (s .session ≡ zeroSession)
+  pub wholeWorking : Whole (s .layout) (s .model .working)
+  pub wholeCheckpoint : Whole (s .layout) (s .model .checkpoint)
+  pub inv : Invariant (s .layout) (s .played) (replay (s .played) (s .held)) session (contentsOf (s .layout) (s .model .checkpoint)) (contentsOf (s .layout) (s .model .working))
+
+-- what a call makes of it: its operations played whole, and crashed
+pub record Next (s : State) (c : Call) (m : Model) : Type 0 where
+  pub session : Session
+  pub sized : session .layout ≡ s .layout
+  pub wide : length (session .«dirty_blocks») ≡ 64
+  pub known : (outcome s c .session ≡ session) ⊎ (outcome s c .session ≡ zeroSession)
+  pub wholeWorking : Whole (s .layout) (m .working)
+  pub wholeCheckpoint : Whole (s .layout) (m .checkpoint)
+  pub inv : Invariant (s .layout) (s .played ++ outcome s c .ops) (replay (s .played ++ outcome s c .ops) (s .held)) session (contentsOf (s .layout) (m .checkpoint)) (contentsOf (s .layout) (m .working))
+  pub crash : (p : ℕ) (H : Image) → p < length (outcome s c .ops) → CrashImage (s .held) (s .played ++ take p (outcome s c .ops)) H
+    → Recoverable (s .layout) H (contentsOf (s .layout) (s .model .checkpoint))
+      ⊎ ((calledOps s c p ≡ take p (outcome s c .ops) → Window s c p) × Recoverable (s .layout) H (contentsOf (s .layout) (s .model .working)))
+
+-- the model after a call
+abbrev after : State → Call → Model
+after s c = modelStep (s .layout) (argsOf c) (served (outcome s c .status)) (s .model)
+
+module _ (s : State) (st : Stands s) where
+  abbrev l : Layout
+  l = s .layout
+
+  abbrev I : Image
+  I = replay (s .played) (s .held)
+
+  same-length : length (s .image) ≡ imageSize l
+  same-length = ap length (st .image) ∙ st .inv .recovers .fit .long
+
+  -- a refused call
+  refused : (c : Call) (t : Session) → Refused (outcome s c) t → (t ≡ st .session) ⊎ (t ≡ zeroSession) → Next s c (after s c)
+  refused c t r k = subst (λ (m : Model). Next s c m) (sym same) (record {
+      session = st .session; sized = st .sized; wide = st .wide;
+      known = ⊎-elim (λ q. inl (r .session ∙ q)) (λ q. inr (r .session ∙ q)) k;
+      wholeWorking = st .wholeWorking; wholeCheckpoint = st .wholeCheckpoint;
+      inv = subst (λ (X : Ops). Invariant l X (replay X (s .held)) (st .session) (contentsOf l (s .model .checkpoint)) (contentsOf l (s .model .working)))
+        (sym (append-nil (s .played)) ∙ ap (λ (X : Ops). s .played ++ X) (sym (r .ops))) (st .inv);
+      crash = λ p H h x. absurd (let z : length (outcome s c .ops) ≡ 0 = ap length (r .ops) in omega arith) })
+    where
+      same : after s c ≡ s .model
+      same = ap (λ (b : Bool). modelStep l (argsOf c) b (s .model)) (r .status) ∙ model-refused l (argsOf c) (s .model)
+
+  -- the sizes of an opening that is served are the history's
+  sizes-fixed : (k : Layout) (t : Trace) → openStatus k (s .image) t ≡ 0 → k ≡ l
+  sizes-fixed k t h =
+      let a = accepted k (s .image) t h .header in
+      let b = subst (λ (J : Image). HeaderOk l J) (sym (st .image)) (st .inv .recovers .fit .header) in
+      layout-path k l (sym (a .0) ∙ b .0) (sym (a .1) ∙ b .1) (sym (a .2) ∙ b .2)
+
+  next-open : (k : Layout) (t : Trace) → Next s (callOpen k t) (after s (callOpen k t))
+  next-open k t = go (ℕ-discrete (openStatus k (s .image) t) 0)
+    where
+      P : Contents
+      P = contentsOf l (s .model .checkpoint)
+      W : Contents
+      W = contentsOf l (s .model .working)
+      -- with the history's sizes
+      same : openStatus l (s .image) t ≡ 0 → Next s (callOpen l t) (after s (callOpen l t))
+      same h =
+        let o = open-served l (s .image) t h in
+        let ops : outcome s (callOpen l t) .ops ≡ recoveryOps l I (activeLine I) = o .ops ∙ ap (λ (J : Image). recoveryOps l J (activeLine J)) (st .image) in
+        subst (λ (m : Model). Next s (callOpen l t) m) (sym (ap (λ (b : Bool). modelStep l (openArgs l) b (s .model)) (o .status) ∙ model-open l l (s .model))) (record {
+          session = freshSession l; sized = fresh-sized l .0; wide = fresh-sized l .1; known = inl (o .session);
+          wholeWorking = st .wholeCheckpoint; wholeCheckpoint = st .wholeCheckpoint;
+          inv = subst (λ (X : Ops). Invariant l (s .played ++ X) (replay (s .played ++ X) (s .held)) (freshSession l) P P) (sym ops)
+            (reopen-done l (s .played) (s .held) (st .session) P W (st .bytes) (st .inv));
+          crash = λ p H q x. inl (reopen-crash l (s .played) (s .held) (st .session) P W (st .bytes) (st .inv) p H
+            (subst (λ (X : Ops). CrashImage (s .held) (s .played ++ take p X) H) ops x)) })
+      go : Dec (openStatus k (s .image) t ≡ 0) → Next s (callOpen k t) (after s (callOpen k t))
+      go (no ne) = refused (callOpen k t) zeroSession (open-refused k (s .image) t ne) (inr refl)
+      go (yes h) =
+        let e = sizes-fixed k t h in
+        subst (λ (k : Layout). Next s (callOpen k t) (after s (callOpen k t))) (sym e) (same (subst (λ (k : Layout). openStatus k (s .image) t ≡ 0) e h))
+
+  -- a write or a checkpoint is served only with the session of the last served call
+  known-write : (w : WriteArgs) (j : ℕ) (t : Trace) → writeStatus (s .session) (s .image) w j t ≡ 0 → s .session ≡ st .session
+  known-write w j t h = ⊎-elim (λ e. e)
+      (λ e. absurd (let z : writeStatus zeroSession (s .image) w j t ≡ 0 = subst (λ (x : Session). writeStatus x (s .image) w j t ≡ 0) e h in omega (arith, zero-write (s .image) w j t)))
+      (st .known)
+
+  known-checkpoint : (t : Trace) → checkpointStatus (s .session) (s .image) t ≡ 0 → s .session ≡ st .session
+  known-checkpoint t h = ⊎-elim (λ e. e)
+      (λ e. absurd (let z : checkpointStatus zeroSession (s .image) t ≡ 0 = subst (λ (x : Session). checkpointStatus x (s .image) t ≡ 0) e h in omega (arith, zero-checkpoint (s .image) t)))
+      (st .known)
+
+  -- the working page after a write is the image with the bytes laid over it
+  laid-page : (w : WriteArgs) → SpanOk l w → (u x : ℕ) → u < l .mains → x < segmentSize l
+    → contentsOf l (sets (s .model .working) (pageAt l (w .main) (w .block) + w .offset) (w .bytes)) u x ≡ overlay (byteAt I) (spanAt l w) (w .bytes) (mainAt l u + x)
+  laid-page w ok u x h k =
+      overlay-sets (s .model .working) at (w .bytes) place (omega (arith, st .wholeWorking, ok, block-inside l (w .main) (w .block) (ok .main) (ok .block)))
+      ∙ overlay-shift (byteAt (s .model .working)) (byteAt I) at (spanAt l w) (w .bytes) place (mainAt l u + x) 512 (omega arith) (omega arith) (sym (st .inv .working u x h k))
+    where
+      at : ℕ
+      at = pageAt l (w .main) (w .block) + w .offset
+      place : ℕ
+      place = 256 * (u * l .blocks) + x
+
+  next-write : (w : WriteArgs) (t : Trace) (j : ℕ) → Permitted s (callWrite w t j) → Next s (callWrite w t j) (after s (callWrite w t j))
+  next-write w t j permitted = go (ℕ-discrete (writeStatus (s .session) (s .image) w j t) 0)
+    where
+      σ : Session
+      σ = st .session
+      P : Contents
+      P = contentsOf l (s .model .checkpoint)
+      W : Contents
+      W = contentsOf l (s .model .working)
+      page : Page
+      page = sets (s .model .working) (pageAt l (w .main) (w .block) + w .offset) (w .bytes)
+      inv : Invariant (σ .layout) (s .played) I σ P W
+      inv = subst (λ (k : Layout). Invariant k (s .played) I σ P W) (sym (st .sized)) (st .inv)
+      served-write : writeStatus (s .session) (s .image) w j t ≡ 0 → Next s (callWrite w t j) (after s (callWrite w t j))
+      served-write h =
+        let e : s .session ≡ σ = known-write w j t h in
+        let o = write-served (s .session) (s .image) w j t h in
+        let ops : outcome s (callWrite w t j) .ops ≡ writeOps σ I w j = o .ops ∙ ap₂ (λ (x : Session) (J : Image). writeOps x J w j) e (st .image) in
+        let session : outcome s (callWrite w t j) .session ≡ writeSession σ I w = o .session ∙ ap₂ (λ (x : Session) (J : Image). writeSession x J w) e (st .image) in
+        let h′ : writeStatus σ I w j t ≡ 0 = subst₂ (λ (x : Session) (J : Image). writeStatus x J w j t ≡ 0) e (st .image) h in
+        let free : needsBackup σ I (w .main) ≡ true → Free (σ .layout) (stateOf I) (backupToMain I) j =
+          subst₂ (λ (x : Session) (J : Image). needsBackup x J (w .main) ≡ true → Free (x .layout) (stateOf J) (backupToMain J) j) e (st .image) (permitted .1 h) in
+        let ok : SpanOk (σ .layout) w = span-ok σ I w j t (permitted .0) h′ in
+        let ok′ : SpanOk l w = subst (λ (k : Layout). SpanOk k w) (st .sized) ok in
+        let given = subst (λ (k : Layout). (u x : ℕ) → u < k .mains → x < segmentSize k → contentsOf l page u x ≡ overlay (byteAt I) (spanAt k w) (w .bytes) (mainAt k u + x))
+          (sym (st .sized)) (laid-page w ok′) in
+        subst (λ (m : Model). Next s (callWrite w t j) m) (sym (ap (λ (b : Bool). modelStep l (writeArgs w) b (s .model)) (o .status) ∙ model-write l w (s .model))) (record {
+          session = writeSession σ I w; sized = write-sized σ I w .0 ∙ st .sized; wide = write-sized σ I w .1 ∙ st .wide; known = inl session;
+          wholeWorking = length-sets (s .model .working) (pageAt l (w .main) (w .block) + w .offset) (w .bytes) ∙ st .wholeWorking; wholeCheckpoint = st .wholeCheckpoint;
+          inv = subst (λ (X : Ops). Invariant l (s .played ++ X) (replay (s .played ++ X) (s .held)) (writeSession σ I w) P (contentsOf l page)) (sym ops)
+            (subst (λ (k : Layout). Invariant k (s .played ++ writeOps σ I w j) (replay (s .played ++ writeOps σ I w j) (s .held)) (writeSession σ I w) P (contentsOf l page)) (st .sized)
+              (write-done (s .played) (s .held) σ P W (st .bytes) inv w ok (st .wide) j free (contentsOf l page) given));
+          crash = λ p H q x. inl (subst (λ (k : Layout). Recoverable k H P) (st .sized)
+            (write-crash (s .played) (s .held) σ P W (st .bytes) inv w ok (st .wide) j free p H (subst (λ (X : Ops). CrashImage (s .held) (s .played ++ take p X) H) ops x))) })
+      go : Dec (writeStatus (s .session) (s .image) w j t ≡ 0) → Next s (callWrite w t j) (after s (callWrite w t j))
+      go (no ne) = refused (callWrite w t j) (s .session) (write-refused (s .session) (s .image) w j t ne) (st .known)
+      go (yes h) = served-write h
+
+  next-checkpoint : (t : Trace) → Next s (callCheckpoint t) (after s (callCheckpoint t))
+  next-checkpoint t = go (ℕ-discrete (checkpointStatus (s .session) (s .image) t) 0)
+    where
+      σ : Session
+      σ = st .session
+      P : Contents
+      P = contentsOf l (s .model .checkpoint)
+      W : Contents
+      W = contentsOf l (s .model .working)
+      inv : Invariant (σ .layout) (s .played) I σ P W
+      inv = subst (λ (k : Layout). Invariant k (s .played) I σ P W) (sym (st .sized)) (st .inv)
+      served-checkpoint : checkpointStatus (s .session) (s .image) t ≡ 0 → Next s (callCheckpoint t) (after s (callCheckpoint t))
+      served-checkpoint h =
+        let e : s .session ≡ σ = known-checkpoint t h in
+        let o = checkpoint-served (s .session) (s .image) t h in
+        let ops : outcome s (callCheckpoint t) .ops ≡ checkpointOps σ I = o .ops ∙ ap₂ (λ (x : Session) (J : Image). checkpointOps x J) e (st .image) in
+        let session : outcome s (callCheckpoint t) .session ≡ withCheckpoint σ = o .session ∙ ap withCheckpoint e in
+        let fits : suc (committedEpoch I) < 2 ^ 64 = epoch-fits σ I t (inv .recovers .fit .bytes) (subst₂ (λ (x : Session) (J : Image). checkpointStatus x J t ≡ 0) e (st .image) h) in
+        subst (λ (m : Model). Next s (callCheckpoint t) m) (sym (ap (λ (b : Bool). modelStep l checkpointArgs b (s .model)) (o .status) ∙ model-checkpoint l (s .model))) (record {
+          session = withCheckpoint σ; sized = checkpoint-sized σ .0 ∙ st .sized; wide = checkpoint-sized σ .1 ∙ st .wide; known = inl session;
+          wholeWorking = st .wholeWorking; wholeCheckpoint = st .wholeWorking;
+          inv = subst (λ (X : Ops). Invariant l (s .played ++ X) (replay (s .played ++ X) (s .held)) (withCheckpoint σ) W W) (sym ops)
+            (subst (λ (k : Layout). Invariant k (s .played ++ checkpointOps σ I) (replay (s .played ++ checkpointOps σ I) (s .held)) (withCheckpoint σ) W W) (st .sized)
+              (checkpoint-done (s .played) (s .held) σ P W (st .bytes) inv fits));
+          crash = λ p H q x. ⊎-elim
+            (λ r. inl (subst (λ (k : Layout). Recoverable k H P) (st .sized) r))
+            (λ r. inr ((λ c. (subst EpochStored (sym (c ∙ ap (take p) ops)) (epoch-among σ I p (r .0)), q)), subst (λ (k : Layout). Recoverable k H W) (st .sized) (r .1)))
+            (checkpoint-crash (s .played) (s .held) σ P W (st .bytes) inv p H fits (subst (λ (X : Ops). CrashImage (s .held) (s .played ++ take p X) H) ops x)) })
+      go : Dec (checkpointStatus (s .session) (s .image) t ≡ 0) → Next s (callCheckpoint t) (after s (callCheckpoint t))
+      go (no ne) = refused (callCheckpoint t) (s .session) (checkpoint-refused (s .session) (s .image) t ne) (st .known)
+      go (yes h) = served-checkpoint h
+
+  pub next : (c : Call) → Permitted s c → Next s c (after s c)
+  next (callOpen k t) permitted = next-open k t
+  next (callWrite w t j) permitted = next-write w t j permitted
+  next (callCheckpoint t) permitted = next-checkpoint t
+
+  -- what is played of a call's trace is the first part of its operations
+  called : (c : Call) → Permitted s c → (p : ℕ) → calledOps s c p ≡ take p (outcome s c .ops)
+  called c permitted p = played-ops (s .image) (outcome s c .ops) (traceOf c) p (omega (arith, same-length, image-lines l)) (call-ok s c permitted)
+
+  called-all : (c : Call) → Permitted s c → calledOps s c (length (outcome s c .ops)) ≡ outcome s c .ops
+  called-all c permitted = called c permitted (length (outcome s c .ops)) ∙ take-length (outcome s c .ops)
+
+  -- EVERY CALL keeps it
+  pub step-stands : (c : Call) → Permitted s c → Stands (step s c)
+  unfolding step
+  step-stands c permitted =
+      let n = next c permitted in
+      let e = called-all c permitted in
+      record {
+        bytes = st .bytes;
+        image = replayed-image (s .image) (outcome s c .ops) (traceOf c) (length (outcome s c .ops)) (omega (arith, same-length, image-lines l)) (call-ok s c permitted)
+          ∙ ap₂ replay (take-length (outcome s c .ops)) (st .image) ∙ sym (replay-append (s .played) (outcome s c .ops) (s .held))
+          ∙ ap (λ (X : Ops). replay (s .played ++ X) (s .held)) (sym e);
+        session = n .session; sized = n .sized; wide = n .wide; known = n .known;
+        wholeWorking = n .wholeWorking; wholeCheckpoint = n .wholeCheckpoint;
+        inv = subst (λ (X : Ops). Invariant l (s .played ++ X) (replay (s .played ++ X) (s .held)) (n .session) (contentsOf l (after s c .checkpoint)) (contentsOf l (after s c .working)))
+          (sym e) (n .inv) }
+
+  -- A CRASH between two calls
+  rest-crash : (H : Image) → CrashImage (s .held) (s .played) H → Recoverable l H (contentsOf l (s .model .checkpoint))
+  rest-crash H c = reopen-crash l (s .played) (s .held) (st .session) _ _ (st .bytes) (st .inv) 0 H
+      (subst (λ (X : Ops). CrashImage (s .held) X H) (sym (append-nil (s .played))) c)
