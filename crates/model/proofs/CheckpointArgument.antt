@@ -71,12 +71,12 @@ module _ (s : Session) where
   dirty-none Q = each-cat Q (l .mains) (λ i. cat (l .blocks) (block-ops i)) (λ i h. segment-none Q i)
 
   dirty-flushed : (i b ℓ : ℕ) → i < l .mains → b < l .blocks → dirtyBlock s i b ≡ true → mainAt l i + 256 * b ≤ 64 * ℓ → 64 * ℓ < mainAt l i + 256 * b + 256
-    → Flushed ℓ (flushDirty s)
+      → Flushed ℓ (flushDirty s)
   unfolding flushDirty block-ops
   dirty-flushed i b ℓ h k d x y =
       flushed-cat ℓ (l .mains) (λ i. cat (l .blocks) (block-ops i)) (λ m z. neat-none _ (λ Q. segment-none Q m)) i h
-        (flushed-cat ℓ (l .blocks) (block-ops i) (λ m z. neat-none _ (λ Q. block-none Q i m)) b k
-          (rw d (flushed-clwbs ℓ 4 (mainAt l i + 256 * b) (omega arith) x (omega arith))))
+      (flushed-cat ℓ (l .blocks) (block-ops i) (λ m z. neat-none _ (λ Q. block-none Q i m)) b k
+      (rw d (flushed-clwbs ℓ 4 (mainAt l i + 256 * b) (omega arith) x (omega arith))))
 
   blocks-none : (Q : ℕ → Type 0) → Each Q (blocksPhase s)
   blocks-none Q = each-append Q (flushDirty s) (sfence ∷ []) (dirty-none Q) tt
@@ -99,18 +99,24 @@ module _ (s : Session) where
     unfolding statesOps
     states-put =
         puts-then (stores 8 idle w ++ clwb idle ∷ []) (sfence ∷ []) idle 64 g
-          (puts-then (stores 8 idle w) (clwb idle ∷ []) idle 64 g
-            (puts-stores 8 idle w g (λ k b x y. byte-of-word (nextStates s I) (8 * k) b next-small y ∙ ap (nextStates s I) (omega arith))) tt) tt
+        (puts-then (stores 8 idle w) (clwb idle ∷ []) idle 64 g
+        (puts-stores 8 idle w g (λ k b x y. byte-of-word (nextStates s I) (8 * k) b next-small y ∙ ap (nextStates s I) (omega arith))) tt) tt
       where
         g : ℕ → ℕ
         g k = nextStates s I (k - idle)
+
         w : ℕ → ℕ
         w k = wordOf (nextStates s I) (8 * k)
 
     -- where the two lines of states stand
     lines : (idle % 64 ≡ 0) × (activeLine I % 64 ≡ 0) × (activeLine I + idle ≡ 320) × (128 ≤ idle) × (idle ≤ 192)
-    lines = (state-line-whole (suc (committedEpoch I)), state-line-whole (committedEpoch I), state-line-next (committedEpoch I),
-      state-line-low (suc (committedEpoch I)), state-line-high (suc (committedEpoch I)))
+    lines = (
+      state-line-whole (suc (committedEpoch I)),
+      state-line-whole (committedEpoch I),
+      state-line-next (committedEpoch I),
+      state-line-low (suc (committedEpoch I)),
+      state-line-high (suc (committedEpoch I)),
+    )
 
     abbrev X : Ops
     X = beforeEpoch s I
@@ -129,7 +135,7 @@ module _ (s : Session) where
     unfolding statesOps
     idle-settles = settles-after (idle / 64) (blocksPhase s) _
         (settles-fence (idle / 64) (stores 8 idle w ++ clwb idle ∷ [])
-          (record { A = stores 8 idle w; C = []; p = idle; place = refl; off = λ i e. tt; is = refl }))
+        (record { A = stores 8 idle w; C = []; p = idle; place = refl; off = λ i e. tt; is = refl }))
       where
         w : ℕ → ℕ
         w k = wordOf (nextStates s I) (8 * k)
@@ -138,8 +144,8 @@ module _ (s : Session) where
     dirty-settles i x h k d =
         let ℓ : ℕ = (mainAt l i + x) / 64 in
         settles-then ℓ (blocksPhase s) (statesPhase s I)
-          (settles-fence ℓ (flushDirty s) (dirty-flushed i (x / 256) ℓ h (omega arith) d (omega arith) (omega arith)))
-          (keeps-off ℓ (statesPhase s I) (λ m e. puts-clear states-put m (inr (omega (arith, lines)))))
+        (settles-fence ℓ (flushDirty s) (dirty-flushed i (x / 256) ℓ h (omega arith) d (omega arith) (omega arith)))
+        (keeps-off ℓ (statesPhase s I) (λ m e. puts-clear states-put m (inr (omega (arith, lines)))))
 
     -- the image after the first two phases
     before-same : (k : ℕ) → (k < idle) ⊎ (idle + 64 ≤ k) → byteAt (replay X I) k ≡ byteAt I k
@@ -186,10 +192,10 @@ module _ (O : Ops) (I₀ : Image) (s : Session) (P W : Contents) (held : Bytes I
 
   -- an image that has all of I but the inactive line recovers to P
   old : (H : Image) → length H ≡ length I₀ → Bytes H
-    → ((k : ℕ) → k < 512 → (k < inactiveLine I) ⊎ (inactiveLine I + 64 ≤ k) → byteAt H k ≡ byteAt I k)
-    → ((i x : ℕ) → i < lay .mains → x < segmentSize lay → stateOf I i ≡ 1 → byteAt H (mainAt lay i + x) ≡ byteAt I (mainAt lay i + x))
-    → ((j x : ℕ) → j < lay .backups → x < segmentSize lay → byteAt H (backupAt lay j + x) ≡ byteAt I (backupAt lay j + x))
-    → Recoverable lay H P
+      → ((k : ℕ) → k < 512 → (k < inactiveLine I) ⊎ (inactiveLine I + 64 ≤ k) → byteAt H k ≡ byteAt I k)
+      → ((i x : ℕ) → i < lay .mains → x < segmentSize lay → stateOf I i ≡ 1 → byteAt H (mainAt lay i + x) ≡ byteAt I (mainAt lay i + x))
+      → ((j x : ℕ) → j < lay .backups → x < segmentSize lay → byteAt H (backupAt lay j + x) ≡ byteAt I (backupAt lay j + x))
+      → Recoverable lay H P
   old H long small low own backup =
       let q = lines s I bytes in
       recoverable-alike lay I H P (record {
@@ -200,7 +206,8 @@ module _ (O : Ops) (I₀ : Image) (s : Session) (P W : Contents) (held : Bytes I
         states = λ i h. low (activeLine I + i) (omega arith) (go i h (decLt (activeLine I) (inactiveLine I)));
         pairs = λ j h. low (256 + j) (omega arith) (inr (omega arith));
         owns = own;
-        backups = λ i j x h k m e d. backup j x k m }) (inv .recovers)
+        backups = λ i j x h k m e d. backup j x k m;
+      }) (inv .recovers)
     where
       go : (i : ℕ) → i < 64 → Dec (activeLine I < inactiveLine I) → (activeLine I + i < inactiveLine I) ⊎ (inactiveLine I + 64 ≤ activeLine I + i)
       go i h (yes d) = inl (omega (arith, lines s I bytes))
@@ -208,16 +215,16 @@ module _ (O : Ops) (I₀ : Image) (s : Session) (P W : Contents) (held : Bytes I
 
   -- an image with the new epoch and states, all main segments and backups recovers to W
   new : (H : Image) → length H ≡ length I → Bytes H → committedEpoch H ≡ suc (committedEpoch I)
-    → ((k : ℕ) → 64 ≤ k → k < 88 → byteAt H k ≡ byteAt I k)
-    → ((i : ℕ) → i < 64 → byteAt H (inactiveLine I + i) ≡ nextStates s I i)
-    → ((j : ℕ) → j < 64 → backupToMain H j ≡ backupToMain I j)
-    → ((i x : ℕ) → i < lay .mains → x < segmentSize lay → byteAt H (mainAt lay i + x) ≡ W i x)
-    → ((j x : ℕ) → j < lay .backups → x < segmentSize lay → byteAt H (backupAt lay j + x) ≡ byteAt I (backupAt lay j + x))
-    → Recoverable lay H W
+      → ((k : ℕ) → 64 ≤ k → k < 88 → byteAt H k ≡ byteAt I k)
+      → ((i : ℕ) → i < 64 → byteAt H (inactiveLine I + i) ≡ nextStates s I i)
+      → ((j : ℕ) → j < 64 → backupToMain H j ≡ backupToMain I j)
+      → ((i x : ℕ) → i < lay .mains → x < segmentSize lay → byteAt H (mainAt lay i + x) ≡ W i x)
+      → ((j x : ℕ) → j < lay .backups → x < segmentSize lay → byteAt H (backupAt lay j + x) ≡ byteAt I (backupAt lay j + x))
+      → Recoverable lay H W
   new H long small epoch header states pairs mains backups =
       recovers-at lay H W (suc (committedEpoch I)) epoch (fit-cong lay I H long small header (inv .recovers .fit))
-        (holds-next lay (inv .recovers .fit .sizes) (stateOf I) (backupToMain I) (byteAt I) _ _ _ P (inv .recovers .holds)
-          (dirtySegment s) W (inv .low) states pairs mains backups (inv .clean))
+      (holds-next lay (inv .recovers .fit .sizes) (stateOf I) (backupToMain I) (byteAt I) _ _ _ P (inv .recovers .holds)
+      (dirtySegment s) W (inv .low) states pairs mains backups (inv .clean))
 
   -- a crash in the first two phases
   crash-before : (p : ℕ) (H : Image) → CrashImage I₀ (O ++ take p F) H → Recoverable lay H P
@@ -231,53 +238,58 @@ module _ (O : Ops) (I₀ : Image) (s : Session) (P W : Contents) (held : Bytes I
 
   -- a crash after the epoch store
   crash-after : (m : ℕ) (H : Image) → suc (committedEpoch I) < 2 ^ 64 → CrashImage I₀ ((O ++ F) ++ take (suc m) (epochPhase I)) H
-    → Recoverable lay H P ⊎ Recoverable lay H W
+      → Recoverable lay H P ⊎ Recoverable lay H W
   unfolding apply
   crash-after m H fits c = ⊎-elim
       (λ o. inl (old H (c .long) (crash-bytes c held)
-        (λ k h x. low o k h (decLt k 64) ∙ before-same s I bytes k x)
-        (λ i x h k e. main i x h k)
-        (λ j x h k. backup j x h k)))
+      (λ k h x. low o k h (decLt k 64) ∙ before-same s I bytes k x)
+      (λ i x h k e. main i x h k)
+      (λ j x h k. backup j x h k)))
       (λ n. inr (new H (c .long ∙ sym (length-replay O I₀)) (crash-bytes c held)
-        (epoch-new n)
-        (λ k h x. past k (settled-meta k (omega arith)) h ∙ before-same s I bytes k (inl (omega (arith, lines s I bytes))))
-        (λ i h. past (inactiveLine I + i) (settled-meta (inactiveLine I + i) (omega (arith, lines s I bytes))) (omega (arith, lines s I bytes)) ∙ before-states s I bytes i big h)
-        (λ j h. past (256 + j) (settled-meta (256 + j) (omega arith)) (omega arith) ∙ before-same s I bytes (256 + j) (inr (omega (arith, lines s I bytes))))
-        (λ i x h k. main i x h k ∙ inv .working i x h k)
-        (λ j x h k. backup j x h k)))
+      (epoch-new n)
+      (λ k h x. past k (settled-meta k (omega arith)) h ∙ before-same s I bytes k (inl (omega (arith, lines s I bytes))))
+      (λ i h. past (inactiveLine I + i) (settled-meta (inactiveLine I + i) (omega (arith, lines s I bytes))) (omega (arith, lines s I bytes)) ∙ before-states s I bytes i big h)
+      (λ j h. past (256 + j) (settled-meta (256 + j) (omega arith)) (omega arith) ∙ before-same s I bytes (256 + j) (inr (omega (arith, lines s I bytes))))
+      (λ i x h k. main i x h k ∙ inv .working i x h k)
+      (λ j x h k. backup j x h k)))
       (stage-one 0 (replay (O ++ F) I₀) H [] (take m (clwb 0 ∷ sfence ∷ [])) 0 (suc (committedEpoch I)) (λ i e. tt)
-        (λ i e. each-take (Misses i) m (clwb 0 ∷ sfence ∷ []) tt)
-        (local-crash 0 I₀ H (O ++ F) (take (suc m) (epochPhase I)) (settled-meta 0 (omega arith)) (c .lines 0)))
+      (λ i e. each-take (Misses i) m (clwb 0 ∷ sfence ∷ []) tt)
+      (local-crash 0 I₀ H (O ++ F) (take (suc m) (epochPhase I)) (settled-meta 0 (omega arith)) (c .lines 0)))
     where
       glue : (k : ℕ) → byteAt (replay (O ++ F) I₀) k ≡ byteAt (replay F I) k
       glue k = ap (λ (J : Image). byteAt J k) (replay-append O F I₀)
+
       past : (k : ℕ) → Settled (k / 64) (O ++ F) → 64 ≤ k → byteAt H k ≡ byteAt (replay F I) k
       past k g h = crash-byte I₀ H (O ++ F) (take (suc m) (epochPhase I)) k g
-        (each-take (Misses k) (suc m) (epochPhase I) (omega arith, tt)) (c .lines (k / 64)) ∙ glue k
+          (each-take (Misses k) (suc m) (epochPhase I) (omega arith, tt)) (c .lines (k / 64)) ∙ glue k
+
       low : AgreeOn 0 H (replay (O ++ F) I₀) → (k : ℕ) → k < 512 → Dec (k < 64) → byteAt H k ≡ byteAt (replay F I) k
       low o k h (yes d) = o k (omega arith) ∙ glue k
       low o k h (no d) = past k (settled-meta k h) (omega arith)
+
       main : (i x : ℕ) → i < lay .mains → x < segmentSize lay → byteAt H (mainAt lay i + x) ≡ byteAt I (mainAt lay i + x)
       main i x h k = past (mainAt lay i + x) (settled-main i x h k) (omega arith) ∙ before-same s I bytes _ (inr (omega (arith, lines s I bytes)))
+
       backup : (j x : ℕ) → j < lay .backups → x < segmentSize lay → byteAt H (backupAt lay j + x) ≡ byteAt I (backupAt lay j + x)
       backup j x h k = past _ (settled-backup j x h k) (omega arith) ∙ before-same s I bytes _ (inr (omega (arith, lines s I bytes)))
+
       epoch-new : AgreeOn 0 H (apply (store 0 (suc (committedEpoch I))) (replay (O ++ F) I₀)) → committedEpoch H ≡ suc (committedEpoch I)
       epoch-new n = word-cong _ _ 0 (λ i x y. n i (omega arith))
-        ∙ word-stored (replay (O ++ F) I₀) 0 (suc (committedEpoch I)) (omega (arith, length-replay (O ++ F) I₀, length-replay O I₀, big)) fits
+          ∙ word-stored (replay (O ++ F) I₀) 0 (suc (committedEpoch I)) (omega (arith, length-replay (O ++ F) I₀, length-replay O I₀, big)) fits
 
   abbrev C : Ops
   C = checkpointOps s I
 
   -- CRASHED: the old contents; or, after the epoch store, the new ones
   pub checkpoint-crash : (p : ℕ) (H : Image) → suc (committedEpoch I) < 2 ^ 64 → CrashImage I₀ (O ++ take p C) H
-    → Recoverable lay H P ⊎ ((length F < p) × Recoverable lay H W)
+      → Recoverable lay H P ⊎ ((length F < p) × Recoverable lay H W)
   checkpoint-crash p H fits c = go (decLe p (length F)) (p - length F) refl (subst (λ (Y : Ops). CrashImage I₀ (O ++ take p Y) H) (checkpoint-phases s I) c)
     where
       go : Dec (p ≤ length F) → (m : ℕ) → p - length F ≡ m → CrashImage I₀ (O ++ take p (F ++ epochPhase I)) H → Recoverable lay H P ⊎ ((length F < p) × Recoverable lay H W)
       go (yes d) m e x = inl (crash-before p H (subst (λ (Y : Ops). CrashImage I₀ (O ++ Y) H) (take-append-le p F (epochPhase I) d) x))
       go (no d) zero e x = absurd (omega arith)
       go (no d) (suc m) e x = ⊎-elim inl (λ r. inr (omega arith, r))
-        (crash-after m H fits
+          (crash-after m H fits
           (subst (λ (Y : Ops). CrashImage I₀ Y H) (ap (λ (Y : Ops). O ++ Y) (take-past p F (epochPhase I) (omega arith) ∙ ap (λ (k : ℕ). F ++ take k (epochPhase I)) e) ∙ sym (append-assoc O F _)) x))
 
   -- ---- played whole
@@ -320,22 +332,23 @@ module _ (O : Ops) (I₀ : Image) (s : Session) (P W : Contents) (held : Bytes I
       let q = lines s I bytes in
       let pr : (j : ℕ) → j < 64 → backupToMain K j ≡ backupToMain I j = λ j h. after (256 + j) (omega arith) ∙ before-same s I bytes (256 + j) (inr (omega arith)) in
       record {
-      recovers = new K (length-replay (O ++ (F ++ epochPhase I)) I₀ ∙ sym (length-replay O I₀)) (replay-small (O ++ (F ++ epochPhase I)) I₀ held) (epoch-after fits)
-        (λ k h x. after k h ∙ before-same s I bytes k (inl (omega arith)))
-        (λ i h. after (inactiveLine I + i) (omega arith) ∙ before-states s I bytes i big h)
-        pr
-        (λ i x h k. main-after i x h k ∙ inv .working i x h k)
-        backup-after;
-      working = λ i x h k. main-after i x h k ∙ inv .working i x h k;
-      low = λ i e. absurd (true≢false (sym e ∙ checkpoint-segment s i));
-      moved = λ i e. absurd (true≢false (sym e ∙ checkpoint-segment s i));
-      clean = λ i x h k e. refl;
-      twin = λ i j x h m k e d. backup-after j x m k
-        ∙ inv .twin i j x h m k (sym (pr j (omega (arith, inv .recovers .fit .sizes .1))) ∙ e) (sym (checkpoint-block s i (x / 256)) ∙ d) ∙ sym (main-after i x h k);
-      firmMeta = settled-all;
-      firmOwn = λ i x h k e. settle _ (omega arith) (settled-main i x h k);
-      firmClean = λ i x h k d. settle _ (omega arith) (settled-main i x h k);
-      firmBackup = λ j x h k. settle _ (omega arith) (settled-backup j x h k) }
+        recovers = new K (length-replay (O ++ (F ++ epochPhase I)) I₀ ∙ sym (length-replay O I₀)) (replay-small (O ++ (F ++ epochPhase I)) I₀ held) (epoch-after fits)
+            (λ k h x. after k h ∙ before-same s I bytes k (inl (omega arith)))
+            (λ i h. after (inactiveLine I + i) (omega arith) ∙ before-states s I bytes i big h)
+            pr
+            (λ i x h k. main-after i x h k ∙ inv .working i x h k)
+            backup-after;
+        working = λ i x h k. main-after i x h k ∙ inv .working i x h k;
+        low = λ i e. absurd (true≢false (sym e ∙ checkpoint-segment s i));
+        moved = λ i e. absurd (true≢false (sym e ∙ checkpoint-segment s i));
+        clean = λ i x h k e. refl;
+        twin = λ i j x h m k e d. backup-after j x m k
+            ∙ inv .twin i j x h m k (sym (pr j (omega (arith, inv .recovers .fit .sizes .1))) ∙ e) (sym (checkpoint-block s i (x / 256)) ∙ d) ∙ sym (main-after i x h k);
+        firmMeta = settled-all;
+        firmOwn = λ i x h k e. settle _ (omega arith) (settled-main i x h k);
+        firmClean = λ i x h k d. settle _ (omega arith) (settled-main i x h k);
+        firmBackup = λ j x h k. settle _ (omega arith) (settled-backup j x h k);
+      }
 
   -- the epoch is raised by 1
   pub checkpoint-epoch : suc (committedEpoch I) < 2 ^ 64 → committedEpoch (replay (O ++ C) I₀) ≡ suc (committedEpoch I)

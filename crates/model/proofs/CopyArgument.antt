@@ -44,15 +44,16 @@ byte-puts I k b h small = puts-store (wordPlace k) _ (withByte I k b)
 
 -- in an image that agrees with I on the word, it changes that byte only
 byte-stored : (I J : Image) (k b m : ℕ) → Bytes I → b < 256 → wordPlace k + 8 ≤ length J
-  → ((n : ℕ) → wordPlace k ≤ n → n < wordPlace k + 8 → byteAt J n ≡ byteAt I n) → byteAt (apply (storeByte I k b) J) m ≡ withByte J k b m
+    → ((n : ℕ) → wordPlace k ≤ n → n < wordPlace k + 8 → byteAt J n ≡ byteAt I n) → byteAt (apply (storeByte I k b) J) m ≡ withByte J k b m
 unfolding replay
 byte-stored I J k b m h small n agree = go (ℕ-discrete m k) (decLt m (wordPlace k)) (decLt m (wordPlace k + 8))
   where
     puts : Puts (storeByte I k b ∷ []) (wordPlace k) 8 (withByte I k b)
     puts = byte-puts I k b h small
+
     go : Dec (m ≡ k) → Dec (m < wordPlace k) → Dec (m < wordPlace k + 8) → byteAt (apply (storeByte I k b) J) m ≡ withByte J k b m
     go (yes e) x y = puts .leaves J m n (omega arith) (omega arith)
-      ∙ subst (λ (t : ℕ). withByte I k b t ≡ withByte J k b t) (sym e) (overlay-same (byteAt I) k b ∙ sym (overlay-same (byteAt J) k b))
+        ∙ subst (λ (t : ℕ). withByte I k b t ≡ withByte J k b t) (sym e) (overlay-same (byteAt I) k b ∙ sym (overlay-same (byteAt J) k b))
     go (no e) (yes x) y = replay-clear (storeByte I k b ∷ []) J m (puts-clear puts m (inl x)) ∙ sym (overlay-other (byteAt J) k b m e)
     go (no e) (no x) (no y) = replay-clear (storeByte I k b ∷ []) J m (puts-clear puts m (inr (omega arith))) ∙ sym (overlay-other (byteAt J) k b m e)
     go (no e) (no x) (yes y) = puts .leaves J m n (omega arith) y ∙ overlay-other (byteAt I) k b m e ∙ sym (agree m (omega arith) y) ∙ sym (overlay-other (byteAt J) k b m e)
@@ -91,8 +92,7 @@ abbrev pub statePhase : Image → ℕ → Ops
 statePhase I i = storeByte I (activeLine I + i) 2 ∷ clwb (activeLine I) ∷ sfence ∷ []
 
 module _ (l : Layout) (O : Ops) (I₀ : Image) (s : Session) (P W : Contents) (held : Bytes I₀) (inv : Invariant l O (replay O I₀) s P W)
-  (i j : ℕ) (choice : Choice l (stateOf (replay O I₀)) (backupToMain (replay O I₀)) i j) (A : Ops) (ready : Ready l (replay O I₀) i j A) where
-
+    (i j : ℕ) (choice : Choice l (stateOf (replay O I₀)) (backupToMain (replay O I₀)) i j) (A : Ops) (ready : Ready l (replay O I₀) i j A) where
   abbrev I : Image
   I = replay O I₀
 
@@ -130,41 +130,47 @@ module _ (l : Layout) (O : Ops) (I₀ : Image) (s : Session) (P W : Contents) (h
 
   -- an image with the pair given, and main segment i in state 1 with its bytes or in state 2 with the backup's
   given : (H : Image) → length H ≡ length I → Bytes H
-    → ((k : ℕ) → Settled (k / 64) O → (k < 128) ⊎ (320 ≤ k) → Clear k A → byteAt H k ≡ byteAt I k)
-    → ((u : ℕ) → u < 64 → u ≢ i → byteAt H (active + u) ≡ stateOf I u)
-    → Given I i j H
-    → ((byteAt H (active + i) ≡ 1) × ((x : ℕ) → x < segmentSize l → byteAt H (mainAt l i + x) ≡ P i x))
+      → ((k : ℕ) → Settled (k / 64) O → (k < 128) ⊎ (320 ≤ k) → Clear k A → byteAt H k ≡ byteAt I k)
+      → ((u : ℕ) → u < 64 → u ≢ i → byteAt H (active + u) ≡ stateOf I u)
+      → Given I i j H
+      → ((byteAt H (active + i) ≡ 1) × ((x : ℕ) → x < segmentSize l → byteAt H (mainAt l i + x) ≡ P i x))
       ⊎ ((byteAt H (active + i) ≡ 2) × ((x : ℕ) → x < segmentSize l → byteAt H (backupAt l j + x) ≡ P i x))
-    → Recoverable l H P
+      → Recoverable l H P
   given H long bytes same states pairs turn =
       recovers-at l H P (committedEpoch I) (epoch-cong I H (λ k h. same k (inv .firmMeta k (omega arith)) (inl (omega arith)) (ready .clear k (inl (omega arith)))))
-        (fit-cong l I H long bytes (λ k h x. same k (inv .firmMeta k (omega arith)) (inl (omega arith)) (ready .clear k (inl (omega arith)))) (inv .recovers .fit))
-        (holds-given l (inv .recovers .fit .sizes) (stateOf I) (backupToMain I) (byteAt I) _ _ _ P i j choice (inv .recovers .holds) states (pairs .0) (pairs .1)
-          (λ u x h k ne e. same _ (inv .firmOwn u x h k e) (inr (omega arith)) (main-clear u x h k))
-          (λ u t x h m k ne e d. same _ (inv .firmBackup t x m k) (inr (omega arith)) (backup-clear t x k ne))
-          turn)
+      (fit-cong l I H long bytes (λ k h x. same k (inv .firmMeta k (omega arith)) (inl (omega arith)) (ready .clear k (inl (omega arith)))) (inv .recovers .fit))
+      (holds-given l (inv .recovers .fit .sizes) (stateOf I) (backupToMain I) (byteAt I) _ _ _ P i j choice (inv .recovers .holds) states (pairs .0) (pairs .1)
+      (λ u x h k ne e. same _ (inv .firmOwn u x h k e) (inr (omega arith)) (main-clear u x h k))
+      (λ u t x h m k ne e d. same _ (inv .firmBackup t x m k) (inr (omega arith)) (backup-clear t x k ne))
+      turn)
 
   -- CRASHED in the first part
   pub copy-crash : (p : ℕ) (H : Image) → CrashImage I₀ (O ++ take p A) H → Recoverable l H P
   copy-crash p H c = ⊎-elim
       (λ old. recoverable-alike l I H P (record {
-        long = long; bytes = crash-bytes c held;
+        long = long;
+        bytes = crash-bytes c held;
         epochs = λ k h. low k (omega arith);
         header = λ k h x. low k (omega arith);
         states = λ u h. low (active + u) (omega (arith, line));
         pairs = old;
         owns = λ u x h k e. same _ (inv .firmOwn u x h k e) (main-clear u x h k);
-        backups = λ u t x h m k e d. same _ (inv .firmBackup t x m k) (backup-clear t x k (λ q. choice .free u h (subst (λ (w : ℕ). backupToMain I w ≡ u) q d) e)) }) (inv .recovers))
+        backups = λ u t x h m k e d. same _ (inv .firmBackup t x m k) (backup-clear t x k (λ q. choice .free u h (subst (λ (w : ℕ). backupToMain I w ≡ u) q d) e));
+      }) (inv .recovers))
       (λ new. given H long (crash-bytes c held) (λ k g w x. same k g x)
-        (λ u h ne. low (active + u) (omega (arith, line))) new
-        (inl (low (active + i) (omega (arith, i64, line)) ∙ choice .holds,
-          λ x k. same _ (inv .firmOwn i x (choice .main) k (choice .holds)) (main-clear i x (choice .main) k) ∙ own-page x k)))
+      (λ u h ne. low (active + u) (omega (arith, line))) new
+      (inl (
+        low (active + i) (omega (arith, i64, line)) ∙ choice .holds,
+        λ x k. same _ (inv .firmOwn i x (choice .main) k (choice .holds)) (main-clear i x (choice .main) k) ∙ own-page x k,
+      )))
       (ready .part p H (local-crash 4 I₀ H O (take p A) (inv .firmMeta 256 (omega arith)) (c .lines 4)))
     where
       long : length H ≡ length I
       long = c .long ∙ sym (length-replay O I₀)
+
       same : (k : ℕ) → Settled (k / 64) O → Clear k A → byteAt H k ≡ byteAt I k
       same k g x = crash-byte I₀ H O (take p A) k g (each-take (Misses k) p A x) (c .lines (k / 64))
+
       low : (k : ℕ) → k < 256 → byteAt H k ≡ byteAt I k
       low k h = same k (inv .firmMeta k (omega arith)) (ready .clear k (inl h))
 
@@ -192,32 +198,42 @@ module _ (l : Layout) (O : Ops) (I₀ : Image) (s : Session) (P W : Contents) (h
     where
       long : length H ≡ length I
       long = c .long ∙ sym (length-replay O I₀)
+
       after : (k : ℕ) → Settled (k / 64) O → (k < 128) ⊎ (256 ≤ k) → byteAt H k ≡ byteAt B k
       after k g w = crash-byte I₀ H (O ++ A) (take m Z) k (ready .keeps (k / 64) O g) (each-take (Misses k) m Z (state-clear k w)) (c .lines (k / 64)) ∙ glue k
+
       same : (k : ℕ) → Settled (k / 64) O → (k < 128) ⊎ (320 ≤ k) → Clear k A → byteAt H k ≡ byteAt I k
       same k g w x = after k g (⊎-elim inl (λ h. inr (omega arith)) w) ∙ replay-clear A I k x
+
       pair : (t : ℕ) → t < 64 → backupToMain H t ≡ backupToMain B t
       pair t h = after (256 + t) (inv .firmMeta (256 + t) (omega arith)) (inr (omega arith))
+
       pairs : Given I i j H
       pairs = (pair j (omega (arith, choice .below, inv .recovers .fit .sizes .1)) ∙ ready .paired .0, λ t h ne. pair t h ∙ ready .paired .1 t h ne)
+
       own : (x : ℕ) → x < segmentSize l → byteAt H (mainAt l i + x) ≡ P i x
       own x k = same _ (inv .firmOwn i x (choice .main) k (choice .holds)) (inr (omega arith)) (main-clear i x (choice .main) k) ∙ own-page x k
+
       copied : (x : ℕ) → x < segmentSize l → byteAt H (backupAt l j + x) ≡ P i x
       copied x k = after _ (inv .firmBackup j x (choice .below) k) (inr (omega arith)) ∙ ready .copy x k ∙ own-page x k
+
       old : AgreeOn (active / 64) H (replay (O ++ A) I₀) → Recoverable l H P
       old eq = given H long (crash-bytes c held) same
-        (λ u h ne. eq (active + u) (line-of u h) ∙ glue (active + u) ∙ low-B (active + u) (omega (arith, line))) pairs
-        (inl (eq (active + i) (line-of i i64) ∙ glue (active + i) ∙ low-B (active + i) (omega (arith, i64, line)) ∙ choice .holds, own))
+          (λ u h ne. eq (active + u) (line-of u h) ∙ glue (active + u) ∙ low-B (active + u) (omega (arith, line))) pairs
+          (inl (eq (active + i) (line-of i i64) ∙ glue (active + i) ∙ low-B (active + i) (omega (arith, i64, line)) ∙ choice .holds, own))
+
       new : AgreeOn (active / 64) H (apply (storeByte I (active + i) 2) B) → Recoverable l H P
       new eq = given H long (crash-bytes c held) same
-        (λ u h ne. eq (active + u) (line-of u h) ∙ stored (active + u) ∙ overlay-other (byteAt B) (active + i) 2 (active + u) (omega arith) ∙ low-B (active + u) (omega (arith, line))) pairs
-        (inr (eq (active + i) (line-of i i64) ∙ stored (active + i) ∙ overlay-same (byteAt B) (active + i) 2, copied))
+          (λ u h ne. eq (active + u) (line-of u h) ∙ stored (active + u) ∙ overlay-other (byteAt B) (active + i) 2 (active + u) (omega arith) ∙ low-B (active + u) (omega (arith, line))) pairs
+          (inr (eq (active + i) (line-of i i64) ∙ stored (active + i) ∙ overlay-same (byteAt B) (active + i) 2, copied))
+
       firm : Settled (active / 64) (O ++ A)
       firm = ready .keeps (active / 64) O (inv .firmMeta active (omega (arith, line)))
+
       go : (m : ℕ) → CrashImage I₀ ((O ++ A) ++ take m Z) H → Recoverable l H P
       go zero c = old (stage-held (local-crash (active / 64) I₀ H (O ++ A) [] firm (c .lines (active / 64))))
       go (suc m) c = ⊎-elim old (λ eq. new (λ k e. eq k e ∙ ap (λ (X : Image). byteAt (apply (storeByte I (active + i) 2) X) k) (replay-append O A I₀)))
-        (stage-one (active / 64) (replay (O ++ A) I₀) H [] (take m (clwb active ∷ sfence ∷ [])) (wordPlace (active + i)) _ (λ k e. tt)
+          (stage-one (active / 64) (replay (O ++ A) I₀) H [] (take m (clwb active ∷ sfence ∷ [])) (wordPlace (active + i)) _ (λ k e. tt)
           (λ k e. each-take (Misses k) m (clwb active ∷ sfence ∷ []) tt)
           (local-crash (active / 64) I₀ H (O ++ A) (take (suc m) Z) firm (c .lines (active / 64))))
 
@@ -258,51 +274,58 @@ module _ (l : Layout) (O : Ops) (I₀ : Image) (s : Session) (P W : Contents) (h
     where
       go : Dec (ℓ ≡ active / 64) → Keeps ℓ Z
       go (yes e) = λ X gX. rw e (settles-fence (active / 64) (storeByte I (active + i) 2 ∷ clwb active ∷ [])
-        (record { A = storeByte I (active + i) 2 ∷ []; C = []; p = active; place = refl; off = λ k e. tt; is = refl }) X)
+          (record { A = storeByte I (active + i) 2 ∷ []; C = []; p = active; place = refl; off = λ k e. tt; is = refl }) X)
       go (no e) = keeps-off ℓ Z (λ k q. ((λ x y. e (omega (arith, i64, line))), tt))
 
   -- PLAYED WHOLE: the invariant, with main segment i in state 2 and none of its blocks dirty
   pub copy-done : Invariant l (O ++ (A ++ Z)) K (unmarked s i) P W
   copy-done = record {
-      recovers = given K (length-replay (O ++ (A ++ Z)) I₀ ∙ sym (length-replay O I₀)) (replay-small (O ++ (A ++ Z)) I₀ held)
+    recovers = given K (length-replay (O ++ (A ++ Z)) I₀ ∙ sym (length-replay O I₀)) (replay-small (O ++ (A ++ Z)) I₀ held)
         (λ k g w x. K-same k (⊎-elim inl (λ h. inr (omega arith)) w) ∙ replay-clear A I k x) states-K pairs-K
         (inr (K-is (active + i) ∙ overlay-same (byteAt B) (active + i) 2, λ x k. K-same _ (inr (omega arith)) ∙ ready .copy x k ∙ own-page x k));
-      working = λ u x h k. main-K u x h k ∙ inv .working u x h k;
-      low = low;
-      moved = λ u e q. not-main u e q (ℕ-discrete u i);
-      clean = λ u x h k e. inv .clean u x h k (unfold dirtySegment in e);
-      twin = λ u t x h m k e d. twin u t x h m k e d (ℕ-discrete t j);
-      firmMeta = λ k h. firm-K _ (inv .firmMeta k h);
-      firmOwn = λ u x h k e. firm-K _ (inv .firmOwn u x h k (one u h e (ℕ-discrete u i)));
-      firmClean = λ u x h k d. firm-K _ (⊎-elim (λ e. subst (λ (w : ℕ). Settled ((mainAt l w + x) / 64) O) (sym e) (inv .firmOwn i x (choice .main) k (choice .holds)))
+    working = λ u x h k. main-K u x h k ∙ inv .working u x h k;
+    low = low;
+    moved = λ u e q. not-main u e q (ℕ-discrete u i);
+    clean = λ u x h k e. inv .clean u x h k (unfold dirtySegment in e);
+    twin = λ u t x h m k e d. twin u t x h m k e d (ℕ-discrete t j);
+    firmMeta = λ k h. firm-K _ (inv .firmMeta k h);
+    firmOwn = λ u x h k e. firm-K _ (inv .firmOwn u x h k (one u h e (ℕ-discrete u i)));
+    firmClean = λ u x h k d. firm-K _ (⊎-elim (λ e. subst (λ (w : ℕ). Settled ((mainAt l w + x) / 64) O) (sym e) (inv .firmOwn i x (choice .main) k (choice .holds)))
         (λ e. inv .firmClean u x h k e) (unmarked-block s i u (x / 256) d));
-      firmBackup = λ t x h k. firm-K _ (inv .firmBackup t x h k) }
+    firmBackup = λ t x h k. firm-K _ (inv .firmBackup t x h k);
+  }
     where
       m64 : l .mains ≤ 64
       m64 = inv .recovers .fit .sizes .0 .1
+
       b64 : l .backups ≤ 64
       b64 = inv .recovers .fit .sizes .1 .1
+
       same-dirty : (u : ℕ) → dirtySegment (unmarked s i) u ≡ true → dirtySegment s u ≡ true
       same-dirty u e = unfold dirtySegment in e
+
       low : (u : ℕ) → dirtySegment (unmarked s i) u ≡ true → u < l .mains
       low u e = inv .low u (same-dirty u e)
+
       not-main : (u : ℕ) → dirtySegment (unmarked s i) u ≡ true → stateOf K u ≡ 1 → Dec (u ≡ i) → ⊥
       not-main u e q (yes y) = inv .moved u (same-dirty u e) (subst (λ (w : ℕ). stateOf I w ≡ 1) (sym y) (choice .holds))
       not-main u e q (no y) = inv .moved u (same-dirty u e) (sym (state-K u (omega (arith, low u e, m64)) y) ∙ q)
+
       one : (u : ℕ) → u < l .mains → stateOf K u ≡ 1 → Dec (u ≡ i) → stateOf I u ≡ 1
       one u h e (yes y) = subst (λ (w : ℕ). stateOf I w ≡ 1) (sym y) (choice .holds)
       one u h e (no y) = sym (state-K u (omega (arith, m64)) y) ∙ e
+
       twin : (u t x : ℕ) → u < l .mains → t < l .backups → x < segmentSize l → backupToMain K t ≡ u → dirtyBlock (unmarked s i) u (x / 256) ≡ false → Dec (t ≡ j)
-        → byteAt K (backupAt l t + x) ≡ byteAt K (mainAt l u + x)
+          → byteAt K (backupAt l t + x) ≡ byteAt K (mainAt l u + x)
       twin u t x h m k e d (yes y) =
-        let ui : u ≡ i = sym e ∙ subst (λ (w : ℕ). backupToMain K w ≡ i) (sym y) (pairs-K .0) in
-        subst (λ (w : ℕ). byteAt K (backupAt l w + x) ≡ byteAt K (mainAt l u + x)) (sym y)
+          let ui : u ≡ i = sym e ∙ subst (λ (w : ℕ). backupToMain K w ≡ i) (sym y) (pairs-K .0) in
+          subst (λ (w : ℕ). byteAt K (backupAt l w + x) ≡ byteAt K (mainAt l u + x)) (sym y)
           (subst (λ (w : ℕ). byteAt K (backupAt l j + x) ≡ byteAt K (mainAt l w + x)) (sym ui)
-            (K-same _ (inr (omega arith)) ∙ ready .copy x k ∙ sym (main-K i x (choice .main) k)))
+          (K-same _ (inr (omega arith)) ∙ ready .copy x k ∙ sym (main-K i x (choice .main) k)))
       twin u t x h m k e d (no y) =
-        let e′ : backupToMain I t ≡ u = sym (pairs-K .1 t (omega (arith, b64)) y) ∙ e in
-        let d′ : dirtyBlock s u (x / 256) ≡ false = ⊎-elim (λ q. absurd (choice .sole t m y (e′ ∙ q))) (λ q. q) (unmarked-block s i u (x / 256) d) in
-        K-same _ (inr (omega arith)) ∙ replay-clear A I _ (backup-clear t x k y) ∙ inv .twin u t x h m k e′ d′ ∙ sym (main-K u x h k)
+          let e′ : backupToMain I t ≡ u = sym (pairs-K .1 t (omega (arith, b64)) y) ∙ e in
+          let d′ : dirtyBlock s u (x / 256) ≡ false = ⊎-elim (λ q. absurd (choice .sole t m y (e′ ∙ q))) (λ q. q) (unmarked-block s i u (x / 256) d) in
+          K-same _ (inr (omega arith)) ∙ replay-clear A I _ (backup-clear t x k y) ∙ inv .twin u t x h m k e′ d′ ∙ sym (main-K u x h k)
 
 -- ---- a new backup segment: its pair byte, then all blocks
 
@@ -326,8 +349,8 @@ module _ (l : Layout) (I : Image) (i j : ℕ) (small : Bytes I) (long : length I
   unfolding pairOps
   new-clear k h = each-append (Misses k) (pairOps I i j ++ copyOps) (sfence ∷ [])
       (each-append (Misses k) (pairOps I i j) copyOps
-        ((λ x y. ⊎-elim (λ q. omega arith) (λ q. omega arith) h), tt)
-        (⊎-elim (λ q. puts-clear copy-puts k (inl (omega arith))) (λ q. puts-clear copy-puts k (q .1)) h)) tt
+      ((λ x y. ⊎-elim (λ q. omega arith) (λ q. omega arith) h), tt)
+      (⊎-elim (λ q. puts-clear copy-puts k (inl (omega arith))) (λ q. puts-clear copy-puts k (q .1)) h)) tt
 
   new-replay : (k : ℕ) → byteAt (replay newOps I) k ≡ byteAt (replay copyOps (apply (storeByte I (256 + j) i) I)) k
   unfolding pairOps replay apply
@@ -348,20 +371,21 @@ module _ (l : Layout) (I : Image) (i j : ℕ) (small : Bytes I) (long : length I
       (λ e. inl (λ t h. e (256 + t) (omega arith)))
       (λ e. inr (e (256 + j) (omega arith) ∙ pair-stored .0, λ t h ne. e (256 + t) (omega arith) ∙ pair-stored .1 t h ne))
       (stage-one 4 I H [] (take n R) (wordPlace (256 + j)) _ (λ k e. tt)
-        (λ k e. each-take (Misses k) n R (each-append (Misses k) copyOps (sfence ∷ []) (puts-clear copy-puts k (inl (omega arith))) tt)) st)
+      (λ k e. each-take (Misses k) n R (each-append (Misses k) copyOps (sfence ∷ []) (puts-clear copy-puts k (inl (omega arith))) tt)) st)
     where
       R : Ops
       R = clwb 256 ∷ (copyOps ++ sfence ∷ [])
 
   pub ready-new : Ready l I i j newOps
   ready-new = record {
-      clear = new-clear;
-      copy = λ x k. new-replay _ ∙ copy-puts .leaves (apply (storeByte I (256 + j) i) I) _
-          (omega (arith, long, length-apply (storeByte I (256 + j) i) I, segment-in-image l (l .mains + j) (omega arith))) (omega arith) (omega arith)
+    clear = new-clear;
+    copy = λ x k. new-replay _ ∙ copy-puts .leaves (apply (storeByte I (256 + j) i) I) _
+        (omega (arith, long, length-apply (storeByte I (256 + j) i) I, segment-in-image l (l .mains + j) (omega arith))) (omega arith) (omega arith)
         ∙ ap (λ (n : ℕ). byteAt I n) (omega arith);
-      paired = (at j j64 ∙ pair-stored .0, λ t h ne. at t h ∙ pair-stored .1 t h ne);
-      keeps = neat-keeps (pairOps I i j ++ copyOps) (neat-append (pairOps I i j) copyOps pair-neat (neat-copy l I (mainAt l i) (backupAt l j) (omega arith)));
-      part = new-part }
+    paired = (at j j64 ∙ pair-stored .0, λ t h ne. at t h ∙ pair-stored .1 t h ne);
+    keeps = neat-keeps (pairOps I i j ++ copyOps) (neat-append (pairOps I i j) copyOps pair-neat (neat-copy l I (mainAt l i) (backupAt l j) (omega arith)));
+    part = new-part;
+  }
     where
       at : (t : ℕ) → t < 64 → backupToMain (replay newOps I) t ≡ backupToMain (apply (storeByte I (256 + j) i) I) t
       at t h = new-replay (256 + t) ∙ replay-clear copyOps _ (256 + t) (puts-clear copy-puts (256 + t) (inl (omega arith)))
@@ -369,9 +393,8 @@ module _ (l : Layout) (I : Image) (i j : ℕ) (small : Bytes I) (long : length I
 -- ---- the backup segment that it has: the dirty blocks
 
 module _ (s : Session) (I : Image) (i j : ℕ) (small : Bytes I) (long : length I ≡ imageSize (s .layout))
-  (hi : i < s .layout .mains) (hj : j < s .layout .backups) (j64 : j < 64) (mine : backupToMain I j ≡ i)
-  (twin : (x : ℕ) → x < segmentSize (s .layout) → dirtyBlock s i (x / 256) ≡ false → byteAt I (backupAt (s .layout) j + x) ≡ byteAt I (mainAt (s .layout) i + x)) where
-
+    (hi : i < s .layout .mains) (hj : j < s .layout .backups) (j64 : j < 64) (mine : backupToMain I j ≡ i)
+    (twin : (x : ℕ) → x < segmentSize (s .layout) → dirtyBlock s i (x / 256) ≡ false → byteAt I (backupAt (s .layout) j + x) ≡ byteAt I (mainAt (s .layout) i + x)) where
   abbrev lay : Layout
   lay = s .layout
 
@@ -404,13 +427,14 @@ module _ (s : Session) (I : Image) (i j : ℕ) (small : Bytes I) (long : length 
     where
       D : Ops
       D = cat n (λ b. dirtyOps b (dirtyBlock s i b))
+
       go : (x < 256 * n → byteAt (replay D I) (to + x) ≡ byteAt I (mainAt lay i + x)) → Dec (x < 256 * n) → (d : Bool) → dirtyBlock s i n ≡ d
-        → byteAt (replay (dirtyOps n d) (replay D I)) (to + x) ≡ byteAt I (mainAt lay i + x)
+          → byteAt (replay (dirtyOps n d) (replay D I)) (to + x) ≡ byteAt I (mainAt lay i + x)
       go ih (yes q) d e = replay-clear (dirtyOps n d) (replay D I) (to + x) (block-clear n d (to + x) (inl (omega arith))) ∙ ih q
       go ih (no q) true e = block-puts n .leaves (replay D I) (to + x) (omega (arith, long, length-replay D I, segment-in-image lay (lay .mains + j) (omega arith))) (omega arith) (omega arith)
-        ∙ ap (λ (m : ℕ). byteAt I m) (omega arith)
+          ∙ ap (λ (m : ℕ). byteAt I m) (omega arith)
       go ih (no q) false e = replay-clear [] (replay D I) (to + x) tt ∙ replay-clear D I (to + x) (blocks-clear n (to + x) (inr (omega arith)))
-        ∙ twin x (omega arith) (let b : x / 256 ≡ n = omega arith in rw b e)
+          ∙ twin x (omega arith) (let b : x / 256 ≡ n = omega arith in rw b e)
 
   block-neat : (b : ℕ) (d : Bool) → Neat (dirtyOps b d)
   unfolding persistCopy
@@ -424,15 +448,17 @@ module _ (s : Session) (I : Image) (i j : ℕ) (small : Bytes I) (long : length 
   pub ready-old : Ready lay I i j oldOps
   unfolding copyDirty
   ready-old = record {
-      clear = λ k h. old-clear k (⊎-elim (λ q. inl (omega arith)) (λ q. q .1) h);
-      copy = λ x k. ap (λ (X : Image). byteAt X (to + x)) (replay-append (copyDirty s I i j) (sfence ∷ []) I)
+    clear = λ k h. old-clear k (⊎-elim (λ q. inl (omega arith)) (λ q. q .1) h);
+    copy = λ x k. ap (λ (X : Image). byteAt X (to + x)) (replay-append (copyDirty s I i j) (sfence ∷ []) I)
         ∙ replay-clear (sfence ∷ []) _ (to + x) tt ∙ blocks-at (lay .blocks) (omega arith) x k;
-      paired = (same j j64 ∙ mine, λ t h ne. same t h);
-      keeps = neat-keeps (copyDirty s I i j) (neat-cat (lay .blocks) _ (λ b h. block-neat b (dirtyBlock s i b)));
-      part = λ n H st. inl (λ t h. st .agree (256 + t) (omega arith) ∙ replay-clear (take (st .k) (take n oldOps)) I (256 + t)
-        (each-take (Misses (256 + t)) (st .k) _ (each-take (Misses (256 + t)) n _ (low t h)))) }
+    paired = (same j j64 ∙ mine, λ t h ne. same t h);
+    keeps = neat-keeps (copyDirty s I i j) (neat-cat (lay .blocks) _ (λ b h. block-neat b (dirtyBlock s i b)));
+    part = λ n H st. inl (λ t h. st .agree (256 + t) (omega arith) ∙ replay-clear (take (st .k) (take n oldOps)) I (256 + t)
+        (each-take (Misses (256 + t)) (st .k) _ (each-take (Misses (256 + t)) n _ (low t h))));
+  }
     where
       low : (t : ℕ) → t < 64 → Clear (256 + t) oldOps
       low t h = old-clear (256 + t) (inl (omega arith))
+
       same : (t : ℕ) → t < 64 → backupToMain (replay oldOps I) t ≡ backupToMain I t
       same t h = replay-clear oldOps I (256 + t) (low t h)

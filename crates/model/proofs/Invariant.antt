@@ -25,7 +25,7 @@ pub record Invariant (l : Layout) (O : Ops) (I : Image) (s : Session) (P W : Con
   pub clean : (i x : ℕ) → i < l .mains → x < segmentSize l → dirtySegment s i ≡ false → W i x ≡ P i x
   -- a backup segment equals its main segment in every block that is not dirty
   pub twin : (i j x : ℕ) → i < l .mains → j < l .backups → x < segmentSize l → backupToMain I j ≡ i → dirtyBlock s i (x / 256) ≡ false
-    → byteAt I (backupAt l j + x) ≡ byteAt I (mainAt l i + x)
+      → byteAt I (backupAt l j + x) ≡ byteAt I (mainAt l i + x)
   -- settled are: the metadata, a segment that holds its checkpoint itself, blocks that are not dirty, backup segments
   pub firmMeta : (i : ℕ) → i < 512 → Settled (i / 64) O
   pub firmOwn : (i x : ℕ) → i < l .mains → x < segmentSize l → stateOf I i ≡ 1 → Settled ((mainAt l i + x) / 64) O

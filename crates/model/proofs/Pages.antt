@@ -43,11 +43,12 @@ cat-at (suc n) c f h i x a b = go (λ q. cat-at n c f (λ k l. h k (omega arith)
   where
     len : length (cat n f) ≡ n * c
     len = length-cat n c f (λ k l. h k (omega arith))
+
     go : (i < n → getD (cat n f) (i * c + x) 0 ≡ getD (f i) x 0) → Dec (i < n) → getD (cat n f ++ f n) (i * c + x) 0 ≡ getD (f i) x 0
     go ih (yes q) = List·getD-append (cat n f) (f n) 0 (i * c + x) (omega (arith, len, suc-mul i c, mul-le-mul-right c q)) ∙ ih q
     go ih (no q) =
-      let e : i ≡ n = omega arith in
-      subst (λ (k : ℕ). getD (cat n f ++ f n) (k * c + x) 0 ≡ getD (f k) x 0) (sym e)
+        let e : i ≡ n = omega arith in
+        subst (λ (k : ℕ). getD (cat n f ++ f n) (k * c + x) 0 ≡ getD (f k) x 0) (sym e)
         (ap (λ (k : ℕ). getD (cat n f ++ f n) (k + x) 0) (sym len) ∙ getD-append-add (cat n f) (f n) x 0)
 
 -- where main segment i stands in a page
@@ -84,7 +85,7 @@ module _ (l : Layout) (I : Image) (ok : ContainerOk l I) where
   segment-own i x h e = rw e (segment-at i x h)
 
   pub segment-backup : (i j x : ℕ) → i < l .mains → j < l .backups → x < segmentSize l → stateOf I i ≡ 2 → backupToMain I j ≡ i
-    → getD (checkpointSegment l I line i) x 0 ≡ byteAt I (backupAt l j + x)
+      → getD (checkpointSegment l I line i) x 0 ≡ byteAt I (backupAt l j + x)
   unfolding checkpointSegment byState
   segment-backup i j x a b h e d = rw e (segment-at (l .mains + pairedBackup l (backupToMain I) i) x h
       ∙ ap (λ (k : ℕ). byteAt I (backupAt l k + x)) (paired-once l (backupToMain I) i (ok .valid) j b d a))
@@ -92,10 +93,11 @@ module _ (l : Layout) (I : Image) (ok : ContainerOk l I) where
   -- an accepted image recovers to its checkpoint
   pub checkpoint-holds : Holds l (stateOf I) (backupToMain I) (byteAt I) (contentsOf l (checkpointBytes l I line))
   checkpoint-holds = record {
-      valid = ok .valid;
-      initial = λ i x h k e. checkpoint-at i x h k ∙ segment-initial i x k e;
-      own = λ i x h k e. sym (checkpoint-at i x h k ∙ segment-own i x k e);
-      backup = λ i j x h m k e d. sym (checkpoint-at i x h k ∙ segment-backup i j x h m k e d) }
+    valid = ok .valid;
+    initial = λ i x h k e. checkpoint-at i x h k ∙ segment-initial i x k e;
+    own = λ i x h k e. sym (checkpoint-at i x h k ∙ segment-own i x k e);
+    backup = λ i j x h m k e d. sym (checkpoint-at i x h k ∙ segment-backup i j x h m k e d);
+  }
 
   -- and to no other contents
   holds-only : (P : Contents) → Holds l (stateOf I) (backupToMain I) (byteAt I) P → (i x : ℕ) → i < l .mains → x < segmentSize l → contentsOf l (checkpointBytes l I line) i x ≡ P i x
@@ -105,9 +107,9 @@ module _ (l : Layout) (I : Image) (ok : ContainerOk l I) where
       go zero e = segment-initial i x b e ∙ sym (h .initial i x a b e)
       go (suc zero) e = segment-own i x b e ∙ h .own i x a b e
       go (suc (suc n)) e =
-        let two : stateOf I i ≡ 2 = omega (arith, ok .valid .states i a) in
-        let k = ok .valid .kept i a two in
-        segment-backup i (k .0) x a (k .1) b two (k .2) ∙ h .backup i (k .0) x a (k .1) b two (k .2)
+          let two : stateOf I i ≡ 2 = omega (arith, ok .valid .states i a) in
+          let k = ok .valid .kept i a two in
+          segment-backup i (k .0) x a (k .1) b two (k .2) ∙ h .backup i (k .0) x a (k .1) b two (k .2)
 
   -- so a whole page that it recovers to is its checkpoint
   pub checkpoint-is : (Q : Page) → Whole l Q → Holds l (stateOf I) (backupToMain I) (byteAt I) (contentsOf l Q) → checkpointBytes l I line ≡ Q
@@ -115,13 +117,15 @@ module _ (l : Layout) (I : Image) (ok : ContainerOk l I) where
     where
       room : ℕ
       room = segmentSize l
+
       positive : 0 < room
       positive = omega (arith, ok .sizes .2)
+
       at : (k : ℕ) → k < room * l .mains → getD (checkpointBytes l I line) k 0 ≡ getD Q k 0
       at k q =
-        let e : 256 * (k / room * l .blocks) + k % room ≡ k = ap (λ (n : ℕ). n + k % room) (sym (page-place l (k / room))) ∙ div-add-mod' k room in
-        let m : k / room < l .mains = div-lt-iff-lt-mul positive .1 (subst (λ (n : ℕ). k < n) (mul-comm room (l .mains)) q) in
-        subst (λ (n : ℕ). getD (checkpointBytes l I line) n 0 ≡ getD Q n 0) e (holds-only (contentsOf l Q) h (k / room) (k % room) m (mod-lt k positive))
+          let e : 256 * (k / room * l .blocks) + k % room ≡ k = ap (λ (n : ℕ). n + k % room) (sym (page-place l (k / room))) ∙ div-add-mod' k room in
+          let m : k / room < l .mains = div-lt-iff-lt-mul positive .1 (subst (λ (n : ℕ). k < n) (mul-comm room (l .mains)) q) in
+          subst (λ (n : ℕ). getD (checkpointBytes l I line) n 0 ≡ getD Q n 0) e (holds-only (contentsOf l Q) h (k / room) (k % room) m (mod-lt k positive))
 
 -- ---- the reads
 
@@ -129,57 +133,58 @@ pub container-of : (l : Layout) (I : Image) (P : Contents) → Recoverable l I P
 container-of l I P r = record { sizes = r .fit .sizes; long = r .fit .long; header = r .fit .header; valid = r .holds .valid }
 
 module _ (l : Layout) (I : Image) (P W : Page) (wp : Whole l P) (ww : Whole l W) (r : Recoverable l I (contentsOf l P))
-  (working : (i x : ℕ) → i < l .mains → x < segmentSize l → byteAt I (mainAt l i + x) ≡ contentsOf l W i x) where
-
+    (working : (i x : ℕ) → i < l .mains → x < segmentSize l → byteAt I (mainAt l i + x) ≡ contentsOf l W i x) where
   served : (i b : ℕ) → i < l .mains → b < l .blocks → readStatus l I i b ≡ 0
   unfolding readStatus firstError
   served i b h k = container-passes l I ((6, leb (l .mains) i) ∷ (7, leb (l .blocks) b) ∷ []) (container-of l I (contentsOf l P) r) ∙ rw (lt-leb (l .mains) i h, lt-leb (l .blocks) b k)
 
   -- a block of the image, from a segment that holds the contents of a page
   block-is : (Q : Page) (k i b : ℕ) → Whole l Q → k < l .mains + l .backups → i < l .mains → b < l .blocks
-    → ((x : ℕ) → x < segmentSize l → byteAt I (segmentAt l k + x) ≡ contentsOf l Q i x) → partOf I (blockPart (segmentAt l k) b) ≡ pageBlock l Q i b
+      → ((x : ℕ) → x < segmentSize l → byteAt I (segmentAt l k + x) ≡ contentsOf l Q i x) → partOf I (blockPart (segmentAt l k) b) ≡ pageBlock l Q i b
   block-is Q k i b whole hk hi hb same =
       ext-getD 0 (take 256 (drop (segmentAt l k + 256 * b) I)) (take 256 (drop (pageAt l i b) Q)) (long ∙ sym long′)
-        (λ x h. let y : x < 256 = omega (arith, long) in
-          getD-take 256 (drop (segmentAt l k + 256 * b) I) x 0 y ∙ getD-drop (segmentAt l k + 256 * b) I x 0
-          ∙ ap (λ (n : ℕ). byteAt I n) (omega arith) ∙ same (256 * b + x) (omega arith) ∙ ap (λ (n : ℕ). getD Q n 0) (omega arith)
-          ∙ sym (getD-take 256 (drop (pageAt l i b) Q) x 0 y ∙ getD-drop (pageAt l i b) Q x 0))
+      (λ x h. let y : x < 256 = omega (arith, long) in
+      getD-take 256 (drop (segmentAt l k + 256 * b) I) x 0 y ∙ getD-drop (segmentAt l k + 256 * b) I x 0
+      ∙ ap (λ (n : ℕ). byteAt I n) (omega arith) ∙ same (256 * b + x) (omega arith) ∙ ap (λ (n : ℕ). getD Q n 0) (omega arith)
+      ∙ sym (getD-take 256 (drop (pageAt l i b) Q) x 0 y ∙ getD-drop (pageAt l i b) Q x 0))
     where
       long : length (take 256 (drop (segmentAt l k + 256 * b) I)) ≡ 256
       long = length-take-le 256 (drop (segmentAt l k + 256 * b) I)
-        (omega (arith, length-drop (segmentAt l k + 256 * b) I, r .fit .long, segment-in-image l k hk))
+          (omega (arith, length-drop (segmentAt l k + 256 * b) I, r .fit .long, segment-in-image l k hk))
+
       long′ : length (take 256 (drop (pageAt l i b) Q)) ≡ 256
       long′ = length-take-le 256 (drop (pageAt l i b) Q) (omega (arith, length-drop (pageAt l i b) Q, whole, block-inside l i b hi hb))
 
   zero-block : (i b : ℕ) → i < l .mains → b < l .blocks → stateOf I i ≡ 0 → pageBlock l P i b ≡ replicate 256 0
   zero-block i b hi hb e =
       ext-getD 0 (take 256 (drop (pageAt l i b) P)) (replicate 256 0) (long ∙ sym (length-replicate {A = ℕ} 256 0))
-        (λ x h. let y : x < 256 = omega (arith, long) in
-          getD-take 256 (drop (pageAt l i b) P) x 0 y ∙ getD-drop (pageAt l i b) P x 0
-          ∙ ap (λ (n : ℕ). getD P n 0) (omega arith) ∙ r .holds .initial i (256 * b + x) hi (omega arith) e ∙ sym (getD-replicate 256 x 0 0 y))
+      (λ x h. let y : x < 256 = omega (arith, long) in
+      getD-take 256 (drop (pageAt l i b) P) x 0 y ∙ getD-drop (pageAt l i b) P x 0
+      ∙ ap (λ (n : ℕ). getD P n 0) (omega arith) ∙ r .holds .initial i (256 * b + x) hi (omega arith) e ∙ sym (getD-replicate 256 x 0 0 y))
     where
       long : length (take 256 (drop (pageAt l i b) P)) ≡ 256
       long = length-take-le 256 (drop (pageAt l i b) P) (omega (arith, length-drop (pageAt l i b) P, wp, block-inside l i b hi hb))
 
   saved : (i b : ℕ) → i < l .mains → b < l .blocks → (checkpointBlock l I i b ≡ pageBlock l P i b)
-    ⊎ ((segState I (activeLine I) i ≡ 0) × (checkpointBlock l I i b ≡ []) × (pageBlock l P i b ≡ replicate 256 0))
+      ⊎ ((segState I (activeLine I) i ≡ 0) × (checkpointBlock l I i b ≡ []) × (pageBlock l P i b ≡ replicate 256 0))
   unfolding checkpointPart byState
   saved i b hi hb = go (stateOf I i) refl
     where
       go : (st : ℕ) → stateOf I i ≡ st → (checkpointBlock l I i b ≡ pageBlock l P i b)
-        ⊎ ((segState I (activeLine I) i ≡ 0) × (checkpointBlock l I i b ≡ []) × (pageBlock l P i b ≡ replicate 256 0))
+          ⊎ ((segState I (activeLine I) i ≡ 0) × (checkpointBlock l I i b ≡ []) × (pageBlock l P i b ≡ replicate 256 0))
       go zero e = inr (e, rw (served i b hi hb, e) refl, zero-block i b hi hb e)
       go (suc zero) e = inl (rw (served i b hi hb, e) (block-is P i i b wp (omega arith) hi hb (λ x k. r .holds .own i x hi k e)))
       go (suc (suc n)) e =
-        let two : stateOf I i ≡ 2 = omega (arith, r .holds .valid .states i hi) in
-        let k = r .holds .valid .kept i hi two in
-        let p = paired-at l (backupToMain I) i (paired-by l (backupToMain I) i (k .0) (k .1) (k .2)) in
-        inl (rw (served i b hi hb, e) (block-is P (l .mains + pairedBackup l (backupToMain I) i) i b wp (omega (arith, p .0)) hi hb
+          let two : stateOf I i ≡ 2 = omega (arith, r .holds .valid .states i hi) in
+          let k = r .holds .valid .kept i hi two in
+          let p = paired-at l (backupToMain I) i (paired-by l (backupToMain I) i (k .0) (k .1) (k .2)) in
+          inl (rw (served i b hi hb, e) (block-is P (l .mains + pairedBackup l (backupToMain I) i) i b wp (omega (arith, p .0)) hi hb
           (λ x y. r .holds .backup i (pairedBackup l (backupToMain I) i) x hi (p .0) y two (p .1))))
 
   -- the two reads give the two pages
   pub reads : Reads l I W P
   reads i b hi hb = record {
-      status = served i b hi hb;
-      working = unfold workingPart in (rw (served i b hi hb) (block-is W i i b ww (omega arith) hi hb (λ x k. working i x hi k)));
-      checkpoint = saved i b hi hb }
+    status = served i b hi hb;
+    working = unfold workingPart in (rw (served i b hi hb) (block-is W i i b ww (omega arith) hi hb (λ x k. working i x hi k)));
+    checkpoint = saved i b hi hb;
+  }

@@ -57,9 +57,9 @@ pub all-at : (n : ℕ) (P : ℕ → Bool) → allB n P ≡ true → (i : ℕ) �
 unfolding allB
 all-at zero P h i l = let z : ⊥ = omega arith in absurd z
 all-at (suc n) P h i l =
-    elim (decLt i n)
-    [ yes b ↦ all-at n P (and-left (allB n P) (P n) h) i b
-    | no b ↦ (let e : i ≡ n = omega arith in rw e (and-right (allB n P) (P n) h))
+    elim (decLt i n) [
+      | yes b ↦ all-at n P (and-left (allB n P) (P n) h) i b
+      | no b ↦ (let e : i ≡ n = omega arith in rw e (and-right (allB n P) (P n) h))
     ]
 
 pub all-from : (n : ℕ) (P : ℕ → Bool) → ((i : ℕ) → i < n → P i ≡ true) → allB n P ≡ true
@@ -71,9 +71,9 @@ pub any-at : (n : ℕ) (P : ℕ → Bool) (i : ℕ) → i < n → P i ≡ true �
 unfolding anyB
 any-at zero P i l e = let z : ⊥ = omega arith in absurd z
 any-at (suc n) P i l e =
-    elim (decLt i n)
-    [ yes b ↦ or-left (P n) (any-at n P i b e)
-    | no b ↦ (let q : i ≡ n = omega arith in or-right (anyB n P) (subst (λ (k : ℕ). P k ≡ true) q e))
+    elim (decLt i n) [
+      | yes b ↦ or-left (P n) (any-at n P i b e)
+      | no b ↦ (let q : i ≡ n = omega arith in or-right (anyB n P) (subst (λ (k : ℕ). P k ≡ true) q e))
     ]
 
 pub any-none : (n : ℕ) (P : ℕ → Bool) → anyB n P ≡ false → (i : ℕ) → i < n → P i ≡ false
@@ -99,9 +99,9 @@ first-some zero P h = absurd (true≢false (sym h))
 first-some (suc n) P h = go (anyB n P) (P n) refl refl (first-some n P)
   where
     go : (a b : Bool) → anyB n P ≡ a → P n ≡ b → (anyB n P ≡ true → (firstB n P < n) × (P (firstB n P) ≡ true))
-      → (orNext (firstB n P) n (P n) < suc n) × (P (orNext (firstB n P) n (P n)) ≡ true)
+        → (orNext (firstB n P) n (P n) < suc n) × (P (orNext (firstB n P) n (P n)) ≡ true)
     go true b e q ih = let x = ih e in rw (lt-ltb (firstB n P) n (x .0)) (omega arith, x .1)
     go false true e q ih =
-      let f : firstB n P ≡ n = first-none n P (λ k l. any-none n P e k l) in
-      rw (f, le-ltb n n (omega arith), q) (omega arith, q)
+        let f : firstB n P ≡ n = first-none n P (λ k l. any-none n P e k l) in
+        rw (f, le-ltb n n (omega arith), q) (omega arith, q)
     go false false e q ih = absurd (true≢false (sym h ∙ ap₂ (λ (x y : Bool). x || y) e q))

@@ -35,7 +35,7 @@ pub puts-copy : (l : Layout) (I : Image) (from to : ℕ) → Bytes I → Puts (c
 unfolding copySegment persistCopy
 puts-copy l I from to h =
     puts-blocks (l .blocks) to (λ m k. wordAt I (from + 256 * m + 8 * k)) (λ i. byteAt I (from + (i - to)))
-      (λ m k b x y z. byte-of-word (byteAt I) (from + 256 * m + 8 * k) b h z ∙ ap (λ (n : ℕ). byteAt I n) (omega arith))
+    (λ m k b x y z. byte-of-word (byteAt I) (from + 256 * m + 8 * k) b h z ∙ ap (λ (n : ℕ). byteAt I n) (omega arith))
 
 puts-zero : (l : Layout) (to : ℕ) → Puts (zeroSegment l to) to (segmentSize l) (λ i. 0)
 unfolding zeroSegment persistZero
@@ -62,9 +62,9 @@ flushed-zero l to ℓ h x y = flushed-blocks ℓ (l .blocks) to (λ m k. 0) h x 
 -- its turn writes the contents P into itself (and writes that back), or into its backup, or does nothing
 pub data Treated (l : Layout) (I : Image) (P : Contents) (i : ℕ) (O : Ops) : Type 0 where
   main : stateOf I i ≢ 1 → Puts O (mainAt l i) (segmentSize l) (λ k. P i (k - mainAt l i))
-    → ((ℓ : ℕ) → mainAt l i ≤ 64 * ℓ → 64 * ℓ < mainAt l i + segmentSize l → Flushed ℓ O) → Treated l I P i O
+      → ((ℓ : ℕ) → mainAt l i ≤ 64 * ℓ → 64 * ℓ < mainAt l i + segmentSize l → Flushed ℓ O) → Treated l I P i O
   backup : (j : ℕ) → j < l .backups → stateOf I i ≡ 1 → backupToMain I j ≡ i
-    → Puts O (backupAt l j) (segmentSize l) (λ k. P i (k - backupAt l j)) → Treated l I P i O
+      → Puts O (backupAt l j) (segmentSize l) (λ k. P i (k - backupAt l j)) → Treated l I P i O
   idle : stateOf I i ≡ 1 → ((j : ℕ) → j < l .backups → backupToMain I j ≢ i) → O ≡ [] → Treated l I P i O
 
 abbrev turn : Layout → Image → ℕ → Ops
@@ -77,6 +77,7 @@ neat-turn l I i = go (stateOf I i) (isPaired l (backupToMain I) i)
   where
     j : ℕ
     j = pairedBackup l (backupToMain I) i
+
     go : (st : ℕ) (b : Bool) → Neat (actionOps l I i j (recoveryAction st b))
     go zero true = unfold recoveryAction byState actionOps in neat-nil
     go (suc zero) true = unfold recoveryAction byState actionOps in neat-copy l I (mainAt l i) (backupAt l j) (omega arith)
@@ -92,22 +93,25 @@ module _ (l : Layout) (I : Image) (P : Contents) (r : Recoverable l I P) where
     where
       pr : ℕ → ℕ
       pr = backupToMain I
+
       j : ℕ
       j = pairedBackup l pr i
+
       v : Valid l (stateOf I) (backupToMain I)
       v = r .holds .valid
+
       go : (st : ℕ) (b : Bool) → stateOf I i ≡ st → isPaired l (backupToMain I) i ≡ b → Treated l I P i (actionOps l I i j (recoveryAction st b))
       go zero true e q = let k = paired-at l (backupToMain I) i q in absurd (v .bare i h e j (k .0) (k .1))
       go (suc zero) true e q = unfold recoveryAction byState actionOps in (let k = paired-at l (backupToMain I) i q in
-        backup j (k .0) e (k .1) (puts-as _ (puts-copy l I (mainAt l i) (backupAt l j) (r .fit .bytes)) (λ n x y. r .holds .own i (n - backupAt l j) h (omega arith) e)))
+          backup j (k .0) e (k .1) (puts-as _ (puts-copy l I (mainAt l i) (backupAt l j) (r .fit .bytes)) (λ n x y. r .holds .own i (n - backupAt l j) h (omega arith) e)))
       go (suc (suc n)) true e q = unfold recoveryAction byState actionOps in (let k = paired-at l (backupToMain I) i q in
-        let two : stateOf I i ≡ 2 = omega (arith, v .states i h) in
-        main (λ c. omega arith)
+          let two : stateOf I i ≡ 2 = omega (arith, v .states i h) in
+          main (λ c. omega arith)
           (puts-as _ (puts-copy l I (backupAt l j) (mainAt l i) (r .fit .bytes)) (λ n x y. r .holds .backup i j (n - mainAt l i) h (k .0) (omega arith) two (k .1)))
           (λ ℓ x y. flushed-copy l I (backupAt l j) (mainAt l i) ℓ (omega arith) x y))
       go zero false e q = unfold recoveryAction byState actionOps in (main (λ c. omega arith)
-        (puts-as _ (puts-zero l (mainAt l i)) (λ n x y. sym (r .holds .initial i (n - mainAt l i) h (omega arith) e)))
-        (λ ℓ x y. flushed-zero l (mainAt l i) ℓ (omega arith) x y))
+          (puts-as _ (puts-zero l (mainAt l i)) (λ n x y. sym (r .holds .initial i (n - mainAt l i) h (omega arith) e)))
+          (λ ℓ x y. flushed-zero l (mainAt l i) ℓ (omega arith) x y))
       go (suc zero) false e q = unfold recoveryAction byState actionOps in (idle e (λ k x. unpaired-none l (backupToMain I) i q k x) refl)
       go (suc (suc n)) false e q = let k = v .kept i h (omega (arith, v .states i h)) in absurd (unpaired-none l (backupToMain I) i q (k .0) (k .1) (k .2))
 
@@ -116,7 +120,7 @@ module _ (l : Layout) (I : Image) (P : Contents) (r : Recoverable l I P) where
     meta : k < 512 → Needed k
     own : (i : ℕ) → i < l .mains → stateOf I i ≡ 1 → mainAt l i ≤ k → k < mainAt l i + segmentSize l → Needed k
     kept : (i j : ℕ) → i < l .mains → j < l .backups → stateOf I i ≡ 2 → backupToMain I j ≡ i
-      → backupAt l j ≤ k → k < backupAt l j + segmentSize l → Needed k
+        → backupAt l j ≤ k → k < backupAt l j + segmentSize l → Needed k
 
   needed-clear : (i k : ℕ) (O : Ops) → i < l .mains → Needed k → Treated l I P i O → Clear k O
   needed-clear i k O h (meta x) (main a u f) = puts-clear u k (inl (omega arith))
@@ -132,7 +136,7 @@ module _ (l : Layout) (I : Image) (P : Contents) (r : Recoverable l I P) where
     where
       other : j ≡ t → ⊥
       other e = let g : i ≡ w = sym d ∙ ap (λ (n : ℕ). backupToMain I n) e ∙ c in
-        let g′ : stateOf I i ≡ stateOf I w = ap (λ (n : ℕ). stateOf I n) g in omega arith
+          let g′ : stateOf I i ≡ stateOf I w = ap (λ (n : ℕ). stateOf I n) g in omega arith
   needed-clear i k O h (kept w t m n q c x y) (idle a b e) = rw e tt
 
   abbrev E : Ops
@@ -148,7 +152,7 @@ module _ (l : Layout) (I : Image) (P : Contents) (r : Recoverable l I P) where
 
   -- after the turns of segments below n, a turn of segment i among them left f there if every other leaves that byte alone
   turns-leave : (k y i n : ℕ) → i < n → n ≤ l .mains → ((m : ℕ) → m < l .mains → m ≢ i → Clear k (turn l I m))
-    → ((J : Image) → length J ≡ length I → byteAt (replay (turn l I i) J) k ≡ y) → byteAt (replay (turns n) I) k ≡ y
+      → ((J : Image) → length J ≡ length I → byteAt (replay (turn l I i) J) k ≡ y) → byteAt (replay (turns n) I) k ≡ y
   unfolding cat
   turns-leave k y i zero h x others here = absurd (omega arith)
   turns-leave k y i (suc n) h x others here =
@@ -160,7 +164,7 @@ module _ (l : Layout) (I : Image) (P : Contents) (r : Recoverable l I P) where
       go ih (no e) = replay-clear (turn l I n) (replay (turns n) I) k (others n x e) ∙ ih (omega arith)
 
   recovery-leave : (k y i : ℕ) → i < l .mains → ((m : ℕ) → m < l .mains → m ≢ i → Clear k (turn l I m))
-    → ((J : Image) → length J ≡ length I → byteAt (replay (turn l I i) J) k ≡ y) → byteAt (replay E I) k ≡ y
+      → ((J : Image) → length J ≡ length I → byteAt (replay (turn l I i) J) k ≡ y) → byteAt (replay E I) k ≡ y
   unfolding recoveryOps
   recovery-leave k y i h others here =
       ap (λ (J : Image). byteAt J k) (replay-append (turns (l .mains)) (sfence ∷ []) I)
@@ -173,7 +177,7 @@ module _ (l : Layout) (I : Image) (P : Contents) (r : Recoverable l I P) where
   other-clear i m k O h ne x y (idle a b e) = rw e tt
 
   main-turn : (i k : ℕ) (O : Ops) (J : Image) → i < l .mains → length J ≡ length I → stateOf I i ≢ 1 → mainAt l i ≤ k → k < mainAt l i + segmentSize l
-    → Treated l I P i O → byteAt (replay O J) k ≡ P i (k - mainAt l i)
+      → Treated l I P i O → byteAt (replay O J) k ≡ P i (k - mainAt l i)
   main-turn i k O J h n ne x y (main a u f) = u .leaves J k (omega (arith, r .fit .long, segment-in-image l i (omega arith))) x y
   main-turn i k O J h n ne x y (backup j b a c u) = absurd (ne a)
   main-turn i k O J h n ne x y (idle a b e) = absurd (ne a)
@@ -184,45 +188,48 @@ module _ (l : Layout) (I : Image) (P : Contents) (r : Recoverable l I P) where
     where
       k : ℕ
       k = mainAt l i + x
+
       go : Dec (stateOf I i ≡ 1) → byteAt (replay E I) (mainAt l i + x) ≡ P i x
       go (yes e) = replay-clear E I k (recovery-clear k (own i h e (omega arith) (omega arith))) ∙ r .holds .own i x h b e
       go (no e) = recovery-leave k (P i x) i h
-        (λ m y ne. other-clear i m k _ h ne (omega arith) (omega arith) (treated m y))
-        (λ J n. main-turn i k _ J h n e (omega arith) (omega arith) (treated i h) ∙ ap (P i) (omega arith))
+          (λ m y ne. other-clear i m k _ h ne (omega arith) (omega arith) (treated m y))
+          (λ J n. main-turn i k _ J h n e (omega arith) (omega arith) (treated i h) ∙ ap (P i) (omega arith))
 
   -- the image after a crash, or after all: nothing that is needed differs
   alike-of : (H : Image) → length H ≡ length I → Bytes H → ((k : ℕ) → Needed k → byteAt H k ≡ byteAt I k) → Alike l I H
   alike-of H long small same = record {
-      long = long; bytes = small;
-      epochs = λ i h. same i (meta (omega arith));
-      header = λ i h k. same i (meta (omega arith));
-      states = λ i h. same (activeLine I + i) (meta (omega (arith, state-line-high (committedEpoch I))));
-      pairs = λ j h. same (256 + j) (meta (omega arith));
-      owns = λ i x h k e. same _ (own i h e (omega arith) (omega arith));
-      backups = λ i j x h m k e d. same _ (kept i j h m e d (omega arith) (omega arith)) }
+    long = long;
+    bytes = small;
+    epochs = λ i h. same i (meta (omega arith));
+    header = λ i h k. same i (meta (omega arith));
+    states = λ i h. same (activeLine I + i) (meta (omega (arith, state-line-high (committedEpoch I))));
+    pairs = λ j h. same (256 + j) (meta (omega arith));
+    owns = λ i x h k e. same _ (own i h e (omega arith) (omega arith));
+    backups = λ i j x h m k e d. same _ (kept i j h m e d (omega arith) (omega arith));
+  }
 
   -- CRASHED: what stands recovers to the same contents
   pub recovery-crash : (p : ℕ) (H : Image) → CrashImage I (take p E) H → Recoverable l H P
   recovery-crash p H c = recoverable-alike l I H P
       (alike-of H (c .long) (crash-bytes c (r .fit .bytes))
-        (λ k d. stage-clear k (c .lines (k / 64)) (each-take (Misses k) p E (recovery-clear k d)))) r
+      (λ k d. stage-clear k (c .lines (k / 64)) (each-take (Misses k) p E (recovery-clear k d)))) r
 
   -- the backup of a segment in state 1 shows the contents too
   backup-other : (i j m k : ℕ) (O : Ops) → m < l .mains → m ≢ i → backupToMain I j ≡ i
-    → backupAt l j ≤ k → k < backupAt l j + segmentSize l → Treated l I P m O → Clear k O
+      → backupAt l j ≤ k → k < backupAt l j + segmentSize l → Treated l I P m O → Clear k O
   backup-other i j m k O h ne q x y (main a u f) = puts-clear u k (apart l m (l .mains + j) k (omega arith) x y)
   backup-other i j m k O h ne q x y (backup t b a d u) =
       puts-clear u k (apart l (l .mains + t) (l .mains + j) k (λ w. ne (let g : t ≡ j = omega arith in sym d ∙ ap (λ (w : ℕ). backupToMain I w) g ∙ q)) x y)
   backup-other i j m k O h ne q x y (idle a b e) = rw e tt
 
   backup-turn : (i j k : ℕ) (O : Ops) (J : Image) → i < l .mains → j < l .backups → stateOf I i ≡ 1 → backupToMain I j ≡ i → length J ≡ length I
-    → backupAt l j ≤ k → k < backupAt l j + segmentSize l → Treated l I P i O → byteAt (replay O J) k ≡ P i (k - backupAt l j)
+      → backupAt l j ≤ k → k < backupAt l j + segmentSize l → Treated l I P i O → byteAt (replay O J) k ≡ P i (k - backupAt l j)
   backup-turn i j k O J h b e q n x y (main a u f) = absurd (a e)
   backup-turn i j k O J h b e q n x y (backup t c a d u) =
       let g : t ≡ j = r .holds .valid .once t j c b (omega arith) (d ∙ sym q) in
       subst (λ (w : ℕ). byteAt (replay O J) k ≡ P i (k - backupAt l w)) g
-        (u .leaves J k (omega (arith, r .fit .long, segment-in-image l (l .mains + t) (omega arith)))
-          (subst (λ (w : ℕ). backupAt l w ≤ k) (sym g) x) (subst (λ (w : ℕ). k < backupAt l w + segmentSize l) (sym g) y))
+      (u .leaves J k (omega (arith, r .fit .long, segment-in-image l (l .mains + t) (omega arith)))
+      (subst (λ (w : ℕ). backupAt l w ≤ k) (sym g) x) (subst (λ (w : ℕ). k < backupAt l w + segmentSize l) (sym g) y))
   backup-turn i j k O J h b e q n x y (idle a c d) = absurd (c j b q)
 
   backup-shows : (i j x : ℕ) → i < l .mains → j < l .backups → x < segmentSize l → backupToMain I j ≡ i → byteAt (replay E I) (backupAt l j + x) ≡ P i x
@@ -230,13 +237,14 @@ module _ (l : Layout) (I : Image) (P : Contents) (r : Recoverable l I P) where
     where
       k : ℕ
       k = backupAt l j + x
+
       go : (st : ℕ) → stateOf I i ≡ st → byteAt (replay E I) (backupAt l j + x) ≡ P i x
       go zero e = absurd (r .holds .valid .bare i h e j b q)
       go (suc zero) e = recovery-leave k (P i x) i h
-        (λ m y ne. backup-other i j m k _ y ne q (omega arith) (omega arith) (treated m y))
-        (λ J n. backup-turn i j k _ J h b e q n (omega arith) (omega arith) (treated i h) ∙ ap (P i) (omega arith))
+          (λ m y ne. backup-other i j m k _ y ne q (omega arith) (omega arith) (treated m y))
+          (λ J n. backup-turn i j k _ J h b e q n (omega arith) (omega arith) (treated i h) ∙ ap (P i) (omega arith))
       go (suc (suc n)) e = let two : stateOf I i ≡ 2 = omega (arith, r .holds .valid .states i h) in
-        replay-clear E I k (recovery-clear k (kept i j h b two q (omega arith) (omega arith))) ∙ r .holds .backup i j x h b c two q
+          replay-clear E I k (recovery-clear k (kept i j h b two q (omega arith) (omega arith))) ∙ r .holds .backup i j x h b c two q
 
   -- a segment that does not hold its checkpoint itself is written back whole
   main-flushed : (i ℓ : ℕ) (O : Ops) → stateOf I i ≢ 1 → mainAt l i ≤ 64 * ℓ → 64 * ℓ < mainAt l i + segmentSize l → Treated l I P i O → Flushed ℓ O
@@ -253,20 +261,21 @@ module _ (l : Layout) (I : Image) (P : Contents) (r : Recoverable l I P) where
 
   -- the invariant after an opening whose lines are settled
   pub opened : (O : Ops) → ((i : ℕ) → i < 512 → Settled (i / 64) O)
-    → ((i x : ℕ) → i < l .mains → x < segmentSize l → Settled ((mainAt l i + x) / 64) O)
-    → ((j x : ℕ) → j < l .backups → x < segmentSize l → Settled ((backupAt l j + x) / 64) O)
-    → Invariant l O (replay E I) (freshSession l) P P
+      → ((i x : ℕ) → i < l .mains → x < segmentSize l → Settled ((mainAt l i + x) / 64) O)
+      → ((j x : ℕ) → j < l .backups → x < segmentSize l → Settled ((backupAt l j + x) / 64) O)
+      → Invariant l O (replay E I) (freshSession l) P P
   opened O firm-meta firm-segment firm-backup = record {
-      recovers = recoverable-alike l I (replay E I) P alike-opened r;
-      working = recovery-shows;
-      low = λ i e. absurd (true≢false (sym e ∙ fresh-segment l i));
-      moved = λ i e. absurd (true≢false (sym e ∙ fresh-segment l i));
-      clean = λ i x h k e. refl;
-      twin = λ i j x h m k e d. backup-shows i j x h m k (sym (alike-opened .pairs j (omega (arith, r .fit .sizes .1))) ∙ e) ∙ sym (recovery-shows i x h k);
-      firmMeta = firm-meta;
-      firmOwn = λ i x h k e. firm-segment i x h k;
-      firmClean = λ i x h k m. firm-segment i x h k;
-      firmBackup = firm-backup }
+    recovers = recoverable-alike l I (replay E I) P alike-opened r;
+    working = recovery-shows;
+    low = λ i e. absurd (true≢false (sym e ∙ fresh-segment l i));
+    moved = λ i e. absurd (true≢false (sym e ∙ fresh-segment l i));
+    clean = λ i x h k e. refl;
+    twin = λ i j x h m k e d. backup-shows i j x h m k (sym (alike-opened .pairs j (omega (arith, r .fit .sizes .1))) ∙ e) ∙ sym (recovery-shows i x h k);
+    firmMeta = firm-meta;
+    firmOwn = λ i x h k e. firm-segment i x h k;
+    firmClean = λ i x h k m. firm-segment i x h k;
+    firmBackup = firm-backup;
+  }
 
   -- the start of a history: all is durable
   pub opened-durable : Invariant l [] (replay E I) (freshSession l) P P
@@ -302,13 +311,14 @@ module _ (l : Layout) (O : Ops) (I₀ : Image) (s : Session) (P W : Contents) (h
   pub reopen-crash : (p : ℕ) (H : Image) → CrashImage I₀ (O ++ take p G) H → Recoverable l H P
   reopen-crash p H c = recoverable-alike l I H P
       (alike-of l I P rec H (c .long ∙ sym (length-replay O I₀)) (crash-bytes c held)
-        (λ k d. crash-byte I₀ H O (take p G) k (firm-needed k d) (each-take (Misses k) p G (recovery-clear l I P rec k d)) (c .lines (k / 64)))) rec
+      (λ k d. crash-byte I₀ H O (take p G) k (firm-needed k d) (each-take (Misses k) p G (recovery-clear l I P rec k d)) (c .lines (k / 64)))) rec
 
   firm-main : (i x : ℕ) → i < l .mains → x < segmentSize l → Settled ((mainAt l i + x) / 64) (O ++ G)
   firm-main i x h k = go (ℕ-discrete (stateOf I i) 1)
     where
       ℓ : ℕ
       ℓ = (mainAt l i + x) / 64
+
       go : Dec (stateOf I i ≡ 1) → Settled ((mainAt l i + x) / 64) (O ++ G)
       go (yes e) = recovery-keeps l I ℓ O (inv .firmOwn i x h k e)
       go (no e) = unfold recoveryOps in (settles-fence ℓ (cat (l .mains) (turn l I)) (turns-flushed l I P rec i ℓ h e (omega arith) (omega arith)) O)

@@ -30,9 +30,10 @@ puts-clear {O} w i (inr h) = each-mono _ (Misses i) (λ p q x y. omega arith) O 
 pub puts-append : (O E : Ops) (a n b m t : ℕ) (f : ℕ → ℕ) → Puts O a n f → Puts E b m f → b ≡ a + n → t ≡ n + m → Puts (O ++ E) a t f
 puts-append O E a n b m t f u v bn tn = record {
   inside = each-append _ O E
-    (each-mono _ (λ p. (a ≤ p) × (p + 8 ≤ a + t)) (λ p x. omega arith) O (u .inside))
-    (each-mono _ (λ p. (a ≤ p) × (p + 8 ≤ a + t)) (λ p x. omega arith) E (v .inside));
-  leaves = λ J i l x y. ap (λ (K : Image). byteAt K i) (replay-append O E J) ∙ go J i l x y (decLt i b) }
+      (each-mono _ (λ p. (a ≤ p) × (p + 8 ≤ a + t)) (λ p x. omega arith) O (u .inside))
+      (each-mono _ (λ p. (a ≤ p) × (p + 8 ≤ a + t)) (λ p x. omega arith) E (v .inside));
+  leaves = λ J i l x y. ap (λ (K : Image). byteAt K i) (replay-append O E J) ∙ go J i l x y (decLt i b);
+}
   where
     go : (J : Image) (i : ℕ) → a + t ≤ length J → a ≤ i → i < a + t → Dec (i < b) → byteAt (replay E (replay O J)) i ≡ f i
     go J i l x y (yes d) = replay-clear E (replay O J) i (puts-clear v i (inl d)) ∙ u .leaves J i (omega arith) x (omega arith)
@@ -50,10 +51,11 @@ unfolding replay apply storeWord
 puts-store p v f h = record {
   inside = (omega arith, tt);
   leaves = λ J i l x y.
-    let e : p + (i - p) ≡ i = omega arith in
-    let n : length (bytesOf 8 v) ≡ 8 = length-bytesOf 8 v in
-    subst (λ (j : ℕ). byteAt (storeWord J p v) j ≡ f j) e
-      (sets-at (bytesOf 8 v) J p (i - p) (omega arith) (omega arith) ∙ h (i - p) (omega arith)) }
+      let e : p + (i - p) ≡ i = omega arith in
+      let n : length (bytesOf 8 v) ≡ 8 = length-bytesOf 8 v in
+      subst (λ (j : ℕ). byteAt (storeWord J p v) j ≡ f j) e
+      (sets-at (bytesOf 8 v) J p (i - p) (omega arith) (omega arith) ∙ h (i - p) (omega arith));
+}
 
 -- another function that agrees
 pub puts-as : {O : Ops} {a n : ℕ} {f : ℕ → ℕ} (g : ℕ → ℕ) → Puts O a n f → ((i : ℕ) → a ≤ i → i < a + n → f i ≡ g i) → Puts O a n g
@@ -65,7 +67,7 @@ unfolding cat
 puts-cat zero c a g f h = subst (λ (m : ℕ). Puts [] a m f) (sym (mul-zero c)) (puts-none [] a f tt)
 puts-cat (suc n) c a g f h =
     puts-append (cat n g) (g n) a (c * n) (a + c * n) c (c * suc n) f
-      (puts-cat n c a g f (λ k l. h k (omega arith))) (h n (omega arith)) refl (mul-suc c n ∙ omega arith)
+    (puts-cat n c a g f (λ k l. h k (omega arith))) (h n (omega arith)) refl (mul-suc c n ∙ omega arith)
 
 pub puts-stores : (n a : ℕ) (w f : ℕ → ℕ) → ((k b : ℕ) → k < n → b < 8 → getD (bytesOf 8 (w k)) b 0 ≡ f (a + 8 * k + b)) → Puts (stores n a w) a (8 * n) f
 unfolding stores
@@ -86,7 +88,7 @@ puts-block a w f h = puts-then (stores 32 a w) (clwbs 4 a) a 256 f (puts-stores 
 
 -- n blocks from a on
 pub puts-blocks : (n a : ℕ) (w : ℕ → ℕ → ℕ) (f : ℕ → ℕ)
-  → ((m k b : ℕ) → m < n → k < 32 → b < 8 → getD (bytesOf 8 (w m k)) b 0 ≡ f (a + 256 * m + 8 * k + b)) → Puts (cat n (λ m. putBlock (a + 256 * m) (w m))) a (256 * n) f
+    → ((m k b : ℕ) → m < n → k < 32 → b < 8 → getD (bytesOf 8 (w m k)) b 0 ≡ f (a + 256 * m + 8 * k + b)) → Puts (cat n (λ m. putBlock (a + 256 * m) (w m))) a (256 * n) f
 puts-blocks n a w f h = puts-cat n 256 a _ f (λ m l. puts-block (a + 256 * m) (w m) f (λ k b x y. h m k b l x y))
 
 -- what words leave where they are stored, whatever they are
@@ -95,10 +97,13 @@ filled a w i = getD (bytesOf 8 (w ((i - a) / 8))) ((i - a) % 8) 0
 
 pub fill-block : (a : ℕ) (w : ℕ → ℕ) → (f : ℕ → ℕ) × Puts (putBlock a w) a 256 f
 unfolding filled
-fill-block a w = (filled a w, puts-block a w (filled a w) (λ k b x y.
-    let e : (a + 8 * k + b - a) / 8 ≡ k = omega arith in
-    let r : (a + 8 * k + b - a) % 8 ≡ b = omega arith in
-    rw (e, r)))
+fill-block a w = (
+  filled a w,
+  puts-block a w (filled a w) (λ k b x y.
+      let e : (a + 8 * k + b - a) / 8 ≡ k = omega arith in
+      let r : (a + 8 * k + b - a) % 8 ≡ b = omega arith in
+      rw (e, r)),
+)
 
 -- a run of whole lines stores into no other line
 pub puts-off : {O : Ops} {a n : ℕ} {f : ℕ → ℕ} → Puts O a n f → (ℓ : ℕ) → a % 64 ≡ 0 → n % 64 ≡ 0 → (64 * ℓ < a) ⊎ (a + n ≤ 64 * ℓ) → Off ℓ O
@@ -150,7 +155,7 @@ unfolding clwbs
 flushed-clwbs ℓ n a h x y =
     let e : (a + 64 * (ℓ - a / 64)) / 64 ≡ ℓ = omega arith in
     flushed-cat ℓ n _ (λ k l. neat-none _ (λ Q. tt)) (ℓ - a / 64) (omega arith)
-      (subst (λ (m : ℕ). Flushed m (clwb (a + 64 * (ℓ - a / 64)) ∷ [])) e (flushed-clwb (a + 64 * (ℓ - a / 64))))
+    (subst (λ (m : ℕ). Flushed m (clwb (a + 64 * (ℓ - a / 64)) ∷ [])) e (flushed-clwb (a + 64 * (ℓ - a / 64))))
 
 flushed-block : (ℓ a : ℕ) (w : ℕ → ℕ) → a % 64 ≡ 0 → a ≤ 64 * ℓ → 64 * ℓ < a + 256 → Flushed ℓ (putBlock a w)
 unfolding putBlock
@@ -170,7 +175,7 @@ neat-blocks n a w h = neat-cat n _ (λ m l. neat-block (a + 256 * m) (w m) (omeg
 pub flushed-blocks : (ℓ n a : ℕ) (w : ℕ → ℕ → ℕ) → a % 64 ≡ 0 → a ≤ 64 * ℓ → 64 * ℓ < a + 256 * n → Flushed ℓ (cat n (λ m. putBlock (a + 256 * m) (w m)))
 flushed-blocks ℓ n a w h x y =
     flushed-cat ℓ n _ (λ m l. neat-block (a + 256 * m) (w m) (omega arith)) ((64 * ℓ - a) / 256) (omega arith)
-      (flushed-block ℓ (a + 256 * ((64 * ℓ - a) / 256)) (w ((64 * ℓ - a) / 256)) (omega arith) (omega arith) (omega arith))
+    (flushed-block ℓ (a + 256 * ((64 * ℓ - a) / 256)) (w ((64 * ℓ - a) / 256)) (omega arith) (omega arith) (omega arith))
 
 -- a neat run and a fence leave every settled line settled
 pub neat-keeps : (X : Ops) → Neat X → (ℓ : ℕ) → Keeps ℓ (X ++ sfence ∷ [])

@@ -56,14 +56,16 @@ local-crash ℓ I H O E settled s = go (decLe (length O) (s .k))
       k = s .k - length O;
       within = omega (arith, length-append O E, s .within);
       durable = durable-back ℓ O E (s .k) (s .durable);
-      agree = λ i e. s .agree i e ∙ ap (λ (J : Image). byteAt J i) (replay-past (s .k) O E I h) }
+      agree = λ i e. s .agree i e ∙ ap (λ (J : Image). byteAt J i) (replay-past (s .k) O E I h);
+    }
     go (no h) = record {
       k = 0;
       within = omega arith;
       durable = λ A C D p l e. omega (arith, durable-back ℓ O E (s .k) (s .durable) A C D p l e);
       agree = λ i e. s .agree i e
-        ∙ ap (λ (X : Ops). byteAt (replay X I) i) (take-append-le (s .k) O E (omega arith))
-        ∙ settled I (s .k) (omega arith) (durable-front ℓ O E (s .k) (s .durable)) i e }
+          ∙ ap (λ (X : Ops). byteAt (replay X I) i) (take-append-le (s .k) O E (omega arith))
+          ∙ settled I (s .k) (omega arith) (durable-front ℓ O E (s .k) (s .durable)) i e;
+    }
 
 -- laws of settled lines
 pub settled-off : (ℓ : ℕ) (O : Ops) → Off ℓ O → Settled ℓ O
@@ -75,11 +77,12 @@ settled-more ℓ O E s c I k h durable i e = go (decLe (length O) k)
   where
     last : byteAt (replay O I) i ≡ byteAt (replay (O ++ E) I) i
     last = sym (ap (λ (J : Image). byteAt J i) (replay-append O E I) ∙ replay-clear E (replay O I) i (c i e))
+
     go : Dec (length O ≤ k) → byteAt (replay (take k (O ++ E)) I) i ≡ byteAt (replay (O ++ E) I) i
     go (yes d) = ap (λ (J : Image). byteAt J i) (replay-past k O E I d)
-      ∙ replay-clear (take (k - length O) E) (replay O I) i (each-take (Misses i) (k - length O) E (c i e)) ∙ last
+        ∙ replay-clear (take (k - length O) E) (replay O I) i (each-take (Misses i) (k - length O) E (c i e)) ∙ last
     go (no d) = ap (λ (X : Ops). byteAt (replay X I) i) (take-append-le k O E (omega arith))
-      ∙ s I k (omega arith) (durable-front ℓ O E k durable) i e ∙ last
+        ∙ s I k (omega arith) (durable-front ℓ O E k durable) i e ∙ last
 
 -- after a clwb and a later sfence, with no store into the line since
 pub settled-fence : (ℓ : ℕ) (A C : Ops) (p : ℕ) → p / 64 ≡ ℓ → Off ℓ C → Settled ℓ (A ++ (clwb p ∷ C ++ sfence ∷ []))
@@ -99,16 +102,17 @@ stage-one ℓ I H A C p w a c s = go (decLe (s .k) (length A)) (s .k - length A)
   where
     before : (i : ℕ) → i / 64 ≡ ℓ → (X : Ops) → Clear i X → (J : Image) → byteAt (replay X J) i ≡ byteAt J i
     before i e X x J = replay-clear X J i x
+
     go : Dec (s .k ≤ length A) → (m : ℕ) → s .k - length A ≡ m → AgreeOn ℓ H I ⊎ AgreeOn ℓ H (apply (store p w) I)
     go (yes d) m q = inl (λ i e. s .agree i e
-      ∙ ap (λ (X : Ops). byteAt (replay X I) i) (take-append-le (s .k) A (store p w ∷ C) d)
-      ∙ replay-clear (take (s .k) A) I i (each-take (Misses i) (s .k) A (a i e)))
+        ∙ ap (λ (X : Ops). byteAt (replay X I) i) (take-append-le (s .k) A (store p w ∷ C) d)
+        ∙ replay-clear (take (s .k) A) I i (each-take (Misses i) (s .k) A (a i e)))
     go (no d) zero q = absurd (omega arith)
     go (no d) (suc m) q = inr (λ i e. s .agree i e
-      ∙ ap (λ (J : Image). byteAt J i) (replay-past (s .k) A (store p w ∷ C) I (omega arith))
-      ∙ ap (λ (n : ℕ). byteAt (replay (take n (store p w ∷ C)) (replay A I)) i) q
-      ∙ replay-clear (take m C) (apply (store p w) (replay A I)) i (each-take (Misses i) m C (c i e))
-      ∙ apply-cong (store p w) (replay A I) I i (length-replay A I) (replay-clear A I i (a i e)))
+        ∙ ap (λ (J : Image). byteAt J i) (replay-past (s .k) A (store p w ∷ C) I (omega arith))
+        ∙ ap (λ (n : ℕ). byteAt (replay (take n (store p w ∷ C)) (replay A I)) i) q
+        ∙ replay-clear (take m C) (apply (store p w) (replay A I)) i (each-take (Misses i) m C (c i e))
+        ∙ apply-cong (store p w) (replay A I) I i (length-replay A I) (replay-clear A I i (a i e)))
 
 -- the last thing that O does to line ℓ is to clwb it
 pub record Flushed (ℓ : ℕ) (O : Ops) : Type 0 where
@@ -123,17 +127,29 @@ pub off-append : (ℓ : ℕ) (O E : Ops) → Off ℓ O → Off ℓ E → Off ℓ
 off-append ℓ O E h k i e = each-append (Misses i) O E (h i e) (k i e)
 
 pub flushed-more : (ℓ : ℕ) (O E : Ops) → Flushed ℓ O → Off ℓ E → Flushed ℓ (O ++ E)
-flushed-more ℓ O E f h = record { A = f .A; C = f .C ++ E; p = f .p; place = f .place; off = off-append ℓ (f .C) E (f .off) h;
-  is = rw (f .is) (append-assoc (f .A) (clwb (f .p) ∷ f .C) E) }
+flushed-more ℓ O E f h = record {
+  A = f .A;
+  C = f .C ++ E;
+  p = f .p;
+  place = f .place;
+  off = off-append ℓ (f .C) E (f .off) h;
+  is = rw (f .is) (append-assoc (f .A) (clwb (f .p) ∷ f .C) E);
+}
 
 pub flushed-after : (ℓ : ℕ) (O E : Ops) → Flushed ℓ E → Flushed ℓ (O ++ E)
-flushed-after ℓ O E f = record { A = O ++ f .A; C = f .C; p = f .p; place = f .place; off = f .off;
-  is = rw (f .is) (sym (append-assoc O (f .A) (clwb (f .p) ∷ f .C))) }
+flushed-after ℓ O E f = record {
+  A = O ++ f .A;
+  C = f .C;
+  p = f .p;
+  place = f .place;
+  off = f .off;
+  is = rw (f .is) (sym (append-assoc O (f .A) (clwb (f .p) ∷ f .C)));
+}
 
 pub settled-flushed : (ℓ : ℕ) (O : Ops) → Flushed ℓ O → Settled ℓ (O ++ sfence ∷ [])
 settled-flushed ℓ O f =
     subst (λ (X : Ops). Settled ℓ X) (sym (ap (λ (X : Ops). X ++ sfence ∷ []) (f .is) ∙ append-assoc (f .A) (clwb (f .p) ∷ f .C) (sfence ∷ [])))
-      (settled-fence ℓ (f .A) (f .C) (f .p) (f .place) (f .off))
+    (settled-fence ℓ (f .A) (f .C) (f .p) (f .place) (f .off))
 
 pub crash-bytes : {I H : Image} {O : Ops} → CrashImage I O H → ((i : ℕ) → byteAt I i < 256) → (i : ℕ) → byteAt H i < 256
 crash-bytes {I} {H} {O} c h i =
@@ -168,10 +184,13 @@ settles-fence ℓ X f O = subst (λ (Y : Ops). Settled ℓ Y) (append-assoc O X 
 
 -- a cut in A ++ B is a cut in A, or one in B after A
 pub crash-seq : (I H : Image) (O A B : Ops) (n : ℕ) → CrashImage I (O ++ take n (A ++ B)) H
-  → ((n ≤ length A) × CrashImage I (O ++ take n A) H) ⊎ ((length A ≤ n) × CrashImage I ((O ++ A) ++ take (n - length A) B) H)
+    → ((n ≤ length A) × CrashImage I (O ++ take n A) H) ⊎ ((length A ≤ n) × CrashImage I ((O ++ A) ++ take (n - length A) B) H)
 crash-seq I H O A B n c = go (decLe n (length A))
   where
     go : Dec (n ≤ length A) → ((n ≤ length A) × CrashImage I (O ++ take n A) H) ⊎ ((length A ≤ n) × CrashImage I ((O ++ A) ++ take (n - length A) B) H)
     go (yes d) = inl (d, subst (λ (X : Ops). CrashImage I (O ++ X) H) (take-append-le n A B d) c)
-    go (no d) = inr (omega arith, subst (λ (X : Ops). CrashImage I X H)
-      (ap (λ (X : Ops). O ++ X) (take-past n A B (omega arith)) ∙ sym (append-assoc O A (take (n - length A) B))) c)
+    go (no d) = inr (
+      omega arith,
+      subst (λ (X : Ops). CrashImage I X H)
+          (ap (λ (X : Ops). O ++ X) (take-past n A B (omega arith)) ∙ sym (append-assoc O A (take (n - length A) B))) c,
+    )

@@ -47,21 +47,22 @@ module _ (s : Session) (i b : ℕ) where
     where
       m : ℕ
       m = dirtyWord s i
+
       go : Dec (u ≡ i) → Dec (k ≡ b) → (dirtyBlock s u k ≡ false) × (u ≡ i → k ≢ b)
       go (no q) d = (sym (dirty-block-other s i b m u q k) ∙ e, λ x. absurd (q x))
       go (yes q) (yes r) = absurd (true≢false (sym (dirty-block-same s i b m h)
-        ∙ subst (λ (n : ℕ). dirtyBlock (marked s i b) i n ≡ false) r (subst (λ (n : ℕ). dirtyBlock (marked s i b) n k ≡ false) q e)))
-      go (yes q) (no r) =
-        (subst (λ (n : ℕ). dirtyBlock s n k ≡ false) (sym q)
-          (unfold dirtyBlock in (sym (dirty-block-rest s i b m h k r) ∙ subst (λ (n : ℕ). dirtyBlock (marked s i b) n k ≡ false) q e)),
-         λ x. r)
+          ∙ subst (λ (n : ℕ). dirtyBlock (marked s i b) i n ≡ false) r (subst (λ (n : ℕ). dirtyBlock (marked s i b) n k ≡ false) q e)))
+      go (yes q) (no r) = (
+        subst (λ (n : ℕ). dirtyBlock s n k ≡ false) (sym q)
+            (unfold dirtyBlock in (sym (dirty-block-rest s i b m h k r) ∙ subst (λ (n : ℕ). dirtyBlock (marked s i b) n k ≡ false) q e)),
+        λ x. r,
+      )
 
 -- ---- stores E into block b of main segment i, leaving g in a stretch of it
 
 module _ (l : Layout) (O : Ops) (I₀ : Image) (s : Session) (P W : Contents) (held : Bytes I₀) (inv : Invariant l O (replay O I₀) s P W)
-  (i b : ℕ) (hi : i < l .mains) (hb : b < l .blocks) (ne : stateOf (replay O I₀) i ≢ 1)
-  (E : Ops) (a n : ℕ) (g : ℕ → ℕ) (puts : Puts E a n g) (from : mainAt l i + 256 * b ≤ a) (upto : a + n ≤ mainAt l i + 256 * b + 256) where
-
+    (i b : ℕ) (hi : i < l .mains) (hb : b < l .blocks) (ne : stateOf (replay O I₀) i ≢ 1)
+    (E : Ops) (a n : ℕ) (g : ℕ → ℕ) (puts : Puts E a n g) (from : mainAt l i + 256 * b ≤ a) (upto : a + n ≤ mainAt l i + 256 * b + 256) where
   abbrev I : Image
   I = replay O I₀
 
@@ -110,13 +111,15 @@ module _ (l : Layout) (O : Ops) (I₀ : Image) (s : Session) (P W : Contents) (h
 
   span-alike : (H : Image) → length H ≡ length I → Bytes H → ((k : ℕ) → Beyond k → Settled (k / 64) O → byteAt H k ≡ byteAt I k) → Alike l I H
   span-alike H long small same = record {
-      long = long; bytes = small;
-      epochs = λ k h. low k (omega arith);
-      header = λ k h x. low k (omega arith);
-      states = λ u h. low (activeLine I + u) (omega (arith, state-line-high (committedEpoch I)));
-      pairs = λ j h. low (256 + j) (omega arith);
-      owns = λ u x h k e. same (mainAt l u + x) (beyond-segment u x k (λ q. ne (subst (λ (w : ℕ). stateOf I w ≡ 1) q e))) (inv .firmOwn u x h k e);
-      backups = λ u j x h m k e d. same _ (beyond-backup j x k) (inv .firmBackup j x m k) }
+    long = long;
+    bytes = small;
+    epochs = λ k h. low k (omega arith);
+    header = λ k h x. low k (omega arith);
+    states = λ u h. low (activeLine I + u) (omega (arith, state-line-high (committedEpoch I)));
+    pairs = λ j h. low (256 + j) (omega arith);
+    owns = λ u x h k e. same (mainAt l u + x) (beyond-segment u x k (λ q. ne (subst (λ (w : ℕ). stateOf I w ≡ 1) q e))) (inv .firmOwn u x h k e);
+    backups = λ u j x h m k e d. same _ (beyond-backup j x k) (inv .firmBackup j x m k);
+  }
     where
       low : (k : ℕ) → k < 512 → byteAt H k ≡ byteAt I k
       low k h = same k (beyond-meta k h) (inv .firmMeta k h)
@@ -125,13 +128,12 @@ module _ (l : Layout) (O : Ops) (I₀ : Image) (s : Session) (P W : Contents) (h
   pub span-crash : (p : ℕ) (H : Image) → CrashImage I₀ (O ++ take p E) H → Recoverable l H P
   span-crash p H c = recoverable-alike l I H P
       (span-alike H (c .long ∙ sym (length-replay O I₀)) (crash-bytes c held)
-        (λ k q t. crash-byte I₀ H O (take p E) k t (each-take (Misses k) p E (beyond-clear k q)) (c .lines (k / 64))))
+      (λ k q t. crash-byte I₀ H O (take p E) k t (each-take (Misses k) p E (beyond-clear k q)) (c .lines (k / 64))))
       (inv .recovers)
 
   module _ (len : i < length (s .«dirty_blocks»)) (W′ : Contents)
-    (outside : (u x : ℕ) → u < l .mains → x < segmentSize l → (mainAt l u + x < a) ⊎ (a + n ≤ mainAt l u + x) → W′ u x ≡ W u x)
-    (inside : (u x : ℕ) → u < l .mains → x < segmentSize l → a ≤ mainAt l u + x → mainAt l u + x < a + n → g (mainAt l u + x) ≡ W′ u x) where
-
+      (outside : (u x : ℕ) → u < l .mains → x < segmentSize l → (mainAt l u + x < a) ⊎ (a + n ≤ mainAt l u + x) → W′ u x ≡ W u x)
+      (inside : (u x : ℕ) → u < l .mains → x < segmentSize l → a ≤ mainAt l u + x → mainAt l u + x < a + n → g (mainAt l u + x) ≡ W′ u x) where
     abbrev K : Image
     K = replay (O ++ E) I₀
 
@@ -148,9 +150,9 @@ module _ (l : Layout) (O : Ops) (I₀ : Image) (s : Session) (P W : Contents) (h
         go (yes y) t = kept _ (puts-clear puts _ (inl y)) ∙ inv .working u x h k ∙ sym (outside u x h k (inl y))
         go (no y) (no t) = kept _ (puts-clear puts _ (inr (omega arith))) ∙ inv .working u x h k ∙ sym (outside u x h k (inr (omega arith)))
         go (no y) (yes t) =
-          ap (λ (J : Image). byteAt J (mainAt l u + x)) (replay-append O E I₀)
-          ∙ puts .leaves I (mainAt l u + x) (omega (arith, inv .recovers .fit .long, segment-in-image l i (omega arith))) (omega arith) t
-          ∙ inside u x h k (omega arith) t
+            ap (λ (J : Image). byteAt J (mainAt l u + x)) (replay-append O E I₀)
+            ∙ puts .leaves I (mainAt l u + x) (omega (arith, inv .recovers .fit .long, segment-in-image l i (omega arith))) (omega arith) t
+            ∙ inside u x h k (omega arith) t
 
     settle : (m : ℕ) → Beyond m → Settled (m / 64) O → Settled (m / 64) (O ++ E)
     settle m q t = settled-more (m / 64) O E t (beyond-off m q)
@@ -181,19 +183,20 @@ module _ (l : Layout) (O : Ops) (I₀ : Image) (s : Session) (P W : Contents) (h
     -- PLAYED WHOLE: the working contents become W′
     pub span-done : Invariant l (O ++ E) K (marked s i b) P W′
     span-done = record {
-        recovers = recoverable-alike l I K P alike (inv .recovers);
-        working = worked;
-        low = below;
-        moved = not-main;
-        clean = λ u x h k e. let y = marked-clean s i b u e in other-same u x h k (y .0) ∙ inv .clean u x h k (y .1);
-        twin = λ u j x h m k e d. let y = marked-block s i b len u (x / 256) d in
+      recovers = recoverable-alike l I K P alike (inv .recovers);
+      working = worked;
+      low = below;
+      moved = not-main;
+      clean = λ u x h k e. let y = marked-clean s i b u e in other-same u x h k (y .0) ∙ inv .clean u x h k (y .1);
+      twin = λ u j x h m k e d. let y = marked-block s i b len u (x / 256) d in
           kept _ (beyond-clear _ (beyond-backup j x k))
           ∙ inv .twin u j x h m k (sym (alike .pairs j (omega (arith, inv .recovers .fit .sizes .1))) ∙ e) (y .0)
           ∙ sym (kept _ (beyond-clear _ (beyond-other u x k (y .1))));
-        firmMeta = λ k h. settle k (beyond-meta k h) (inv .firmMeta k h);
-        firmOwn = λ u x h k e. settle _ (beyond-segment u x k (not-own u h e)) (inv .firmOwn u x h k (sym (st u h) ∙ e));
-        firmClean = λ u x h k d. let y = marked-block s i b len u (x / 256) d in settle _ (beyond-other u x k (y .1)) (inv .firmClean u x h k (y .0));
-        firmBackup = λ j x h k. settle _ (beyond-backup j x k) (inv .firmBackup j x h k) }
+      firmMeta = λ k h. settle k (beyond-meta k h) (inv .firmMeta k h);
+      firmOwn = λ u x h k e. settle _ (beyond-segment u x k (not-own u h e)) (inv .firmOwn u x h k (sym (st u h) ∙ e));
+      firmClean = λ u x h k d. let y = marked-block s i b len u (x / 256) d in settle _ (beyond-other u x k (y .1)) (inv .firmClean u x h k (y .0));
+      firmBackup = λ j x h k. settle _ (beyond-backup j x k) (inv .firmBackup j x h k);
+    }
 
 -- ---- the words of a span
 
@@ -214,7 +217,7 @@ spanWide l w = 8 * spanWords (spanAt l w) (length (w .bytes))
 
 -- they stand in the block, and around the bytes
 pub span-bounds : (l : Layout) (w : WriteArgs) → SpanOk l w
-  → (mainAt l (w .main) + 256 * w .block ≤ spanFirst l w) × (spanFirst l w + spanWide l w ≤ mainAt l (w .main) + 256 * w .block + 256)
+    → (mainAt l (w .main) + 256 * w .block ≤ spanFirst l w) × (spanFirst l w + spanWide l w ≤ mainAt l (w .main) + 256 * w .block + 256)
     × (spanFirst l w ≤ spanAt l w) × (spanAt l w + length (w .bytes) ≤ spanFirst l w + spanWide l w)
 span-bounds l w ok = omega (arith, ok)
 

@@ -34,7 +34,7 @@ use Rattle.model.proofs.Agreement.{length-checkpoint, zero-write, zero-
 use Rattle.model.proofs.TraceLaws.{AllOk, played-ops, replayed-image}
 use Rattle.model.proofs.WellFormed.{open-ok, call-ok, span-good}
 use Rattle.model.proofs.WordLaws.{word-lt, word-cong, overlay-sets, overlay-shift}
-use Rattle.model.proofs.Persist.{length-replay, replay-clear, replay-append, replay-small}
+use Rattle.model.proofs.Persist.{Clear, replay-clear, replay-append, replay-small}
 use Rattle.model.proofs.Settled.{Settled, settled-off, take-past}
 use Rattle.model.proofs.CrashExact.{settled-only}
 use Rattle.model.proofs.View.{Contents, Fit, Recoverable, stateOf}
@@ -65,6 +65,7 @@ accepts l H P t r h = go (traceShort (recoveryOps l H (activeLine H)) t) refl
   where
     passes : openStatus l H t ≡ firstError ((11, traceShort (recoveryOps l H (activeLine H)) t) ∷ [])
     passes = container-passes l H ((11, traceShort (recoveryOps l H (activeLine H)) t) ∷ []) (container-of l H P r)
+
     go : (b : Bool) → traceShort (recoveryOps l H (activeLine H)) t ≡ b → openStatus l H t ≡ 0
     go true e = absurd (h (passes ∙ rw e))
     go false e = passes ∙ rw e
@@ -120,7 +121,7 @@ unfolding modelStep
 model-open l k m = refl
 
 model-write : (l : Layout) (w : WriteArgs) (m : Model)
-  → modelStep l (writeArgs w) true m ≡ record { working = sets (m .working) (pageAt l (w .main) (w .block) + w .offset) (w .bytes); checkpoint = m .checkpoint }
+    → modelStep l (writeArgs w) true m ≡ record { working = sets (m .working) (pageAt l (w .main) (w .block) + w .offset) (w .bytes); checkpoint = m .checkpoint }
 unfolding modelStep
 model-write l w m = refl
 
@@ -157,7 +158,7 @@ openings-keep : {l : Layout} {H H′ : Image} (P : Contents) → Recoverable l H
 openings-keep P r none = r
 openings-keep {l} P r (again {H = H} {H′ = H₁} t p ne c rest) =
     openings-keep P
-      (recovery-crash l H P r p H₁ (subst (λ (X : Ops). CrashImage H X H₁) (open-played l H P r t (accepts l H P t r ne) p) c)) rest
+    (recovery-crash l H P r p H₁ (subst (λ (X : Ops). CrashImage H X H₁) (open-played l H P r t (accepts l H P t r ne) p) c)) rest
 
 -- the last opening shows the page
 recovers : (l : Layout) (H : Image) (t : Trace) (Q : Page) → Whole l Q → Recoverable l H (contentsOf l Q) → openStatus l H t ≢ 11 → Recovers l H t Q
@@ -167,7 +168,8 @@ recovers l H t Q whole r ne =
     record {
       accepted = h;
       shows = subst (λ (K : Image). Reads l K Q Q) (sym (opened-is l H (contentsOf l Q) r t h)) (reads l _ Q Q whole whole (inv .recovers) (inv .working));
-      begins = checkpoint-is l H (container-of l H (contentsOf l Q) r) Q whole (r .holds) }
+      begins = checkpoint-is l H (container-of l H (contentsOf l Q) r) Q whole (r .holds);
+    }
 
 -- ---- what a served write and a served checkpoint may go by
 
@@ -199,8 +201,12 @@ epoch-among s I p h = go (p - length (beforeEpoch s I)) refl
   where
     go : (m : ℕ) → p - length (beforeEpoch s I) ≡ m → EpochStored (take p (checkpointOps s I))
     go zero e = absurd (omega arith)
-    go (suc m) e = (beforeEpoch s I, take m (clwb 0 ∷ sfence ∷ []), suc (committedEpoch I),
-      ap (take p) (checkpoint-phases s I) ∙ take-past p (beforeEpoch s I) (epochPhase I) (omega arith) ∙ ap (λ (k : ℕ). beforeEpoch s I ++ take k (epochPhase I)) e)
+    go (suc m) e = (
+      beforeEpoch s I,
+      take m (clwb 0 ∷ sfence ∷ []),
+      suc (committedEpoch I),
+      ap (take p) (checkpoint-phases s I) ∙ take-past p (beforeEpoch s I) (epochPhase I) (omega arith) ∙ ap (λ (k : ℕ). beforeEpoch s I ++ take k (epochPhase I)) e,
+    )
 
 -- ---- where a history stands
 
@@ -216,6 +222,16 @@ pub record Stands (s : State) : Type 0 where
   pub wholeCheckpoint : Whole (s .layout) (s .model .checkpoint)
   pub inv : Invariant (s .layout) (s .played) (replay (s .played) (s .held)) session (contentsOf (s .layout) (s .model .checkpoint)) (contentsOf (s .layout) (s .model .working))
 
+-- operations that leave the first line alone leave the epoch
+low-epoch : (I₀ : Image) (O E : Ops) → ((k : ℕ) → k < 64 → Clear k E) → committedEpoch (replay (O ++ E) I₀) ≡ committedEpoch (replay O I₀)
+low-epoch I₀ O E h = ap (λ (J : Image). committedEpoch J) (replay-append O E I₀) ∙ word-cong _ _ 0 (λ k x y. replay-clear E (replay O I₀) k (h k (omega arith)))
+
+-- a refused call is no checkpoint
+count-refused : (s : State) (c : Call) → served (outcome s c .status) ≡ false → countOf s c ≡ 0
+count-refused s (callOpen l t) e = refl
+count-refused s (callWrite w t j) e = refl
+count-refused s (callCheckpoint t) e = rw e
+
 -- what a call makes of it: its operations played whole, and crashed
 pub record Next (s : State) (c : Call) (m : Model) : Type 0 where
   pub session : Session
@@ -225,8 +241,9 @@ pub record Next (s : State) (c : Call) (m : Model) : Type 0 where
   pub wholeWorking : Whole (s .layout) (m .working)
   pub wholeCheckpoint : Whole (s .layout) (m .checkpoint)
   pub inv : Invariant (s .layout) (s .played ++ outcome s c .ops) (replay (s .played ++ outcome s c .ops) (s .held)) session (contentsOf (s .layout) (m .checkpoint)) (contentsOf (s .layout) (m .working))
+  pub epoch : committedEpoch (replay (s .played ++ outcome s c .ops) (s .held)) ≡ committedEpoch (replay (s .played) (s .held)) + countOf s c
   pub crash : (p : ℕ) (H : Image) → p < length (outcome s c .ops) → CrashImage (s .held) (s .played ++ take p (outcome s c .ops)) H
-    → Recoverable (s .layout) H (contentsOf (s .layout) (s .model .checkpoint))
+      → Recoverable (s .layout) H (contentsOf (s .layout) (s .model .checkpoint))
       ⊎ ((calledOps s c p ≡ take p (outcome s c .ops) → Window s c p) × Recoverable (s .layout) H (contentsOf (s .layout) (s .model .working)))
 
 -- the model after a call
@@ -246,12 +263,17 @@ module _ (s : State) (st : Stands s) where
   -- a refused call
   refused : (c : Call) (t : Session) → Refused (outcome s c) t → (t ≡ st .session) ⊎ (t ≡ zeroSession) → Next s c (after s c)
   refused c t r k = subst (λ (m : Model). Next s c m) (sym same) (record {
-      session = st .session; sized = st .sized; wide = st .wide;
-      known = ⊎-elim (λ q. inl (r .session ∙ q)) (λ q. inr (r .session ∙ q)) k;
-      wholeWorking = st .wholeWorking; wholeCheckpoint = st .wholeCheckpoint;
-      inv = subst (λ (X : Ops). Invariant l X (replay X (s .held)) (st .session) (contentsOf l (s .model .checkpoint)) (contentsOf l (s .model .working)))
+    session = st .session;
+    sized = st .sized;
+    wide = st .wide;
+    known = ⊎-elim (λ q. inl (r .session ∙ q)) (λ q. inr (r .session ∙ q)) k;
+    wholeWorking = st .wholeWorking;
+    wholeCheckpoint = st .wholeCheckpoint;
+    inv = subst (λ (X : Ops). Invariant l X (replay X (s .held)) (st .session) (contentsOf l (s .model .checkpoint)) (contentsOf l (s .model .working)))
         (sym (append-nil (s .played)) ∙ ap (λ (X : Ops). s .played ++ X) (sym (r .ops))) (st .inv);
-      crash = λ p H h x. absurd (let z : length (outcome s c .ops) ≡ 0 = ap length (r .ops) in omega arith) })
+    epoch = low-epoch (s .held) (s .played) (outcome s c .ops) (λ k h. subst (λ (X : Ops). Clear k X) (sym (r .ops)) tt) ∙ omega (arith, count-refused s c (r .status));
+    crash = λ p H h x. absurd (let z : length (outcome s c .ops) ≡ 0 = ap length (r .ops) in omega arith);
+  })
     where
       same : after s c ≡ s .model
       same = ap (λ (b : Bool). modelStep l (argsOf c) b (s .model)) (r .status) ∙ model-refused l (argsOf c) (s .model)
@@ -268,25 +290,35 @@ module _ (s : State) (st : Stands s) where
     where
       P : Contents
       P = contentsOf l (s .model .checkpoint)
+
       W : Contents
       W = contentsOf l (s .model .working)
+
       -- with the history's sizes
       same : openStatus l (s .image) t ≡ 0 → Next s (callOpen l t) (after s (callOpen l t))
       same h =
-        let o = open-served l (s .image) t h in
-        let ops : outcome s (callOpen l t) .ops ≡ recoveryOps l I (activeLine I) = o .ops ∙ ap (λ (J : Image). recoveryOps l J (activeLine J)) (st .image) in
-        subst (λ (m : Model). Next s (callOpen l t) m) (sym (ap (λ (b : Bool). modelStep l (openArgs l) b (s .model)) (o .status) ∙ model-open l l (s .model))) (record {
-          session = freshSession l; sized = fresh-sized l .0; wide = fresh-sized l .1; known = inl (o .session);
-          wholeWorking = st .wholeCheckpoint; wholeCheckpoint = st .wholeCheckpoint;
-          inv = subst (λ (X : Ops). Invariant l (s .played ++ X) (replay (s .played ++ X) (s .held)) (freshSession l) P P) (sym ops)
-            (reopen-done l (s .played) (s .held) (st .session) P W (st .bytes) (st .inv));
-          crash = λ p H q x. inl (reopen-crash l (s .played) (s .held) (st .session) P W (st .bytes) (st .inv) p H
-            (subst (λ (X : Ops). CrashImage (s .held) (s .played ++ take p X) H) ops x)) })
+          let o = open-served l (s .image) t h in
+          let ops : outcome s (callOpen l t) .ops ≡ recoveryOps l I (activeLine I) = o .ops ∙ ap (λ (J : Image). recoveryOps l J (activeLine J)) (st .image) in
+          subst (λ (m : Model). Next s (callOpen l t) m) (sym (ap (λ (b : Bool). modelStep l (openArgs l) b (s .model)) (o .status) ∙ model-open l l (s .model))) (record {
+            session = freshSession l;
+            sized = fresh-sized l .0;
+            wide = fresh-sized l .1;
+            known = inl (o .session);
+            wholeWorking = st .wholeCheckpoint;
+            wholeCheckpoint = st .wholeCheckpoint;
+            inv = subst (λ (X : Ops). Invariant l (s .played ++ X) (replay (s .played ++ X) (s .held)) (freshSession l) P P) (sym ops)
+                (reopen-done l (s .played) (s .held) (st .session) P W (st .bytes) (st .inv));
+            epoch = subst (λ (X : Ops). committedEpoch (replay (s .played ++ X) (s .held)) ≡ committedEpoch I + 0) (sym ops)
+                (low-epoch (s .held) (s .played) (recoveryOps l I (activeLine I)) (λ k q. recovery-clear l I P (st .inv .recovers) k (meta (omega arith))) ∙ omega arith);
+            crash = λ p H q x. inl (reopen-crash l (s .played) (s .held) (st .session) P W (st .bytes) (st .inv) p H
+                (subst (λ (X : Ops). CrashImage (s .held) (s .played ++ take p X) H) ops x));
+          })
+
       go : Dec (openStatus k (s .image) t ≡ 0) → Next s (callOpen k t) (after s (callOpen k t))
       go (no ne) = refused (callOpen k t) zeroSession (open-refused k (s .image) t ne) (inr refl)
       go (yes h) =
-        let e = sizes-fixed k t h in
-        subst (λ (k : Layout). Next s (callOpen k t) (after s (callOpen k t))) (sym e) (same (subst (λ (k : Layout). openStatus k (s .image) t ≡ 0) e h))
+          let e = sizes-fixed k t h in
+          subst (λ (k : Layout). Next s (callOpen k t) (after s (callOpen k t))) (sym e) (same (subst (λ (k : Layout). openStatus k (s .image) t ≡ 0) e h))
 
   -- a write or a checkpoint is served only with the session of the last served call
   known-write : (w : WriteArgs) (j : ℕ) (t : Trace) → writeStatus (s .session) (s .image) w j t ≡ 0 → s .session ≡ st .session
@@ -301,13 +333,14 @@ module _ (s : State) (st : Stands s) where
 
   -- the working page after a write is the image with the bytes laid over it
   laid-page : (w : WriteArgs) → SpanOk l w → (u x : ℕ) → u < l .mains → x < segmentSize l
-    → contentsOf l (sets (s .model .working) (pageAt l (w .main) (w .block) + w .offset) (w .bytes)) u x ≡ overlay (byteAt I) (spanAt l w) (w .bytes) (mainAt l u + x)
+      → contentsOf l (sets (s .model .working) (pageAt l (w .main) (w .block) + w .offset) (w .bytes)) u x ≡ overlay (byteAt I) (spanAt l w) (w .bytes) (mainAt l u + x)
   laid-page w ok u x h k =
       overlay-sets (s .model .working) at (w .bytes) place (omega (arith, st .wholeWorking, ok, block-inside l (w .main) (w .block) (ok .main) (ok .block)))
       ∙ overlay-shift (byteAt (s .model .working)) (byteAt I) at (spanAt l w) (w .bytes) place (mainAt l u + x) 512 (omega arith) (omega arith) (sym (st .inv .working u x h k))
     where
       at : ℕ
       at = pageAt l (w .main) (w .block) + w .offset
+
       place : ℕ
       place = 256 * (u * l .blocks) + x
 
@@ -316,35 +349,48 @@ module _ (s : State) (st : Stands s) where
     where
       σ : Session
       σ = st .session
+
       P : Contents
       P = contentsOf l (s .model .checkpoint)
+
       W : Contents
       W = contentsOf l (s .model .working)
+
       page : Page
       page = sets (s .model .working) (pageAt l (w .main) (w .block) + w .offset) (w .bytes)
+
       inv : Invariant (σ .layout) (s .played) I σ P W
       inv = subst (λ (k : Layout). Invariant k (s .played) I σ P W) (sym (st .sized)) (st .inv)
+
       served-write : writeStatus (s .session) (s .image) w j t ≡ 0 → Next s (callWrite w t j) (after s (callWrite w t j))
       served-write h =
-        let e : s .session ≡ σ = known-write w j t h in
-        let o = write-served (s .session) (s .image) w j t h in
-        let ops : outcome s (callWrite w t j) .ops ≡ writeOps σ I w j = o .ops ∙ ap₂ (λ (x : Session) (J : Image). writeOps x J w j) e (st .image) in
-        let session : outcome s (callWrite w t j) .session ≡ writeSession σ I w = o .session ∙ ap₂ (λ (x : Session) (J : Image). writeSession x J w) e (st .image) in
-        let h′ : writeStatus σ I w j t ≡ 0 = subst₂ (λ (x : Session) (J : Image). writeStatus x J w j t ≡ 0) e (st .image) h in
-        let free : needsBackup σ I (w .main) ≡ true → Free (σ .layout) (stateOf I) (backupToMain I) j =
+          let e : s .session ≡ σ = known-write w j t h in
+          let o = write-served (s .session) (s .image) w j t h in
+          let ops : outcome s (callWrite w t j) .ops ≡ writeOps σ I w j = o .ops ∙ ap₂ (λ (x : Session) (J : Image). writeOps x J w j) e (st .image) in
+          let session : outcome s (callWrite w t j) .session ≡ writeSession σ I w = o .session ∙ ap₂ (λ (x : Session) (J : Image). writeSession x J w) e (st .image) in
+          let h′ : writeStatus σ I w j t ≡ 0 = subst₂ (λ (x : Session) (J : Image). writeStatus x J w j t ≡ 0) e (st .image) h in
+          let free : needsBackup σ I (w .main) ≡ true → Free (σ .layout) (stateOf I) (backupToMain I) j =
           subst₂ (λ (x : Session) (J : Image). needsBackup x J (w .main) ≡ true → Free (x .layout) (stateOf J) (backupToMain J) j) e (st .image) (permitted .1 h) in
-        let ok : SpanOk (σ .layout) w = span-ok σ I w j t (permitted .0) h′ in
-        let ok′ : SpanOk l w = subst (λ (k : Layout). SpanOk k w) (st .sized) ok in
-        let given = subst (λ (k : Layout). (u x : ℕ) → u < k .mains → x < segmentSize k → contentsOf l page u x ≡ overlay (byteAt I) (spanAt k w) (w .bytes) (mainAt k u + x))
+          let ok : SpanOk (σ .layout) w = span-ok σ I w j t (permitted .0) h′ in
+          let ok′ : SpanOk l w = subst (λ (k : Layout). SpanOk k w) (st .sized) ok in
+          let given = subst (λ (k : Layout). (u x : ℕ) → u < k .mains → x < segmentSize k → contentsOf l page u x ≡ overlay (byteAt I) (spanAt k w) (w .bytes) (mainAt k u + x))
           (sym (st .sized)) (laid-page w ok′) in
-        subst (λ (m : Model). Next s (callWrite w t j) m) (sym (ap (λ (b : Bool). modelStep l (writeArgs w) b (s .model)) (o .status) ∙ model-write l w (s .model))) (record {
-          session = writeSession σ I w; sized = write-sized σ I w .0 ∙ st .sized; wide = write-sized σ I w .1 ∙ st .wide; known = inl session;
-          wholeWorking = length-sets (s .model .working) (pageAt l (w .main) (w .block) + w .offset) (w .bytes) ∙ st .wholeWorking; wholeCheckpoint = st .wholeCheckpoint;
-          inv = subst (λ (X : Ops). Invariant l (s .played ++ X) (replay (s .played ++ X) (s .held)) (writeSession σ I w) P (contentsOf l page)) (sym ops)
-            (subst (λ (k : Layout). Invariant k (s .played ++ writeOps σ I w j) (replay (s .played ++ writeOps σ I w j) (s .held)) (writeSession σ I w) P (contentsOf l page)) (st .sized)
-              (write-done (s .played) (s .held) σ P W (st .bytes) inv w ok (st .wide) j free (contentsOf l page) given));
-          crash = λ p H q x. inl (subst (λ (k : Layout). Recoverable k H P) (st .sized)
-            (write-crash (s .played) (s .held) σ P W (st .bytes) inv w ok (st .wide) j free p H (subst (λ (X : Ops). CrashImage (s .held) (s .played ++ take p X) H) ops x))) })
+          subst (λ (m : Model). Next s (callWrite w t j) m) (sym (ap (λ (b : Bool). modelStep l (writeArgs w) b (s .model)) (o .status) ∙ model-write l w (s .model))) (record {
+            session = writeSession σ I w;
+            sized = write-sized σ I w .0 ∙ st .sized;
+            wide = write-sized σ I w .1 ∙ st .wide;
+            known = inl session;
+            wholeWorking = length-sets (s .model .working) (pageAt l (w .main) (w .block) + w .offset) (w .bytes) ∙ st .wholeWorking;
+            wholeCheckpoint = st .wholeCheckpoint;
+            inv = subst (λ (X : Ops). Invariant l (s .played ++ X) (replay (s .played ++ X) (s .held)) (writeSession σ I w) P (contentsOf l page)) (sym ops)
+                (subst (λ (k : Layout). Invariant k (s .played ++ writeOps σ I w j) (replay (s .played ++ writeOps σ I w j) (s .held)) (writeSession σ I w) P (contentsOf l page)) (st .sized)
+                (write-done (s .played) (s .held) σ P W (st .bytes) inv w ok (st .wide) j free (contentsOf l page) given));
+            epoch = subst (λ (X : Ops). committedEpoch (replay (s .played ++ X) (s .held)) ≡ committedEpoch I + 0) (sym ops)
+                (low-epoch (s .held) (s .played) (writeOps σ I w j) (write-low (s .played) (s .held) σ P W (st .bytes) inv w ok (st .wide) j free) ∙ omega arith);
+            crash = λ p H q x. inl (subst (λ (k : Layout). Recoverable k H P) (st .sized)
+                (write-crash (s .played) (s .held) σ P W (st .bytes) inv w ok (st .wide) j free p H (subst (λ (X : Ops). CrashImage (s .held) (s .played ++ take p X) H) ops x)));
+          })
+
       go : Dec (writeStatus (s .session) (s .image) w j t ≡ 0) → Next s (callWrite w t j) (after s (callWrite w t j))
       go (no ne) = refused (callWrite w t j) (s .session) (write-refused (s .session) (s .image) w j t ne) (st .known)
       go (yes h) = served-write h
@@ -354,29 +400,41 @@ module _ (s : State) (st : Stands s) where
     where
       σ : Session
       σ = st .session
+
       P : Contents
       P = contentsOf l (s .model .checkpoint)
+
       W : Contents
       W = contentsOf l (s .model .working)
+
       inv : Invariant (σ .layout) (s .played) I σ P W
       inv = subst (λ (k : Layout). Invariant k (s .played) I σ P W) (sym (st .sized)) (st .inv)
+
       served-checkpoint : checkpointStatus (s .session) (s .image) t ≡ 0 → Next s (callCheckpoint t) (after s (callCheckpoint t))
       served-checkpoint h =
-        let e : s .session ≡ σ = known-checkpoint t h in
-        let o = checkpoint-served (s .session) (s .image) t h in
-        let ops : outcome s (callCheckpoint t) .ops ≡ checkpointOps σ I = o .ops ∙ ap₂ (λ (x : Session) (J : Image). checkpointOps x J) e (st .image) in
-        let session : outcome s (callCheckpoint t) .session ≡ withCheckpoint σ = o .session ∙ ap withCheckpoint e in
-        let fits : suc (committedEpoch I) < 2 ^ 64 = epoch-fits σ I t (inv .recovers .fit .bytes) (subst₂ (λ (x : Session) (J : Image). checkpointStatus x J t ≡ 0) e (st .image) h) in
-        subst (λ (m : Model). Next s (callCheckpoint t) m) (sym (ap (λ (b : Bool). modelStep l checkpointArgs b (s .model)) (o .status) ∙ model-checkpoint l (s .model))) (record {
-          session = withCheckpoint σ; sized = checkpoint-sized σ .0 ∙ st .sized; wide = checkpoint-sized σ .1 ∙ st .wide; known = inl session;
-          wholeWorking = st .wholeWorking; wholeCheckpoint = st .wholeWorking;
-          inv = subst (λ (X : Ops). Invariant l (s .played ++ X) (replay (s .played ++ X) (s .held)) (withCheckpoint σ) W W) (sym ops)
-            (subst (λ (k : Layout). Invariant k (s .played ++ checkpointOps σ I) (replay (s .played ++ checkpointOps σ I) (s .held)) (withCheckpoint σ) W W) (st .sized)
-              (checkpoint-done (s .played) (s .held) σ P W (st .bytes) inv fits));
-          crash = λ p H q x. ⊎-elim
-            (λ r. inl (subst (λ (k : Layout). Recoverable k H P) (st .sized) r))
-            (λ r. inr ((λ c. (subst EpochStored (sym (c ∙ ap (take p) ops)) (epoch-among σ I p (r .0)), q)), subst (λ (k : Layout). Recoverable k H W) (st .sized) (r .1)))
-            (checkpoint-crash (s .played) (s .held) σ P W (st .bytes) inv p H fits (subst (λ (X : Ops). CrashImage (s .held) (s .played ++ take p X) H) ops x)) })
+          let e : s .session ≡ σ = known-checkpoint t h in
+          let o = checkpoint-served (s .session) (s .image) t h in
+          let ops : outcome s (callCheckpoint t) .ops ≡ checkpointOps σ I = o .ops ∙ ap₂ (λ (x : Session) (J : Image). checkpointOps x J) e (st .image) in
+          let session : outcome s (callCheckpoint t) .session ≡ withCheckpoint σ = o .session ∙ ap withCheckpoint e in
+          let fits : suc (committedEpoch I) < 2 ^ 64 = epoch-fits σ I t (inv .recovers .fit .bytes) (subst₂ (λ (x : Session) (J : Image). checkpointStatus x J t ≡ 0) e (st .image) h) in
+          subst (λ (m : Model). Next s (callCheckpoint t) m) (sym (ap (λ (b : Bool). modelStep l checkpointArgs b (s .model)) (o .status) ∙ model-checkpoint l (s .model))) (record {
+            session = withCheckpoint σ;
+            sized = checkpoint-sized σ .0 ∙ st .sized;
+            wide = checkpoint-sized σ .1 ∙ st .wide;
+            known = inl session;
+            wholeWorking = st .wholeWorking;
+            wholeCheckpoint = st .wholeWorking;
+            inv = subst (λ (X : Ops). Invariant l (s .played ++ X) (replay (s .played ++ X) (s .held)) (withCheckpoint σ) W W) (sym ops)
+                (subst (λ (k : Layout). Invariant k (s .played ++ checkpointOps σ I) (replay (s .played ++ checkpointOps σ I) (s .held)) (withCheckpoint σ) W W) (st .sized)
+                (checkpoint-done (s .played) (s .held) σ P W (st .bytes) inv fits));
+            epoch = subst (λ (X : Ops). committedEpoch (replay (s .played ++ X) (s .held)) ≡ committedEpoch I + countOf s (callCheckpoint t)) (sym ops)
+                (let one : countOf s (callCheckpoint t) ≡ 1 = ap (λ (b : Bool). cond b 1 0) (o .status) in checkpoint-epoch (s .played) (s .held) σ P W (st .bytes) inv fits ∙ omega arith);
+            crash = λ p H q x. ⊎-elim
+                (λ r. inl (subst (λ (k : Layout). Recoverable k H P) (st .sized) r))
+                (λ r. inr ((λ c. (subst EpochStored (sym (c ∙ ap (take p) ops)) (epoch-among σ I p (r .0)), q)), subst (λ (k : Layout). Recoverable k H W) (st .sized) (r .1)))
+                (checkpoint-crash (s .played) (s .held) σ P W (st .bytes) inv p H fits (subst (λ (X : Ops). CrashImage (s .held) (s .played ++ take p X) H) ops x));
+          })
+
       go : Dec (checkpointStatus (s .session) (s .image) t ≡ 0) → Next s (callCheckpoint t) (after s (callCheckpoint t))
       go (no ne) = refused (callCheckpoint t) (s .session) (checkpoint-refused (s .session) (s .image) t ne) (st .known)
       go (yes h) = served-checkpoint h
@@ -402,14 +460,144 @@ module _ (s : State) (st : Stands s) where
       record {
         bytes = st .bytes;
         image = replayed-image (s .image) (outcome s c .ops) (traceOf c) (length (outcome s c .ops)) (omega (arith, same-length, image-lines l)) (call-ok s c permitted)
-          ∙ ap₂ replay (take-length (outcome s c .ops)) (st .image) ∙ sym (replay-append (s .played) (outcome s c .ops) (s .held))
-          ∙ ap (λ (X : Ops). replay (s .played ++ X) (s .held)) (sym e);
-        session = n .session; sized = n .sized; wide = n .wide; known = n .known;
-        wholeWorking = n .wholeWorking; wholeCheckpoint = n .wholeCheckpoint;
+            ∙ ap₂ replay (take-length (outcome s c .ops)) (st .image) ∙ sym (replay-append (s .played) (outcome s c .ops) (s .held))
+            ∙ ap (λ (X : Ops). replay (s .played ++ X) (s .held)) (sym e);
+        session = n .session;
+        sized = n .sized;
+        wide = n .wide;
+        known = n .known;
+        wholeWorking = n .wholeWorking;
+        wholeCheckpoint = n .wholeCheckpoint;
         inv = subst (λ (X : Ops). Invariant l (s .played ++ X) (replay (s .played ++ X) (s .held)) (n .session) (contentsOf l (after s c .checkpoint)) (contentsOf l (after s c .working)))
-          (sym e) (n .inv) }
+            (sym e) (n .inv);
+      }
 
   -- A CRASH between two calls
   rest-crash : (H : Image) → CrashImage (s .held) (s .played) H → Recoverable l H (contentsOf l (s .model .checkpoint))
   rest-crash H c = reopen-crash l (s .played) (s .held) (st .session) _ _ (st .bytes) (st .inv) 0 H
       (subst (λ (X : Ops). CrashImage (s .held) X H) (sym (append-nil (s .played))) c)
+
+-- A CRASH at any moment leaves what recovers to a page that may be shown
+crash-page : (s : State) → Stands s → (m : Moment) → PermittedAt s m → (H : Image) → CrashImage (s .held) (playedAt s m) H
+    → (Q : Page) × MayShow s m Q × Whole (s .layout) Q × Recoverable (s .layout) H (contentsOf (s .layout) Q)
+unfolding lastCheckpoint step
+crash-page s st between permitted H c = (s .model .checkpoint, refl, st .wholeCheckpoint, rest-crash s st H c)
+crash-page s st (during d p) permitted H c = go (decLt p (length O))
+  where
+    O : Ops
+    O = outcome s d .ops
+
+    go : Dec (p < length O) → (Q : Page) × MayShow s (during d p) Q × Whole (s .layout) Q × Recoverable (s .layout) H (contentsOf (s .layout) Q)
+    go (yes h) = ⊎-elim
+        (λ r. (s .model .checkpoint, inl (rw (lt-leb (length O) p h)), st .wholeCheckpoint, r))
+        (λ r. (s .model .working, inr (r .0 (called s st d permitted p), refl), st .wholeWorking, r .1))
+        (next s st d permitted .crash p H h (subst (λ (X : Ops). CrashImage (s .held) (s .played ++ X) H) (called s st d permitted p) c))
+    go (no h) =
+        let e : calledOps s d p ≡ calledOps s d (length O) = called s st d permitted p ∙ take-all p O (omega arith) ∙ sym (called-all s st d permitted) in (
+          step s d .model .checkpoint,
+          inl (rw (le-leb (length O) p (omega arith))),
+          step-stands s st d permitted .wholeCheckpoint,
+          rest-crash (step s d) (step-stands s st d permitted) H (subst (λ (X : Ops). CrashImage (s .held) (s .played ++ X) H) e c),
+        )
+
+-- ---- the whole history
+
+start-stands : (l : Layout) (I : Image) (t : Trace) → Bytes I → openStatus l I t ≡ 0 → Stands (start l I t)
+unfolding start replay
+start-stands l I t b h =
+    let r = starting l I t b h in
+    let P : Contents = contentsOf l (checkpointBytes l I (activeLine I)) in
+    let e : openedImage l I t ≡ replay (recoveryOps l I (activeLine I)) I = opened-is l I P r t h in
+    let whole : Whole l (checkpointBytes l I (activeLine I)) = length-checkpoint l I (accepted l I t h) in
+    record {
+      bytes = subst Bytes (sym e) (replay-small (recoveryOps l I (activeLine I)) I b);
+      image = refl;
+      session = freshSession l;
+      sized = fresh-sized l .0;
+      wide = fresh-sized l .1;
+      known = inl (open-served l I t h .session);
+      wholeWorking = whole;
+      wholeCheckpoint = whole;
+      inv = subst (λ (K : Image). Invariant l [] K (freshSession l) P P) (sym e) (opened-durable l I P r);
+    }
+
+run-stands : (s : State) (cs : List Call) → Stands s → AllPermitted s cs → Stands (run s cs)
+unfolding run
+run-stands s [] st permitted = st
+run-stands s (c ∷ cs) st permitted = run-stands (step s c) cs (step-stands s st c (permitted .0)) (permitted .1)
+
+run-layout : (s : State) (cs : List Call) → run s cs .layout ≡ s .layout
+unfolding run step
+run-layout s [] = refl
+run-layout s (c ∷ cs) = run-layout (step s c) cs
+
+start-layout : (l : Layout) (I : Image) (t : Trace) (cs : List Call) → run (start l I t) cs .layout ≡ l
+unfolding start
+start-layout l I t cs = run-layout (start l I t) cs
+
+history-stands : (l : Layout) (I : Image) (t : Trace) → Bytes I → openStatus l I t ≡ 0 → (cs : List Call) → AllPermitted (start l I t) cs → Stands (run (start l I t) cs)
+history-stands l I t b h cs permitted = run-stands (start l I t) cs (start-stands l I t b h) permitted
+
+-- DEMAND 3
+pub crash-safety : CrashSafety
+crash-safety l I t b h cs permitted m pm H c H′ openings t′ ne =
+    let x = crash-page (run (start l I t) cs) (history-stands l I t b h cs permitted) m pm H c in
+    let e = start-layout l I t cs in
+    let whole = subst (λ (k : Layout). Whole k (x .0)) e (x .2) in
+    let r = subst (λ (k : Layout). Recoverable k H (contentsOf k (x .0))) e (x .3) in
+    (x .0, x .1, recovers l H′ t′ (x .0) whole (openings-keep (contentsOf l (x .0)) r openings) ne)
+
+-- the same for a module whose crash images are among these
+openings-within : (R : Leaves) → ((I : Image) (O : Ops) (H : Image) → R I O H → CrashImage I O H) → {l : Layout} {H H′ : Image} → CutOpenings R l H H′ → CutOpenings CrashImage l H H′
+openings-within R among none = none
+openings-within R among (again t p ne c rest) = again t p ne (among _ _ _ c) (openings-within R among rest)
+
+pub crash-safety-within : CrashSafetyWithin
+crash-safety-within R among l I t b h cs permitted m pm H c H′ openings t′ ne =
+    crash-safety l I t b h cs permitted m pm H (among _ _ _ c) H′ (openings-within R among openings) t′ ne
+
+-- ---- its sisters
+
+pub reads-follow-model : ReadsFollowModel
+reads-follow-model l I t b h cs permitted =
+    let s = run (start l I t) cs in
+    let st = history-stands l I t b h cs permitted in
+    subst (λ (k : Layout). Reads k (s .image) (s .model .working) (s .model .checkpoint)) (start-layout l I t cs)
+    (subst (λ (K : Image). Reads (s .layout) K (s .model .working) (s .model .checkpoint)) (sym (st .image))
+    (reads (s .layout) _ (s .model .checkpoint) (s .model .working) (st .wholeCheckpoint) (st .wholeWorking) (st .inv .recovers) (st .inv .working)))
+
+pub opening-settles : OpeningSettles
+opening-settles l I t b h H c =
+    let r = starting l I t b h in
+    let O = recoveryOps l I (activeLine I) in
+    settled-only I H O (λ ℓ. recovery-keeps l I ℓ [] (settled-off ℓ [] (λ i e. tt))) (subst (λ (X : Ops). CrashImage I X H) (open-ops l I t h) c)
+    ∙ sym (opened-is l I (contentsOf l (checkpointBytes l I (activeLine I))) r t h)
+
+pub opening-safety : OpeningSafety
+opening-safety l I t b h H openings t′ ne =
+    let P = checkpointBytes l I (activeLine I) in
+    recovers l H t′ P (length-checkpoint l I (accepted l I t h)) (openings-keep (contentsOf l P) (starting l I t b h) openings) ne
+
+-- every call raises the epoch by the checkpoints that it is
+step-epoch : (s : State) (st : Stands s) (c : Call) → Permitted s c → committedEpoch (step s c .image) ≡ committedEpoch (s .image) + countOf s c
+unfolding step
+step-epoch s st c permitted =
+    ap (λ (J : Image). committedEpoch J) (step-stands s st c permitted .image)
+    ∙ ap (λ (X : Ops). committedEpoch (replay (s .played ++ X) (s .held))) (called-all s st c permitted)
+    ∙ next s st c permitted .epoch ∙ ap (λ (J : Image). committedEpoch J + countOf s c) (sym (st .image))
+
+run-epoch : (s : State) (cs : List Call) → Stands s → AllPermitted s cs → committedEpoch (run s cs .image) ≡ committedEpoch (s .image) + checkpoints s cs
+unfolding run checkpoints
+run-epoch s [] st permitted = omega arith
+run-epoch s (c ∷ cs) st permitted =
+    run-epoch (step s c) cs (step-stands s st c (permitted .0)) (permitted .1) ∙ omega (arith, step-epoch s st c (permitted .0))
+
+pub epoch-counts : EpochCounts
+unfolding start replay
+epoch-counts l I t b h cs permitted =
+    let r = starting l I t b h in
+    let P = contentsOf l (checkpointBytes l I (activeLine I)) in
+    let O = recoveryOps l I (activeLine I) in
+    run-epoch (start l I t) cs (start-stands l I t b h) permitted
+    ∙ ap (λ (n : ℕ). n + checkpoints (start l I t) cs)
+    (ap (λ (J : Image). committedEpoch J) (opened-is l I P r t h) ∙ low-epoch I [] O (λ k q. recovery-clear l I P r k (meta (omega arith))))

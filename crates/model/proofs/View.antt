@@ -39,60 +39,70 @@ module _ (l : Layout) (most : SizesOk l) (st pr byte st′ pr′ byte′ : ℕ �
 
   -- LAW 1: only what counts
   pub holds-cong : ((i : ℕ) → i < 64 → st′ i ≡ st i) → ((j : ℕ) → j < 64 → pr′ j ≡ pr j)
-    → ((i x : ℕ) → i < l .mains → x < segmentSize l → st i ≡ 1 → byte′ (mainAt l i + x) ≡ byte (mainAt l i + x))
-    → ((i j x : ℕ) → i < l .mains → j < l .backups → x < segmentSize l → st i ≡ 2 → pr j ≡ i → byte′ (backupAt l j + x) ≡ byte (backupAt l j + x))
-    → Holds l st′ pr′ byte′ P
+      → ((i x : ℕ) → i < l .mains → x < segmentSize l → st i ≡ 1 → byte′ (mainAt l i + x) ≡ byte (mainAt l i + x))
+      → ((i j x : ℕ) → i < l .mains → j < l .backups → x < segmentSize l → st i ≡ 2 → pr j ≡ i → byte′ (backupAt l j + x) ≡ byte (backupAt l j + x))
+      → Holds l st′ pr′ byte′ P
   holds-cong sts prs owns backups = record {
-      valid = record {
-        states = λ i x. rw (s i x) (valid .states i x);
-        statesRest = λ i x y. sts i y ∙ valid .statesRest i x y;
-        pairs = λ j x. rw (p j x) (valid .pairs j x);
-        pairsRest = λ j x y. prs j y ∙ valid .pairsRest j x y;
-        once = λ j k x y z e. valid .once j k x y (omega (arith, p j x)) (sym (p j x) ∙ e ∙ p k y);
-        kept = λ i x e. let w = valid .kept i x (sym (s i x) ∙ e) in (w .0, w .1, p (w .0) (w .1) ∙ w .2);
-        bare = λ i x e j y c. valid .bare i x (sym (s i x) ∙ e) j y (sym (p j y) ∙ c) };
-      initial = λ i x a b e. h .initial i x a b (sym (s i a) ∙ e);
-      own = λ i x a b e. let q = sym (s i a) ∙ e in owns i x a b q ∙ h .own i x a b q;
-      backup = λ i j x a c b e d. let q = sym (s i a) ∙ e in let r = sym (p j c) ∙ d in backups i j x a c b q r ∙ h .backup i j x a c b q r }
+    valid = record {
+      states = λ i x. rw (s i x) (valid .states i x);
+      statesRest = λ i x y. sts i y ∙ valid .statesRest i x y;
+      pairs = λ j x. rw (p j x) (valid .pairs j x);
+      pairsRest = λ j x y. prs j y ∙ valid .pairsRest j x y;
+      once = λ j k x y z e. valid .once j k x y (omega (arith, p j x)) (sym (p j x) ∙ e ∙ p k y);
+      kept = λ i x e. let w = valid .kept i x (sym (s i x) ∙ e) in (w .0, w .1, p (w .0) (w .1) ∙ w .2);
+      bare = λ i x e j y c. valid .bare i x (sym (s i x) ∙ e) j y (sym (p j y) ∙ c);
+    };
+    initial = λ i x a b e. h .initial i x a b (sym (s i a) ∙ e);
+    own = λ i x a b e. let q = sym (s i a) ∙ e in owns i x a b q ∙ h .own i x a b q;
+    backup = λ i j x a c b e d. let q = sym (s i a) ∙ e in let r = sym (p j c) ∙ d in backups i j x a c b q r ∙ h .backup i j x a c b q r;
+  }
     where
       s : (i : ℕ) → i < l .mains → st′ i ≡ st i
       s i x = sts i (main64 i x)
+
       p : (j : ℕ) → j < l .backups → pr′ j ≡ pr j
       p j x = prs j (backup64 j x)
 
   -- LAW 2: a checkpoint turns the states of the dirty segments to 1
   pub holds-next : (dirty : ℕ → Bool) (W : Contents) → ((i : ℕ) → dirty i ≡ true → i < l .mains)
-    → ((i : ℕ) → i < 64 → st′ i ≡ nextState (st i) (dirty i)) → ((j : ℕ) → j < 64 → pr′ j ≡ pr j)
-    → ((i x : ℕ) → i < l .mains → x < segmentSize l → byte′ (mainAt l i + x) ≡ W i x)
-    → ((j x : ℕ) → j < l .backups → x < segmentSize l → byte′ (backupAt l j + x) ≡ byte (backupAt l j + x))
-    → ((i x : ℕ) → i < l .mains → x < segmentSize l → dirty i ≡ false → W i x ≡ P i x)
-    → Holds l st′ pr′ byte′ W
+      → ((i : ℕ) → i < 64 → st′ i ≡ nextState (st i) (dirty i)) → ((j : ℕ) → j < 64 → pr′ j ≡ pr j)
+      → ((i x : ℕ) → i < l .mains → x < segmentSize l → byte′ (mainAt l i + x) ≡ W i x)
+      → ((j x : ℕ) → j < l .backups → x < segmentSize l → byte′ (backupAt l j + x) ≡ byte (backupAt l j + x))
+      → ((i x : ℕ) → i < l .mains → x < segmentSize l → dirty i ≡ false → W i x ≡ P i x)
+      → Holds l st′ pr′ byte′ W
   holds-next dirty W low sts prs mains backups clean = record {
-      valid = record {
-        states = λ i x. states i x (dirty i) refl;
-        statesRest = λ i x y. rest i x y (dirty i) refl;
-        pairs = λ j x. rw (p j x) (valid .pairs j x);
-        pairsRest = λ j x y. prs j y ∙ valid .pairsRest j x y;
-        once = λ j k x y z e. valid .once j k x y (omega (arith, p j x)) (sym (p j x) ∙ e ∙ p k y);
-        kept = λ i x e. let w = valid .kept i x (same i 2 (main64 i x) (omega arith) e .1) in (w .0, w .1, p (w .0) (w .1) ∙ w .2);
-        bare = λ i x e j y c. valid .bare i x (same i 0 (main64 i x) (omega arith) e .1) j y (sym (p j y) ∙ c) };
-      initial = λ i x a b e. let y = same i 0 (main64 i a) (omega arith) e in clean i x a b (y .0) ∙ h .initial i x a b (y .1);
-      own = λ i x a b e. mains i x a b;
-      backup = λ i j x a c b e d. let y = same i 2 (main64 i a) (omega arith) e in
-        backups j x c b ∙ h .backup i j x a c b (y .1) (sym (p j c) ∙ d) ∙ sym (clean i x a b (y .0)) }
+    valid = record {
+      states = λ i x. states i x (dirty i) refl;
+      statesRest = λ i x y. rest i x y (dirty i) refl;
+      pairs = λ j x. rw (p j x) (valid .pairs j x);
+      pairsRest = λ j x y. prs j y ∙ valid .pairsRest j x y;
+      once = λ j k x y z e. valid .once j k x y (omega (arith, p j x)) (sym (p j x) ∙ e ∙ p k y);
+      kept = λ i x e. let w = valid .kept i x (same i 2 (main64 i x) (omega arith) e .1) in (w .0, w .1, p (w .0) (w .1) ∙ w .2);
+      bare = λ i x e j y c. valid .bare i x (same i 0 (main64 i x) (omega arith) e .1) j y (sym (p j y) ∙ c);
+    };
+    initial = λ i x a b e. let y = same i 0 (main64 i a) (omega arith) e in clean i x a b (y .0) ∙ h .initial i x a b (y .1);
+    own = λ i x a b e. mains i x a b;
+    backup = λ i j x a c b e d. let y = same i 2 (main64 i a) (omega arith) e in
+        backups j x c b ∙ h .backup i j x a c b (y .1) (sym (p j c) ∙ d) ∙ sym (clean i x a b (y .0));
+  }
     where
       p : (j : ℕ) → j < l .backups → pr′ j ≡ pr j
       p j x = prs j (backup64 j x)
+
       turned : (i : ℕ) → i < 64 → dirty i ≡ true → st′ i ≡ 1
       turned i x e = unfold nextState in (sts i x ∙ rw e)
+
       kept : (i : ℕ) → i < 64 → dirty i ≡ false → st′ i ≡ st i
       kept i x e = unfold nextState in (sts i x ∙ rw e)
+
       states : (i : ℕ) → i < l .mains → (b : Bool) → dirty i ≡ b → st′ i ≤ 2
       states i x true e = omega (arith, turned i (main64 i x) e)
       states i x false e = omega (arith, kept i (main64 i x) e, valid .states i x)
+
       rest : (i : ℕ) → l .mains ≤ i → i < 64 → (b : Bool) → dirty i ≡ b → st′ i ≡ 0
       rest i x y true e = absurd (omega (arith, low i e))
       rest i x y false e = kept i y e ∙ valid .statesRest i x y
+
       -- a state that is not 1 was there before, in a segment that is not dirty
       same : (i n : ℕ) → i < 64 → n ≢ 1 → st′ i ≡ n → (dirty i ≡ false) × (st i ≡ n)
       same i n x ne e = go (dirty i) refl
@@ -111,14 +121,13 @@ pub record Choice (l : Layout) (st pr : ℕ → ℕ) (i j : ℕ) : Type 0 where
 
 -- LAW 3: backup segment j is given to main segment i, whose state is 1 still or 2 already
 module _ (l : Layout) (most : SizesOk l) (st pr byte st′ pr′ byte′ : ℕ → ℕ) (P : Contents) (i j : ℕ)
-  (choice : Choice l st pr i j) (h : Holds l st pr byte P)
-  (sts : (u : ℕ) → u < 64 → u ≢ i → st′ u ≡ st u)
-  (pair : pr′ j ≡ i) (prs : (k : ℕ) → k < 64 → k ≢ j → pr′ k ≡ pr k)
-  (owns : (u x : ℕ) → u < l .mains → x < segmentSize l → u ≢ i → st u ≡ 1 → byte′ (mainAt l u + x) ≡ byte (mainAt l u + x))
-  (backups : (u k x : ℕ) → u < l .mains → k < l .backups → x < segmentSize l → k ≢ j → st u ≡ 2 → pr k ≡ u → byte′ (backupAt l k + x) ≡ byte (backupAt l k + x))
-  (turn : ((st′ i ≡ 1) × ((x : ℕ) → x < segmentSize l → byte′ (mainAt l i + x) ≡ P i x))
+    (choice : Choice l st pr i j) (h : Holds l st pr byte P)
+    (sts : (u : ℕ) → u < 64 → u ≢ i → st′ u ≡ st u)
+    (pair : pr′ j ≡ i) (prs : (k : ℕ) → k < 64 → k ≢ j → pr′ k ≡ pr k)
+    (owns : (u x : ℕ) → u < l .mains → x < segmentSize l → u ≢ i → st u ≡ 1 → byte′ (mainAt l u + x) ≡ byte (mainAt l u + x))
+    (backups : (u k x : ℕ) → u < l .mains → k < l .backups → x < segmentSize l → k ≢ j → st u ≡ 2 → pr k ≡ u → byte′ (backupAt l k + x) ≡ byte (backupAt l k + x))
+    (turn : ((st′ i ≡ 1) × ((x : ℕ) → x < segmentSize l → byte′ (mainAt l i + x) ≡ P i x))
     ⊎ ((st′ i ≡ 2) × ((x : ℕ) → x < segmentSize l → byte′ (backupAt l j + x) ≡ P i x))) where
-
   v : Valid l st pr
   v = h .valid
 
@@ -173,7 +182,7 @@ module _ (l : Layout) (most : SizesOk l) (st pr byte st′ pr′ byte′ : ℕ �
   backup : (u k x : ℕ) → u < l .mains → k < l .backups → x < segmentSize l → st′ u ≡ 2 → pr′ k ≡ u → Dec (u ≡ i) → Dec (k ≡ j) → byte′ (backupAt l k + x) ≡ P u x
   backup u k x a c b q d (yes e) (yes g) = subst (λ (w : ℕ). byte′ (backupAt l k + x) ≡ P w x) (sym e)
       (subst (λ (w : ℕ). byte′ (backupAt l w + x) ≡ P i x) (sym g)
-        (let q′ = to-i u 2 e q in ⊎-elim (λ y. absurd (omega arith)) (λ y. y .1 x b) turn))
+      (let q′ = to-i u 2 e q in ⊎-elim (λ y. absurd (omega arith)) (λ y. y .1 x b) turn))
   backup u k x a c b q d (yes e) (no g) = absurd (choice .sole k c g (sym (prs k (b64 k c) g) ∙ d ∙ e))
   backup u k x a c b q d (no e) (yes g) = absurd (e (sym d ∙ paired k g))
   backup u k x a c b q d (no e) (no g) =
@@ -182,17 +191,19 @@ module _ (l : Layout) (most : SizesOk l) (st pr byte st′ pr′ byte′ : ℕ �
 
   pub holds-given : Holds l st′ pr′ byte′ P
   holds-given = record {
-      valid = record {
-        states = λ u x. states u x (ℕ-discrete u i);
-        statesRest = λ u x y. sts u y (omega (arith, choice .main)) ∙ v .statesRest u x y;
-        pairs = λ k x. pairs k x (ℕ-discrete k j);
-        pairsRest = λ k x y. prs k y (omega (arith, choice .below)) ∙ v .pairsRest k x y;
-        once = λ b d x y z q. once b d x y z q (ℕ-discrete b j) (ℕ-discrete d j);
-        kept = λ u x q. kept u x q (ℕ-discrete u i);
-        bare = λ u x q k y e. bare u x q k y e (ℕ-discrete k j) };
-      initial = λ u x a b q. let ne = not-initial u q in h .initial u x a b (sym (sts u (m64 u a) ne) ∙ q);
-      own = λ u x a b q. own u x a b q (ℕ-discrete u i);
-      backup = λ u k x a c b q d. backup u k x a c b q d (ℕ-discrete u i) (ℕ-discrete k j) }
+    valid = record {
+      states = λ u x. states u x (ℕ-discrete u i);
+      statesRest = λ u x y. sts u y (omega (arith, choice .main)) ∙ v .statesRest u x y;
+      pairs = λ k x. pairs k x (ℕ-discrete k j);
+      pairsRest = λ k x y. prs k y (omega (arith, choice .below)) ∙ v .pairsRest k x y;
+      once = λ b d x y z q. once b d x y z q (ℕ-discrete b j) (ℕ-discrete d j);
+      kept = λ u x q. kept u x q (ℕ-discrete u i);
+      bare = λ u x q k y e. bare u x q k y e (ℕ-discrete k j);
+    };
+    initial = λ u x a b q. let ne = not-initial u q in h .initial u x a b (sym (sts u (m64 u a) ne) ∙ q);
+    own = λ u x a b q. own u x a b q (ℕ-discrete u i);
+    backup = λ u k x a c b q d. backup u k x a c b q d (ℕ-discrete u i) (ℕ-discrete k j);
+  }
 
 -- ---- images
 
@@ -215,14 +226,19 @@ stateOf I = segState I (activeLine I)
 -- an image with the same header fits too
 pub fit-cong : (l : Layout) (I H : Image) → length H ≡ length I → Bytes H → ((i : ℕ) → 64 ≤ i → i < 88 → byteAt H i ≡ byteAt I i) → Fit l I → Fit l H
 fit-cong l I H n small head f = record {
-    sizes = f .sizes; long = n ∙ f .long; bytes = small;
-    header = (word-cong _ _ 64 (λ i x y. head i x (omega arith)) ∙ f .header .0,
-      word-cong _ _ 72 (λ i x y. head i (omega arith) (omega arith)) ∙ f .header .1,
-      word-cong _ _ 80 (λ i x y. head i (omega arith) y) ∙ f .header .2) }
+  sizes = f .sizes;
+  long = n ∙ f .long;
+  bytes = small;
+  header = (
+    word-cong _ _ 64 (λ i x y. head i x (omega arith)) ∙ f .header .0,
+    word-cong _ _ 72 (λ i x y. head i (omega arith) (omega arith)) ∙ f .header .1,
+    word-cong _ _ 80 (λ i x y. head i (omega arith) y) ∙ f .header .2,
+  );
+}
 
 -- what holds by the line of epoch e, where e is the image's epoch
 pub recovers-at : (l : Layout) (H : Image) (P : Contents) (e : ℕ) → committedEpoch H ≡ e → Fit l H
-  → Holds l (segState H (stateLine e)) (backupToMain H) (byteAt H) P → Recoverable l H P
+    → Holds l (segState H (stateLine e)) (backupToMain H) (byteAt H) P → Recoverable l H P
 recovers-at l H P e q f h = record { fit = f; holds = subst (λ (k : ℕ). Holds l (segState H (stateLine k)) (backupToMain H) (byteAt H) P) (sym q) h }
 
 -- the epoch is that of an image with the same first word
@@ -239,7 +255,7 @@ pub record Alike (l : Layout) (I H : Image) : Type 0 where
   pub pairs : (j : ℕ) → j < 64 → backupToMain H j ≡ backupToMain I j
   pub owns : (i x : ℕ) → i < l .mains → x < segmentSize l → stateOf I i ≡ 1 → byteAt H (mainAt l i + x) ≡ byteAt I (mainAt l i + x)
   pub backups : (i j x : ℕ) → i < l .mains → j < l .backups → x < segmentSize l → stateOf I i ≡ 2 → backupToMain I j ≡ i
-    → byteAt H (backupAt l j + x) ≡ byteAt I (backupAt l j + x)
+      → byteAt H (backupAt l j + x) ≡ byteAt I (backupAt l j + x)
 
 pub recoverable-alike : (l : Layout) (I H : Image) (P : Contents) → Alike l I H → Recoverable l I P → Recoverable l H P
 recoverable-alike l I H P a r = recovers-at l H P (committedEpoch I) (epoch-cong I H (a .epochs)) (fit-cong l I H (a .long) (a .bytes) (a .header) (r .fit))

@@ -177,9 +177,9 @@ overlay-sets l a bs i h = go (decLt i a) (decLt i (a + length bs))
     go (yes q) d = sets-other bs l a i (λ x y. omega arith) ∙ sym (overlay-before (byteAt l) a bs i q)
     go (no q) (no d) = sets-other bs l a i (λ x y. omega arith) ∙ sym (overlay-after (byteAt l) a bs i (omega arith))
     go (no q) (yes d) =
-      let e : a + (i - a) ≡ i = omega arith in
-      sym (ap (λ (n : ℕ). getD (sets l a bs) n 0) e) ∙ sets-at bs l a (i - a) h (omega arith)
-      ∙ in-range bs (i - a) (byteAt l i) (omega arith) ∙ sym (overlay-in (byteAt l) a bs i (omega arith))
+        let e : a + (i - a) ≡ i = omega arith in
+        sym (ap (λ (n : ℕ). getD (sets l a bs) n 0) e) ∙ sets-at bs l a (i - a) h (omega arith)
+        ∙ in-range bs (i - a) (byteAt l i) (omega arith) ∙ sym (overlay-in (byteAt l) a bs i (omega arith))
       where
         in-range : (bs : List ℕ) (k d : ℕ) → k < length bs → getD bs k 0 ≡ getD bs k d
         in-range [] k d h = absurd (omega arith)

@@ -46,8 +46,7 @@ unfolding withDirty
 copied-session s i b h = rw (getD-set-same (s .«dirty_blocks») i 0 0 h, set-set (s .«dirty_blocks») i 0 (setBit 0 b))
 
 module _ (O : Ops) (I₀ : Image) (s : Session) (P W : Contents) (held : Bytes I₀) (inv : Invariant (s .layout) O (replay O I₀) s P W)
-  (w : WriteArgs) (ok : SpanOk (s .layout) w) (len : length (s .«dirty_blocks») ≡ 64) where
-
+    (w : WriteArgs) (ok : SpanOk (s .layout) w) (len : length (s .«dirty_blocks») ≡ 64) where
   abbrev l : Layout
   l = s .layout
 
@@ -81,18 +80,24 @@ module _ (O : Ops) (I₀ : Image) (s : Session) (P W : Contents) (held : Bytes I
   -- the backup segment that is taken: its own, or a free one
   choice-new : (j : ℕ) → needsCopy s I i ≡ true → isPaired l (backupToMain I) i ≡ false → Free l (stateOf I) (backupToMain I) j → Choice l (stateOf I) (backupToMain I) i j
   choice-new j e q f = record {
-      main = ok .main; below = f .0; holds = copy-needed s I i e .1;
-      free = λ u h p two. ⊎-elim (λ x. omega (arith, inv .recovers .fit .sizes .0)) (λ x. x (subst (λ (n : ℕ). stateOf I n ≡ 2) (sym p) two)) (f .1);
-      sole = λ k h ne. unpaired-none l (backupToMain I) i q k h }
+    main = ok .main;
+    below = f .0;
+    holds = copy-needed s I i e .1;
+    free = λ u h p two. ⊎-elim (λ x. omega (arith, inv .recovers .fit .sizes .0)) (λ x. x (subst (λ (n : ℕ). stateOf I n ≡ 2) (sym p) two)) (f .1);
+    sole = λ k h ne. unpaired-none l (backupToMain I) i q k h;
+  }
 
   choice-old : needsCopy s I i ≡ true → isPaired l (backupToMain I) i ≡ true → Choice l (stateOf I) (backupToMain I) i (pairedBackup l (backupToMain I) i)
   choice-old e q =
       let p = paired-at l (backupToMain I) i q in
       let one : stateOf I i ≡ 1 = copy-needed s I i e .1 in
       record {
-        main = ok .main; below = p .0; holds = one;
+        main = ok .main;
+        below = p .0;
+        holds = one;
         free = λ u h d two. let g : u ≡ i = sym d ∙ p .1 in let g′ : stateOf I u ≡ stateOf I i = ap (stateOf I) g in omega arith;
-        sole = λ k h ne d. ne (inv .recovers .holds .valid .once k (pairedBackup l (backupToMain I) i) h (p .0) (omega (arith, ok .main)) (d ∙ sym (p .1))) }
+        sole = λ k h ne d. ne (inv .recovers .holds .valid .once k (pairedBackup l (backupToMain I) i) h (p .0) (omega (arith, ok .main)) (d ∙ sym (p .1)));
+      }
 
   -- the first part makes a backup segment ready, in either way
   record Prepared (j : ℕ) : Type 0 where
@@ -106,16 +111,23 @@ module _ (O : Ops) (I₀ : Image) (s : Session) (P W : Contents) (held : Bytes I
     where
       sizes64 : (k : ℕ) → k < l .backups → k < 64
       sizes64 k h = omega (arith, inv .recovers .fit .sizes .1)
+
       go : (b : Bool) → isPaired l (backupToMain I) i ≡ b → Prepared j
       go true q =
-        let p = paired-at l (backupToMain I) i q in
-        record { backup = pairedBackup l (backupToMain I) i; choice = choice-old e q;
-          ready = rw q (ready-old s I i (pairedBackup l (backupToMain I) i) small (inv .recovers .fit .long) (ok .main) (p .0) (sizes64 _ (p .0)) (p .1)
-            (λ x h d. inv .twin i (pairedBackup l (backupToMain I) i) x (ok .main) (p .0) h (p .1) d)) }
+          let p = paired-at l (backupToMain I) i q in
+          record {
+            backup = pairedBackup l (backupToMain I) i;
+            choice = choice-old e q;
+            ready = rw q (ready-old s I i (pairedBackup l (backupToMain I) i) small (inv .recovers .fit .long) (ok .main) (p .0) (sizes64 _ (p .0)) (p .1)
+                (λ x h d. inv .twin i (pairedBackup l (backupToMain I) i) x (ok .main) (p .0) h (p .1) d));
+          }
       go false q =
-        let f : Free l (stateOf I) (backupToMain I) j = free (unfold needsBackup in (both e (ap not q))) in
-        record { backup = j; choice = choice-new j e q f;
-          ready = rw q (ready-new l I i j small (inv .recovers .fit .long) (sizes64 j (f .0)) (omega (arith, i64)) (ok .main) (f .0)) }
+          let f : Free l (stateOf I) (backupToMain I) j = free (unfold needsBackup in (both e (ap not q))) in
+          record {
+            backup = j;
+            choice = choice-new j e q f;
+            ready = rw q (ready-new l I i j small (inv .recovers .fit .long) (sizes64 j (f .0)) (omega (arith, i64)) (ok .main) (f .0));
+          }
 
   module _ (j : ℕ) (free : needsBackup s I i ≡ true → Free l (stateOf I) (backupToMain I) j) where
     abbrev A : Ops
@@ -146,13 +158,14 @@ module _ (O : Ops) (I₀ : Image) (s : Session) (P W : Contents) (held : Bytes I
       where
         span : Clear k U
         span = puts-clear (span-puts l I w ok small) k (inl (omega (arith, span-bounds l w ok)))
+
         go : (b : Bool) → needsCopy s I i ≡ b → Clear k (writeOps s I w j)
         go true e =
-          let p = prepared j e free in
-          subst (λ (Y : Ops). Clear k Y) (sym (copy-ops e))
+            let p = prepared j e free in
+            subst (λ (Y : Ops). Clear k Y) (sym (copy-ops e))
             (each-append (Misses k) X U
-              (each-append (Misses k) A (statePhase I i) (p .ready .clear k (inl (omega arith)))
-                (state-clear l O I₀ s P W held inv i (p .backup) (p .choice) A (p .ready) k (inl (omega arith)))) span)
+            (each-append (Misses k) A (statePhase I i) (p .ready .clear k (inl (omega arith)))
+            (state-clear l O I₀ s P W held inv i (p .backup) (p .choice) A (p .ready) k (inl (omega arith)))) span)
         go false e = subst (λ (Y : Ops). Clear k Y) (sym (plain-ops e)) span
 
     -- CRASHED: the same contents
@@ -161,36 +174,40 @@ module _ (O : Ops) (I₀ : Image) (s : Session) (P W : Contents) (held : Bytes I
       where
         copied : Prepared j → CrashImage I₀ (O ++ take n (X ++ U)) H → Recoverable l H P
         copied p x = ⊎-elim
-          (λ q. ⊎-elim
+            (λ q. ⊎-elim
             (λ r. copy-crash l O I₀ s P W held inv i (p .backup) (p .choice) A (p .ready) n H (r .1))
             (λ r. state-crash l O I₀ s P W held inv i (p .backup) (p .choice) A (p .ready) (n - length A) H (r .1))
             (crash-seq I₀ H O A (statePhase I i) n (q .1)))
-          (λ q. span-crash l (O ++ X) I₀ (unmarked s i) P W held (after-copy p) i (w .block) (ok .main) (ok .block) (turned p)
+            (λ q. span-crash l (O ++ X) I₀ (unmarked s i) P W held (after-copy p) i (w .block) (ok .main) (ok .block) (turned p)
             U _ _ _ (span-puts l I w ok small) (span-bounds l w ok .0) (span-bounds l w ok .1) (n - length X) H (q .1))
-          (crash-seq I₀ H O X U n x)
+            (crash-seq I₀ H O X U n x)
+
         go : (b : Bool) → needsCopy s I i ≡ b → Recoverable l H P
         go true e = copied (prepared j e free) (subst (λ (Y : Ops). CrashImage I₀ (O ++ take n Y) H) (copy-ops e) c)
         go false e = span-crash l O I₀ s P W held inv i (w .block) (ok .main) (ok .block) (not-main e)
-          U _ _ _ (span-puts l I w ok small) (span-bounds l w ok .0) (span-bounds l w ok .1) n H (subst (λ (Y : Ops). CrashImage I₀ (O ++ take n Y) H) (plain-ops e) c)
+            U _ _ _ (span-puts l I w ok small) (span-bounds l w ok .0) (span-bounds l w ok .1) n H (subst (λ (Y : Ops). CrashImage I₀ (O ++ take n Y) H) (plain-ops e) c)
 
     -- PLAYED WHOLE: the bytes are laid over the working contents
     pub write-done : (W′ : Contents) → ((u x : ℕ) → u < l .mains → x < segmentSize l → W′ u x ≡ overlay (byteAt I) (spanAt l w) (w .bytes) (mainAt l u + x))
-      → Invariant l (O ++ writeOps s I w j) (replay (O ++ writeOps s I w j) I₀) (writeSession s I w) P W′
+        → Invariant l (O ++ writeOps s I w j) (replay (O ++ writeOps s I w j) I₀) (writeSession s I w) P W′
     write-done W′ given = go (needsCopy s I i) refl
       where
         outside : (u x : ℕ) → u < l .mains → x < segmentSize l → (mainAt l u + x < spanFirst l w) ⊎ (spanFirst l w + spanWide l w ≤ mainAt l u + x) → W′ u x ≡ W u x
         outside u x h k y = given u x h k ∙ laid-outside l I w ok (mainAt l u + x) y ∙ inv .working u x h k
+
         result : (Y : Ops) (t : Session) → Invariant l (O ++ Y) (replay (O ++ Y) I₀) t P W′ → writeOps s I w j ≡ Y → writeSession s I w ≡ t
-          → Invariant l (O ++ writeOps s I w j) (replay (O ++ writeOps s I w j) I₀) (writeSession s I w) P W′
+            → Invariant l (O ++ writeOps s I w j) (replay (O ++ writeOps s I w j) I₀) (writeSession s I w) P W′
         result Y t h p q = subst (λ (Z : Ops). Invariant l (O ++ Z) (replay (O ++ Z) I₀) (writeSession s I w) P W′) (sym p)
-          (subst (λ (u : Session). Invariant l (O ++ Y) (replay (O ++ Y) I₀) u P W′) (sym q) h)
+            (subst (λ (u : Session). Invariant l (O ++ Y) (replay (O ++ Y) I₀) u P W′) (sym q) h)
+
         copied : needsCopy s I i ≡ true → Prepared j → Invariant l (O ++ (X ++ U)) (replay (O ++ (X ++ U)) I₀) (marked (unmarked s i) i (w .block)) P W′
         copied e p = subst (λ (R : Ops). Invariant l R (replay R I₀) (marked (unmarked s i) i (w .block)) P W′) (append-assoc O X U)
-          (span-done l (O ++ X) I₀ (unmarked s i) P W held (after-copy p) i (w .block) (ok .main) (ok .block) (turned p)
+            (span-done l (O ++ X) I₀ (unmarked s i) P W held (after-copy p) i (w .block) (ok .main) (ok .block) (turned p)
             U _ _ _ (span-puts l I w ok small) (span-bounds l w ok .0) (span-bounds l w ok .1) (omega (arith, room, length-set (s .«dirty_blocks») i 0)) W′ outside (λ u x h k y z. sym (given u x h k)))
+
         go : (b : Bool) → needsCopy s I i ≡ b → Invariant l (O ++ writeOps s I w j) (replay (O ++ writeOps s I w j) I₀) (writeSession s I w) P W′
         go true e = result (X ++ U) _ (copied e (prepared j e free)) (copy-ops e) (unfold writeSession in (rw e (sym (copied-session s i (w .block) room))))
         go false e = result U (marked s i (w .block))
-          (span-done l O I₀ s P W held inv i (w .block) (ok .main) (ok .block) (not-main e)
+            (span-done l O I₀ s P W held inv i (w .block) (ok .main) (ok .block) (not-main e)
             U _ _ _ (span-puts l I w ok small) (span-bounds l w ok .0) (span-bounds l w ok .1) room W′ outside (λ u x h k y z. sym (given u x h k)))
-          (plain-ops e) (unfold writeSession in (rw e))
+            (plain-ops e) (unfold writeSession in (rw e))

@@ -53,4 +53,5 @@ checkpointOutcome s I t =
     record {
       status = e;
       session = cond (served e) (withCheckpoint s) s;
-      ops = cond (served e) (checkpointOps s I) [] }
+      ops = cond (served e) (checkpointOps s I) [];
+    }

@@ -94,7 +94,7 @@ segmentBytes l I at = take (segmentSize l) (drop at I)
 unfoldable pub checkpointSegment : Layout → Image → ℕ → ℕ → List ℕ
 checkpointSegment l I line i =
     byState (segState I line i) (replicate (segmentSize l) 0) (segmentBytes l I (mainAt l i))
-      (segmentBytes l I (backupAt l (pairedBackup l (backupToMain I) i)))
+    (segmentBytes l I (backupAt l (pairedBackup l (backupToMain I) i)))
 
 -- the checkpoint of all main segments, one after the other
 unfoldable pub checkpointBytes : Layout → Image → ℕ → List ℕ

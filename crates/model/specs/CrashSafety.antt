@@ -26,7 +26,7 @@ pub record ReadsBlock (l : Layout) (I : Image) (W P : Page) (i b : ℕ) : Type 0
   pub status : readStatus l I i b ≡ 0
   pub working : workingBlock l I i b ≡ pageBlock l W i b
   pub checkpoint : (checkpointBlock l I i b ≡ pageBlock l P i b)
-    ⊎ ((segState I (activeLine I) i ≡ ssInitial) × (checkpointBlock l I i b ≡ []) × (pageBlock l P i b ≡ replicate blockSize 0))
+      ⊎ ((segState I (activeLine I) i ≡ ssInitial) × (checkpointBlock l I i b ≡ []) × (pageBlock l P i b ≡ replicate blockSize 0))
 
 -- in every block
 abbrev pub Reads : Layout → Image → Page → Page → Type 0
@@ -85,7 +85,7 @@ Leaves = Image → Ops → Image → Type 0
 pub data CutOpenings (R : Leaves) (l : Layout) : Image → Image → Type 0 where
   none : {H : Image} → CutOpenings R l H H
   again : {H H′ H″ : Image} (t : Trace) (p : ℕ) → openStatus l H t ≢ 11 → R H (playedOps H (openOutcome l H t .ops) t p) H′
-    → CutOpenings R l H′ H″ → CutOpenings R l H H″
+      → CutOpenings R l H′ H″ → CutOpenings R l H H″
 
 abbrev pub CrashSafetyFor : Leaves → Type 0
 CrashSafetyFor R =
@@ -127,7 +127,7 @@ ReplayServesAll =
     (l : Layout) (I : Image) (t : Trace) → Bytes I → openStatus l I t ≡ 0 → (cs : List Call) → AllPermitted (start l I t) cs
     → (c : Call) → Permitted (run (start l I t) cs) c → (p : ℕ)
     → (replayOutcome (run (start l I t) cs .image) (reported (outcome (run (start l I t) cs) c .ops) (traceOf c)) p .status ≡ 0)
-      × (calledOps (run (start l I t) cs) c p ≡ take p (outcome (run (start l I t) cs) c .ops))
+    × (calledOps (run (start l I t) cs) c p ≡ take p (outcome (run (start l I t) cs) c .ops))
 
 -- a finished opening leaves one crash image only, so that what a history starts with is durable indeed
 abbrev pub OpeningSettles : Type 0

@@ -75,7 +75,8 @@ step s c = record {
   played = s .played ++ calledOps s c (length (outcome s c .ops));
   image = replayedImage (s .image) (outcome s c .ops) (traceOf c) (length (outcome s c .ops));
   session = outcome s c .session;
-  model = modelStep (s .layout) (argsOf c) (served (outcome s c .status)) (s .model) }
+  model = modelStep (s .layout) (argsOf c) (served (outcome s c .status)) (s .model);
+}
 
 -- many
 unfoldable pub run : State → List Call → State
@@ -94,7 +95,8 @@ start l I t = record {
   played = [];
   image = openedImage l I t;
   session = openOutcome l I t .session;
-  model = record { working = checkpointBytes l I (activeLine I); checkpoint = checkpointBytes l I (activeLine I) } }
+  model = record { working = checkpointBytes l I (activeLine I); checkpoint = checkpointBytes l I (activeLine I) };
+}
 
 -- what is asked of a call: a write's bytes are bytes, and the backup segment that it takes is a permitted choice
 abbrev pub Permitted : State → Call → Type 0

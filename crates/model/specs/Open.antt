@@ -54,4 +54,5 @@ openOutcome l I t =
     record {
       status = e;
       session = cond (served e) (freshSession l) zeroSession;
-      ops = cond (served e) (recoveryOps l I (activeLine I)) [] }
+      ops = cond (served e) (recoveryOps l I (activeLine I)) [];
+    }

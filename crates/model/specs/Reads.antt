@@ -42,8 +42,8 @@ workingPart l I i b = cond (served (readStatus l I i b)) (blockPart (mainAt l i)
 unfoldable pub checkpointPart : Layout → Image → ℕ → ℕ → Part
 checkpointPart l I i b =
     cond (served (readStatus l I i b))
-      (byState (segState I (activeLine I) i) nowhere (blockPart (mainAt l i) b) (blockPart (backupAt l (pairedBackup l (backupToMain I) i)) b))
-      nowhere
+    (byState (segState I (activeLine I) i) nowhere (blockPart (mainAt l i) b) (blockPart (backupAt l (pairedBackup l (backupToMain I) i)) b))
+    nowhere
 
 abbrev pub workingBlock : Layout → Image → ℕ → ℕ → List ℕ
 workingBlock l I i b = partOf I (workingPart l I i b)

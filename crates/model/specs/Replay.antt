@@ -15,8 +15,8 @@ unfoldable pub wellFormed : ℕ → ℕ → ℕ → ℕ → Bool
 wellFormed size kind p w =
     ltb p size
     && (eqb kind 1 && eqb (p % wordSize) 0
-      || eqb kind 2 && eqb (p % lineSize) 0 && eqb w 0
-      || eqb kind 3 && eqb p 0 && eqb w 0)
+    || eqb kind 2 && eqb (p % lineSize) 0 && eqb w 0
+    || eqb kind 3 && eqb p 0 && eqb w 0)
 
 -- the first n operations of a trace are well formed
 unfoldable pub allWellFormed : ℕ → Trace → ℕ → Bool
@@ -49,4 +49,5 @@ replayOutcome I t n =
     record {
       status = e;
       played = cond (served e) (replayCount t n) 0;
-      image = cond (served e) (replay (replayedOps t (replayCount t n)) I) I }
+      image = cond (served e) (replay (replayedOps t (replayCount t n)) I) I;
+    }

@@ -47,8 +47,8 @@ copyDirty s I i j =
 unfoldable pub backupOps : Session → Image → ℕ → ℕ → Ops
 backupOps s I i j =
     cond (isPaired (s .layout) (backupToMain I) i)
-      (copyDirty s I i (pairedBackup (s .layout) (backupToMain I) i))
-      (pairOps I i j ++ copySegment (s .layout) I (mainAt (s .layout) i) (backupAt (s .layout) j))
+    (copyDirty s I i (pairedBackup (s .layout) (backupToMain I) i))
+    (pairOps I i j ++ copySegment (s .layout) I (mainAt (s .layout) i) (backupAt (s .layout) j))
 
 -- the active state of main segment i becomes 2
 unfoldable pub stateOps : Image → ℕ → Ops
@@ -69,7 +69,7 @@ spanWords a n = (a + n - 1) / wordSize - a / wordSize + 1
 unfoldable pub spanOps : Layout → Image → WriteArgs → Ops
 spanOps l I w =
     stores (spanWords (spanAt l w) (length (w .bytes))) (wordPlace (spanAt l w))
-      (λ k. wordOf (overlay (byteAt I) (spanAt l w) (w .bytes)) (wordPlace (spanAt l w) + wordSize * k))
+    (λ k. wordOf (overlay (byteAt I) (spanAt l w) (w .bytes)) (wordPlace (spanAt l w) + wordSize * k))
 
 unfoldable pub writeOps : Session → Image → WriteArgs → ℕ → Ops
 writeOps s I w j = cond (needsCopy s I (w .main)) (copyOnWriteOps s I (w .main) j) [] ++ spanOps (s .layout) I w
@@ -103,7 +103,8 @@ writeOutcome s I w j t =
     record {
       status = e;
       session = cond (served e) (writeSession s I w) s;
-      ops = cond (served e) (writeOps s I w j) [] }
+      ops = cond (served e) (writeOps s I w j) [];
+    }
 
 -- what holds of the backup segment j that a served write takes: if it needs a new one, j is free by the active line
 abbrev pub Chosen : Session → Image → WriteArgs → Trace → ℕ → Type 0

@@ -19,29 +19,44 @@ pub struct Layout {
 // Every size and place of an image.
 impl Layout {
     pub const WORD_SIZE: u64 = 8;
+
     pub const LINE_SIZE: u64 = 64;
+
     pub const BLOCK_SIZE: u64 = 256;
+
     pub const METADATA_SIZE: u64 = 512;
     // The most main segments, backup segments or blocks.
     pub const MOST: u64 = 64;
+
     pub const EPOCH_AT: u64 = 0;
+
     pub const MAINS_AT: u64 = 64;
+
     pub const BACKUPS_AT: u64 = 72;
+
     pub const BLOCKS_AT: u64 = 80;
+
     pub const STATES_AT: u64 = 128;
+
     pub const PAIRS_AT: u64 = 256;
     // The pair byte of a backup segment that has no main segment.
     pub const UNPAIRED: u64 = 255;
     // The three states of a main segment: its checkpoint is all zero, stands in itself, stands in its backup.
     pub const SS_INITIAL: u64 = 0;
+
     pub const SS_MAIN: u64 = 1;
+
     pub const SS_BACKUP: u64 = 2;
 
     // The layout of these sizes, whatever they are.
     pub fn new(mains: u64, backups: u64, blocks: u64) -> Layout
         ensures { λ r. ⌜ r ≡ layoutOf mains backups blocks ⌝ }
     {
-        Layout { mains: mains, backups: backups, blocks: blocks }
+        Layout {
+            mains: mains,
+            backups: backups,
+            blocks: blocks,
+        }
     }
 }
 
@@ -59,7 +74,11 @@ impl Session {
     pub fn fresh(layout: Layout) -> Session
         ensures { λ r. ⌜ r ≡ freshSession layout ⌝ }
     {
-        Session { layout: layout, dirty_segments: 0, dirty_blocks: [0; 64] }
+        Session {
+            layout: layout,
+            dirty_segments: 0,
+            dirty_blocks: [0; 64],
+        }
     }
 }
 
