@@ -1,0 +1,53 @@
+-- What a computed case needs: a name that opens every definition of `model`, and a test for equal lists of numbers, which
+-- the checker computes in one pass.
+use Prim.Native.Nat.{ℕ, zero, suc}
+use mathlib.Core.Path.{_≡_, refl, ap₂}
+use mathlib.Core.Bool.{Bool, true, false, _&&_}
+use mathlib.Core.List.{List, [], _∷_}
+use lib.Dec.{eqb, ltb, lit<}
+use borrow.Author.Tests.{eqb-true, ltb-true}
+use Rattle.model.proofs.Range.{and-left, and-right}
+use Rattle.model.specs.Range.{cat, allB, anyB, orNext, firstB}
+use Rattle.model.specs.Words.{Bytes, littleEndian, wordOf, bytesOf, storeWord, overlay}
+use Rattle.model.specs.Layout.{inRange, sizesOk, imageSize, stateLine}
+use Rattle.model.specs.Status.{firstError}
+use Rattle.model.specs.Container.{isPaired, validMetadata, pairedBackup, isFree, anyFree, byState, checkpointSegment, checkpointBytes, headerOk}
+use Rattle.model.specs.Session.{bit, setBit, dirtySegment, dirtyBlock, freshSession, zeroSession, withDirty, withCheckpoint, validSession}
+use Rattle.model.specs.Ops.{encode, opOf, decode, written, traceShort, apply, replay, stores, clwbs, putBlock, persistCopy, persistZero}
+use Rattle.model.specs.Replay.{wellFormed, allWellFormed, replayCount, replayedOps, replayStatus, replayOutcome}
+use Rattle.model.specs.Format.{container, formatted, formatOutcome}
+use Rattle.model.specs.Open.{recoveryAction, copySegment, zeroSegment, actionOps, recoverSegment, recoveryOps, openStatus, openOutcome}
+use Rattle.model.specs.Write.{needsCopy, needsBackup, pairOps, copyDirty, backupOps, stateOps, copyOnWriteOps, spanOps, writeOps, writeSession, spanBad, writeStatus, writeOutcome}
+use Rattle.model.specs.Checkpoint.{flushDirty, nextState, statesOps, epochOps, checkpointOps, checkpointStatus, checkpointOutcome}
+use Rattle.model.specs.Reads.{readStatus, workingPart, checkpointPart}
+use Rattle.model.specs.Reference.{modelStep}
+use Rattle.model.specs.History.{reported, playedOps, replayedImage, step, run, openedImage, start}
+use Rattle.model.specs.CrashSafety.{lastCheckpoint}
+
+unfoldable pub model-rules : Unit {0}
+unfolding cat allB anyB orNext firstB littleEndian wordOf bytesOf storeWord overlay inRange sizesOk imageSize stateLine firstError isPaired validMetadata pairedBackup isFree anyFree byState checkpointSegment checkpointBytes headerOk bit setBit dirtySegment dirtyBlock freshSession zeroSession withDirty withCheckpoint validSession encode opOf decode written traceShort apply replay stores clwbs putBlock persistCopy persistZero wellFormed allWellFormed replayCount replayedOps replayStatus replayOutcome container formatted formatOutcome recoveryAction copySegment zeroSegment actionOps recoverSegment recoveryOps openStatus openOutcome needsCopy needsBackup pairOps copyDirty backupOps stateOps copyOnWriteOps spanOps writeOps writeSession spanBad writeStatus writeOutcome flushDirty nextState statesOps epochOps checkpointOps checkpointStatus checkpointOutcome readStatus workingPart checkpointPart modelStep reported playedOps replayedImage step run openedImage start lastCheckpoint
+model-rules = tt
+
+unfoldable pub same : List ℕ → List ℕ → Bool
+same [] [] = true
+same [] (y ∷ ys) = false
+same (x ∷ xs) [] = false
+same (x ∷ xs) (y ∷ ys) = eqb x y && same xs ys
+
+pub same-equal : (xs ys : List ℕ) → same xs ys ≡ true → xs ≡ ys
+unfolding same
+same-equal [] [] e = refl
+same-equal [] (y ∷ ys) e = cc
+same-equal (x ∷ xs) [] e = cc
+same-equal (x ∷ xs) (y ∷ ys) e =
+    ap₂ _∷_ (eqb-true x y (and-left (eqb x y) (same xs ys) e)) (same-equal xs ys (and-right (eqb x y) (same xs ys) e))
+
+unfoldable pub small : List ℕ → Bool
+small [] = true
+small (x ∷ xs) = ltb x 256 && small xs
+
+pub small-bytes : (xs : List ℕ) → small xs ≡ true → Bytes xs
+unfolding small
+small-bytes [] e i = lit< tt
+small-bytes (x ∷ xs) e zero = ltb-true x 256 (and-left (ltb x 256) (small xs) e)
+small-bytes (x ∷ xs) e (suc i) = small-bytes xs (and-right (ltb x 256) (small xs) e) i

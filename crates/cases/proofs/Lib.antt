@@ -1,0 +1,4 @@
+pub mod Compute
+pub mod Table
+pub mod Starts
+pub mod Cut

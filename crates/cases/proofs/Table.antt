@@ -1,0 +1,68 @@
+-- The table holds: a test of all rows, computed, and the law that the test means equality. The test runs over the same
+-- rows made another way, with each state's image computed once before the next call reads it.
+use Prim.Native.Nat.{ℕ}
+use mathlib.Core.Path.{_≡_, refl, ap, ap₂, subst, _∙_}
+use mathlib.Core.Bool.{Bool, true, _&&_}
+use mathlib.Core.List.{List, [], _∷_, _++_, map}
+use Rattle.model.specs.History.{State, start, step}
+use Rattle.model.proofs.Range.{and-left, and-right}
+use Rattle.cases.specs.Table.{Row, Case, l211, fresh, room, rowOf, history, follow, sizeCases, openCases, copyCase, rows, Holds}
+use Rattle.cases.proofs.Compute.{model-rules, same, same-equal}
+
+-- ---- a test of rows
+
+agree : List Row → Bool
+agree [] = true
+agree (r ∷ rs) = same (r .given) (r .stated) && agree rs
+
+agree-equal : (rs : List Row) → agree rs ≡ true → map (λ r. r .given) rs ≡ map (λ r. r .stated) rs
+unfolding agree
+agree-equal [] e = refl
+agree-equal (r ∷ rs) e =
+    ap₂ _∷_ (same-equal (r .given) (r .stated) (and-left _ (agree rs) e)) (agree-equal rs (and-right (same (r .given) (r .stated)) (agree rs) e))
+
+-- ---- a list, and the image of a state, computed before they are handed on
+
+known : {A : Type 0} → List ℕ → (List ℕ → A) → A
+known [] k = k []
+known (x ∷ xs) k = known xs (λ ys. k (x ∷ ys))
+
+known-same : {A : Type 0} (xs : List ℕ) (k : List ℕ → A) → known xs k ≡ k xs
+unfolding known
+known-same [] k = refl
+known-same (x ∷ xs) k = known-same xs (λ ys. k (x ∷ ys))
+
+abbrev withImage : State → List ℕ → State
+withImage s I = record { layout = s .layout; held = s .held; played = s .played; image = I; session = s .session; model = s .model }
+
+abbrev knownState : {A : Type 0} → State → (State → A) → A
+knownState s k = known (s .image) (λ I. k (withImage s I))
+
+followKnown : List Case → State → List Row
+followKnown [] s = []
+followKnown (c ∷ cs) s = knownState (step s (c .call)) (λ after. rowOf s c after ∷ followKnown cs after)
+
+follow-same : (cs : List Case) (s : State) → followKnown cs s ≡ follow cs s
+unfolding followKnown follow
+follow-same [] s = refl
+follow-same (c ∷ cs) s =
+    known-same (step s (c .call) .image) (λ I. rowOf s c (withImage (step s (c .call)) I) ∷ followKnown cs (withImage (step s (c .call)) I))
+    ∙ ap (λ (rs : List Row). rowOf s c (step s (c .call)) ∷ rs) (follow-same cs (step s (c .call)))
+
+-- ---- the table
+
+rowsKnown : List Row
+rowsKnown = sizeCases ++ openCases ++ knownState (start l211 fresh room) (followKnown history) ++ copyCase
+
+rows-same : rowsKnown ≡ rows
+unfolding rowsKnown rows
+rows-same =
+    ap (λ (rs : List Row). sizeCases ++ openCases ++ rs ++ copyCase)
+    (known-same (start l211 fresh room .image) (λ I. followKnown history (withImage (start l211 fresh room) I)) ∙ follow-same history (start l211 fresh room))
+
+rows-agree : agree rowsKnown ≡ true
+unfolding model-rules rowsKnown history known followKnown sizeCases openCases copyCase same agree
+rows-agree = refl
+
+pub holds : Holds
+holds = agree-equal rows (subst (λ (rs : List Row). agree rs ≡ true) rows-same rows-agree)

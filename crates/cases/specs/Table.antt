@@ -1,0 +1,147 @@
+-- Document 01's bench cases P1 to P10 as one table. Each row holds the numbers that the definitions of `model` give and
+-- the numbers that document 01 states; `Holds` says that they agree in every row. P2 to P9 are one history, each call made
+-- by the step of model's histories. Proved in proofs/Table.antt.
+use Prim.Native.Nat.{ℕ}
+use mathlib.Core.Path.{_≡_}
+use mathlib.Core.Bool.{cond}
+use mathlib.Core.List.{List, [], _∷_, _++_, map}
+use lib.ListN.{length, take, drop, replicate}
+use Rattle.model.specs.declared.Layout.{Layout}
+use Rattle.model.specs.declared.Session.{Session}
+use Rattle.model.specs.Words.{Image}
+use Rattle.model.specs.Layout.{lineSize, unpaired, imageSize}
+use Rattle.model.specs.Container.{activeLine, segState, backupToMain, isFree}
+use Rattle.model.specs.Ops.{Trace, Outcome, encode}
+use Rattle.model.specs.Format.{container, formatOutcome}
+use Rattle.model.specs.Open.{openOutcome}
+use Rattle.model.specs.Reads.{checkpointPart}
+use Rattle.model.specs.Write.{WriteArgs, writeOutcome}
+use Rattle.model.specs.History.{Call, callWrite, callCheckpoint, State, outcome, start, step}
+
+-- ---- rows
+
+pub record Row : Type 0 where
+  -- the number of the case in document 01
+  pub case : ℕ
+  pub given : List ℕ
+  pub stated : List ℕ
+
+abbrev pub row : ℕ → List ℕ → List ℕ → Row
+row n given stated = record { case = n; given = given; stated = stated }
+
+-- the status of a call and its number of operations
+abbrev pub answer : Outcome → List ℕ
+answer o = o .status ∷ length (o .ops) ∷ []
+
+-- ---- sizes, traces and calls
+
+abbrev pub sizes : ℕ → ℕ → ℕ → Layout
+sizes m s b = record { mains = m; backups = s; blocks = b }
+
+abbrev pub l211 : Layout
+l211 = sizes 2 1 1
+
+-- an image as format leaves it
+abbrev pub fresh : Image
+fresh = formatOutcome l211 (replicate 1280 77) .image
+
+-- a trace, long enough for every call of the history
+abbrev pub room : Trace
+room = replicate 219 0
+
+-- bytes written to block 0 of a main segment; backup segment 0, the only one, is taken where one is needed
+abbrev pub writes : ℕ → ℕ → List ℕ → WriteArgs
+writes main offset bytes = record { main = main; block = 0; offset = offset; bytes = bytes }
+
+abbrev pub write : ℕ → ℕ → List ℕ → Call
+write main offset bytes = callWrite (writes main offset bytes) room 0
+
+abbrev pub checkpoint : Call
+checkpoint = callCheckpoint room
+
+abbrev pub aWord : List ℕ
+aWord = 1 ∷ 2 ∷ 3 ∷ 4 ∷ 5 ∷ 6 ∷ 7 ∷ 8 ∷ []
+
+-- the bytes of P3 and its write
+abbrev pub fourBytes : List ℕ
+fourBytes = 0xa1 ∷ 0xb2 ∷ 0xc3 ∷ 0xd4 ∷ []
+
+abbrev pub writeFour : Call
+writeFour = write 0 6 fourBytes
+
+-- ---- the history
+
+-- a call of the history, what is read off it besides its answer, and the numbers that document 01 states
+pub record Case : Type 0 where
+  pub case : ℕ
+  pub call : Call
+  pub read : Outcome → State → List ℕ
+  pub stated : List ℕ
+
+abbrev pub case : ℕ → Call → (Outcome → State → List ℕ) → List ℕ → Case
+case n c read stated = record { case = n; call = c; read = read; stated = stated }
+
+abbrev pub answerOnly : Outcome → State → List ℕ
+answerOnly o s = []
+
+-- 1 if backup segment 0 is free
+abbrev pub backupFree : State → ℕ
+backupFree s = cond (isFree (segState (s .image) (activeLine (s .image))) (backupToMain (s .image)) 0) 1 0
+
+unfoldable pub history : List Case
+history =
+    case 3 writeFour (λ o s. encode (o .ops)) (0 ∷ 2 ∷ 1 ∷ 512 ∷ 0xb2a1000000000000 ∷ 1 ∷ 520 ∷ 0xd4c3 ∷ [])
+    ∷ case 4 checkpoint (λ o s. take 2 (drop 192 (s .image))) (0 ∷ 18 ∷ 1 ∷ 0 ∷ [])
+    ∷ case 5 (write 0 0 aWord) (λ o s. take 3 (encode (o .ops))) (0 ∷ 43 ∷ 1 ∷ 256 ∷ 0xffffffffffffff00 ∷ [])
+    ∷ case 6 (write 0 8 aWord) (λ o s. checkpointPart l211 (s .image) 0 0 .start ∷ []) (0 ∷ 1 ∷ 1024 ∷ [])
+    ∷ case 7 (write 1 0 aWord) (λ o s. checkpointPart l211 (s .image) 1 0 .size ∷ []) (0 ∷ 1 ∷ 0 ∷ [])
+    ∷ case 8 checkpoint (λ o s. backupFree s ∷ []) (0 ∷ 22 ∷ 1 ∷ [])
+    ∷ case 8 (write 1 0 aWord) (λ o s. backupToMain (s .image) 0 ∷ backupFree s ∷ []) (0 ∷ 43 ∷ 1 ∷ 0 ∷ [])
+    ∷ case 8 (write 0 0 aWord) answerOnly (9 ∷ 0 ∷ [])
+    ∷ case 9 (write 1 255 (9 ∷ [])) answerOnly (0 ∷ 1 ∷ [])
+    ∷ case 9 (write 1 256 (9 ∷ [])) answerOnly (8 ∷ 0 ∷ [])
+    ∷ case 9 (write 1 0 []) answerOnly (8 ∷ 0 ∷ [])
+    ∷ []
+
+-- the row of a call that is made in state s and leaves the state after
+abbrev pub rowOf : State → Case → State → Row
+rowOf s c after = row (c .case) (answer (outcome s (c .call)) ++ c .read (outcome s (c .call)) after) (c .stated)
+
+-- the calls, one after the other
+unfoldable pub follow : List Case → State → List Row
+follow [] s = []
+follow (c ∷ cs) s = rowOf s c (step s (c .call)) ∷ follow cs (step s (c .call))
+
+-- ---- the cases that stand alone
+
+unfoldable pub sizeCases : List Row
+sizeCases =
+    row 1 (imageSize l211 ∷ imageSize (sizes 64 64 64) ∷ []) (1280 ∷ 2097664 ∷ [])
+    ∷ row 1 (formatOutcome (sizes 65 1 1) [] .status ∷ openOutcome (sizes 65 1 1) [] [] .status ∷ []) (1 ∷ 1 ∷ [])
+    ∷ []
+
+unfoldable pub openCases : List Row
+openCases =
+    row 2 (answer (openOutcome l211 fresh (replicate 218 0))) (11 ∷ 0 ∷ [])
+    ∷ row 2 (answer (openOutcome l211 fresh (replicate 219 0))) (0 ∷ 73 ∷ [])
+    ∷ []
+
+-- state 1, paired, no segment dirty, one block dirty
+abbrev pub image10 : Image
+image10 =
+    container (sizes 1 1 4) 0 (1 ∷ replicate 63 0) (replicate lineSize 0) (0 ∷ replicate 63 unpaired) (replicate 2048 0)
+
+abbrev pub session10 : Session
+session10 = record { layout = sizes 1 1 4; «dirty_segments» = 0; «dirty_blocks» = 4 ∷ replicate 63 0 }
+
+unfoldable pub copyCase : List Row
+copyCase = row 10 (answer (writeOutcome session10 image10 (writes 0 0 aWord) 0 room)) (0 ∷ 41 ∷ []) ∷ []
+
+-- ---- the table
+
+unfoldable pub rows : List Row
+rows = sizeCases ++ openCases ++ follow history (start l211 fresh room) ++ copyCase
+
+-- P1 TO P10
+abbrev pub Holds : Type 0
+Holds = map (λ r. r .given) rows ≡ map (λ r. r .stated) rows
