@@ -1,10 +1,13 @@
 -- Persist operations and the trace that holds them (document 01: orders and tape). Assumes nothing.
 use Prim.Native.Nat.{ℕ, _+_, _*_, _/_}
+use mathlib.Core.Path.{_≡_}
 use mathlib.Core.Bool.{Bool, cond}
 use mathlib.Core.List.{List, [], _∷_, _++_}
 use lib.Dec.{ltb, eqb}
 use lib.ListN.{length, drop}
 use Rattle.model.specs.declared.Session.{Session}
+use Rattle.model.specs.declared.Answer.{Answer}
+use Rattle.model.specs.Status.{codeOf}
 use Rattle.model.specs.Range.{cat}
 use Rattle.model.specs.Words.{Image, byteAt, wordOf, wordAt, storeWord, overlay}
 use Rattle.model.specs.Layout.{wordSize, lineSize, blockWords, blockLines}
@@ -56,6 +59,12 @@ pub record Outcome : Type 0 where
   pub status : ℕ
   pub session : Session
   pub ops : Ops
+
+-- an answer of the code and the trace that it leaves give an outcome: document 01's number of its status, its session, its
+-- number of operations, and these on the trace t
+abbrev pub Gives : Outcome → Trace → Answer → Trace → Type 0
+Gives o t a after =
+    (codeOf (a .status) ≡ o .status) × (a .session ≡ o .session) × (a .ops ≡ length (o .ops)) × (after ≡ written (o .ops) t)
 
 -- ---- what an operation does to an image
 

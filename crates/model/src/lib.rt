@@ -148,6 +148,13 @@ const STATUS: [Status; 13] = [
     Status::TraceBad,
 ];
 
+// What opening, write and checkpoint answer: how the call ended, the session, and how many operations stand on the trace.
+pub struct Answer {
+    pub status: Status,
+    pub session: Session,
+    pub ops: u64,
+}
+
 // What recovery does to a main segment and its backup (document 01: the opening table).
 pub enum Action {
     Nothing,
