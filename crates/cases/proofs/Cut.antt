@@ -31,7 +31,7 @@ writeOps = store 512 0xb2a1000000000000 ∷ store 520 0xd4c3 ∷ []
 abbrev written : State
 written = record {
   layout = l211;
-  held = formatted l211;
+  durable = formatted l211;
   played = writeOps;
   image = replay writeOps (formatted l211);
   session = record { layout = l211; «dirty_segments» = 1; «dirty_blocks» = 1 ∷ replicate 63 0 };
@@ -199,7 +199,7 @@ permitted = ((small-bytes fourBytes refl, λ served needs. absurd (false≢true 
 only : (p : ℕ) (Q : Page) → (Window written checkpoint p → ⊥) → lastCheckpoint written checkpoint p ≡ Q → OnlyShows before p Q
 only p Q closed last H crash t long = subst (λ (R : Page). Recovers l211 H t R) (is-last (r .1)) (r .2)
   where
-    r : (R : Page) × MayShow before (during checkpoint p) R × Recovers l211 H t R
+    r : (R : Page) × MayShow before (during checkpoint p) R × Recovers l211 H t R × Bytes H
     r =
         crash-safety l211 fresh room fresh-bytes opens (writeFour ∷ []) (subst (λ (s : State). AllPermitted s (writeFour ∷ [])) (sym starts) permitted)
         (during checkpoint p) tt H crash H none t long

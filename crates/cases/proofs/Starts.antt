@@ -14,7 +14,7 @@ use Rattle.model.specs.History.{State, start, openedImage}
 abbrev pub standing : Layout → Image → Page → State
 standing l I P = record {
   layout = l;
-  held = I;
+  durable = I;
   played = [];
   image = I;
   session = freshSession l;

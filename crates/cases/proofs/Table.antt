@@ -33,7 +33,7 @@ known-same [] k = refl
 known-same (x ∷ xs) k = known-same xs (λ ys. k (x ∷ ys))
 
 abbrev withImage : State → List ℕ → State
-withImage s I = record { layout = s .layout; held = s .held; played = s .played; image = I; session = s .session; model = s .model }
+withImage s I = record { layout = s .layout; durable = s .durable; played = s .played; image = I; session = s .session; model = s .model }
 
 abbrev knownState : {A : Type 0} → State → (State → A) → A
 knownState s k = known (s .image) (λ I. k (withImage s I))

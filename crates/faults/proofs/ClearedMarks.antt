@@ -48,7 +48,7 @@ dirty = record { layout = l111; «dirty_segments» = 1; «dirty_blocks» = 1 ∷
 abbrev written : Image → State
 written I = record {
   layout = l111;
-  held = image 0 1 0 old;
+  durable = image 0 1 0 old;
   played = writeOps (freshSession l111) (image 0 1 0 old) (writes 0 0 aWord) 0;
   image = I;
   session = dirty;
@@ -62,7 +62,7 @@ writes-first = ap written (same-equal _ _ refl)
 abbrev cleared : Image → State
 cleared I = record {
   layout = l111;
-  held = image 0 1 0 old;
+  durable = image 0 1 0 old;
   played = writeOps (freshSession l111) (image 0 1 0 old) (writes 0 0 aWord) 0 ++ checkpointOps dirty (image 0 2 0 new);
   image = I;
   session = freshSession l111;

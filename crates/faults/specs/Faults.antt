@@ -30,9 +30,9 @@ use Rattle.cases.specs.Table.{sizes, l211, room, writes, write, checkpoint, aWo
 
 -- what was durable in state s is accepted, and a crash after the operations O may leave an image that opening refuses
 pub record Refuses (s : State) (O : Ops) : Type 0 where
-  pub accepted : openStatus (s .layout) (s .held) room ≡ 0
+  pub accepted : openStatus (s .layout) (s .durable) room ≡ 0
   pub left : Image
-  pub crash : CrashImage (s .held) (s .played ++ O) left
+  pub crash : CrashImage (s .durable) (s .played ++ O) left
   pub refused : openStatus (s .layout) left room ≡ 4
 
 -- a crash after p operations of the call c, made in state s, may leave an image that `recover` takes to one whose reads
@@ -40,7 +40,7 @@ pub record Refuses (s : State) (O : Ops) : Type 0 where
 pub record ShowsOther (recover : Image → Image) (s : State) (c : Call) (p : ℕ) : Type 0 where
   pub permitted : Permitted s c
   pub left : Image
-  pub crash : CrashImage (s .held) (playedAt s (during c p)) left
+  pub crash : CrashImage (s .durable) (playedAt s (during c p)) left
   pub page : Page
   pub shown : Reads (s .layout) (recover left) page page
   pub wrong : MayShow s (during c p) page → ⊥
@@ -74,7 +74,7 @@ EarlyState s =
 
 unfoldable pub marksCleared : State → State
 marksCleared s =
-    record { layout = s .layout; held = s .held; played = s .played; image = s .image; session = freshSession (s .session .layout); model = s .model }
+    record { layout = s .layout; durable = s .durable; played = s .played; image = s .image; session = freshSession (s .session .layout); model = s .model }
 
 -- from a paired main segment: a word written, a checkpoint, another word written, this cut after 2 of its 5 operations
 abbrev pub ClearedMarks : State → Type 0
@@ -99,7 +99,7 @@ skippingOpened l I = replay (skippingOps l I) I
 unfoldable pub skippingStart : Layout → Image → State
 skippingStart l I = record {
   layout = l;
-  held = skippingOpened l I;
+  durable = skippingOpened l I;
   played = [];
   image = skippingOpened l I;
   session = freshSession l;

@@ -4,28 +4,28 @@ use Prim.Native.Nat.{ℕ, zero, suc, _+_, _-_, _*_, _^_, _/_, _%_, _≤_, _<_}
 use mathlib.Core.Path.{_≡_, refl, sym, ap, _∙_, subst}
 use mathlib.Core.Logic.{_≢_, _⊎_, inl, inr, ⊎-elim}
 use mathlib.Core.Bool.{Bool, true, false, cond, true≢false}
-use mathlib.Core.List.{List, [], _∷_, _++_, append-assoc}
+use mathlib.Core.List.{[], _∷_, _++_, append-assoc}
 use native.Mathlib.Decide.{decLe, decLt, ℕ-discrete}
 use native.Mathlib.Omega.{arith}
-use lib.ListN.{length, take, length-append}
+use lib.ListN.{length, take}
 use lib.Seq.{take-append-le}
 use Rattle.model.specs.declared.Layout.{Layout}
 use Rattle.model.specs.declared.Session.{Session}
 use Rattle.model.specs.Range.{cat}
-use Rattle.model.specs.Words.{Image, byteAt, Bytes, wordOf, storeWord}
-use Rattle.model.specs.Layout.{stateLine, segmentSize, mainAt, backupAt}
-use Rattle.model.specs.Container.{committedEpoch, activeLine, inactiveLine, backupToMain}
+use Rattle.model.specs.Words.{Image, byteAt, Bytes, wordOf}
+use Rattle.model.specs.Layout.{segmentSize, mainAt, backupAt}
+use Rattle.model.specs.Container.{activeState, committedEpoch, activeLine, inactiveLine, backupToMain}
 use Rattle.model.specs.Session.{dirtySegment, dirtyBlock, withCheckpoint}
-use Rattle.model.specs.Ops.{Op, store, clwb, sfence, Ops, apply, replay, stores, clwbs}
+use Rattle.model.specs.Ops.{store, clwb, sfence, Ops, apply, replay, stores, clwbs}
 use Rattle.model.specs.Checkpoint.{flushDirty, nextState, nextStates, statesOps, epochOps, checkpointOps}
-use Rattle.model.specs.Crash.{AgreeOn, Stage, CrashImage}
+use Rattle.model.specs.Crash.{AgreeOn, CrashImage}
 use Rattle.model.proofs.WordLaws.{byte-of-word, word-cong, word-stored}
-use Rattle.model.proofs.Persist.{Each, Misses, Clear, each-append, each-take, length-apply, length-replay, replay-clear, replay-append, replay-small}
+use Rattle.model.proofs.Persist.{Each, Misses, Clear, each-append, each-take, length-replay, replay-clear, replay-append, replay-small}
 use Rattle.model.proofs.Settled.{Settled, Off, Flushed, crash-byte, crash-bytes, local-crash, stage-one, settled-more, keeps-off, Settles, settles-then, settles-after, settles-fence, take-past}
-use Rattle.model.proofs.Runs.{Puts, puts-clear, puts-then, puts-stores, each-cat, clwbs-none, Neat, neat-none, flushed-cat, flushed-clwbs}
-use Rattle.model.proofs.Places.{image-size, metadata-inside, segment-in-image, state-line-low, state-line-high, state-line-whole, state-line-next}
+use Rattle.model.proofs.Runs.{Puts, puts-clear, puts-then, puts-stores, each-cat, clwbs-none, neat-none, flushed-cat, flushed-clwbs}
+use Rattle.model.proofs.Places.{metadata-inside, state-line-low, state-line-high, state-line-whole, state-line-next}
 use Rattle.model.proofs.SessionLaws.{checkpoint-segment, checkpoint-block}
-use Rattle.model.proofs.View.{Contents, Recoverable, stateOf, Alike, recoverable-alike, recovers-at, fit-cong, holds-next}
+use Rattle.model.proofs.View.{Contents, Recoverable, recoverable-alike, recovers-at, fit-cong, holds-next}
 use Rattle.model.proofs.Invariant.{Invariant}
 
 -- the three phases, each ended by a fence: dirty blocks, states, epoch
@@ -90,7 +90,7 @@ module _ (s : Session) where
     next-small : (i : ℕ) → nextStates s I i < 256
     next-small i = go (dirtySegment s i)
       where
-        go : (b : Bool) → nextState (stateOf I i) b < 256
+        go : (b : Bool) → nextState (activeState I i) b < 256
         go true = unfold nextState in (omega arith)
         go false = unfold nextState in (bytes (activeLine I + i))
 
@@ -193,7 +193,7 @@ module _ (O : Ops) (I₀ : Image) (s : Session) (P W : Contents) (held : Bytes I
   -- an image that has all of I but the inactive line recovers to P
   old : (H : Image) → length H ≡ length I₀ → Bytes H
       → ((k : ℕ) → k < 512 → (k < inactiveLine I) ⊎ (inactiveLine I + 64 ≤ k) → byteAt H k ≡ byteAt I k)
-      → ((i x : ℕ) → i < lay .mains → x < segmentSize lay → stateOf I i ≡ 1 → byteAt H (mainAt lay i + x) ≡ byteAt I (mainAt lay i + x))
+      → ((i x : ℕ) → i < lay .mains → x < segmentSize lay → activeState I i ≡ 1 → byteAt H (mainAt lay i + x) ≡ byteAt I (mainAt lay i + x))
       → ((j x : ℕ) → j < lay .backups → x < segmentSize lay → byteAt H (backupAt lay j + x) ≡ byteAt I (backupAt lay j + x))
       → Recoverable lay H P
   old H long small low own backup =
@@ -223,7 +223,7 @@ module _ (O : Ops) (I₀ : Image) (s : Session) (P W : Contents) (held : Bytes I
       → Recoverable lay H W
   new H long small epoch header states pairs mains backups =
       recovers-at lay H W (suc (committedEpoch I)) epoch (fit-cong lay I H long small header (inv .recovers .fit))
-      (holds-next lay (inv .recovers .fit .sizes) (stateOf I) (backupToMain I) (byteAt I) _ _ _ P (inv .recovers .holds)
+      (holds-next lay (inv .recovers .fit .sizes) (activeState I) (backupToMain I) (byteAt I) _ _ _ P (inv .recovers .holds)
       (dirtySegment s) W (inv .low) states pairs mains backups (inv .clean))
 
   -- a crash in the first two phases

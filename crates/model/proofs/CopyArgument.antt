@@ -3,30 +3,30 @@
 use Prim.Native.Nat.{ℕ, zero, suc, _+_, _-_, _*_, _/_, _%_, _≤_, _<_}
 use mathlib.Core.Path.{_≡_, refl, sym, ap, _∙_, subst}
 use mathlib.Core.Logic.{_≢_, _⊎_, inl, inr, ⊎-elim}
-use mathlib.Core.Bool.{Bool, true, false, cond, true≢false}
-use mathlib.Core.List.{List, [], _∷_, _++_, append-assoc}
-use native.Mathlib.Decide.{decLe, decLt, ℕ-discrete}
+use mathlib.Core.Bool.{Bool, true, false, cond}
+use mathlib.Core.List.{[], _∷_, _++_}
+use native.Mathlib.Decide.{decLt, ℕ-discrete}
 use native.Mathlib.Omega.{arith}
-use lib.ListN.{length, take, set, length-set}
-use lib.Seq.{getD-set-same, getD-set-other}
+use lib.ListN.{length, take, set}
+use lib.Seq.{getD-set-other}
 use Rattle.model.specs.declared.Layout.{Layout}
 use Rattle.model.specs.declared.Session.{Session}
 use Rattle.model.specs.Range.{cat}
-use Rattle.model.specs.Words.{Image, byteAt, Bytes, wordAt, wordOf, overlay}
+use Rattle.model.specs.Words.{Image, byteAt, Bytes, overlay}
 use Rattle.model.specs.Layout.{imageSize, stateLine, segmentSize, mainAt, backupAt}
-use Rattle.model.specs.Container.{committedEpoch, activeLine, backupToMain}
-use Rattle.model.specs.Session.{bit, dirtySegment, dirtyBlock, dirtyWord}
-use Rattle.model.specs.Ops.{Op, store, clwb, sfence, Ops, apply, replay, putBlock, persistCopy, wordPlace, storeByte}
+use Rattle.model.specs.Container.{activeState, committedEpoch, activeLine, backupToMain}
+use Rattle.model.specs.Session.{dirtySegment, dirtyBlock}
+use Rattle.model.specs.Ops.{clwb, sfence, Ops, apply, replay, persistCopy, wordPlace, storeByte}
 use Rattle.model.specs.Open.{copySegment}
-use Rattle.model.specs.Write.{pairOps, copyDirty, stateOps}
+use Rattle.model.specs.Write.{pairOps, copyDirty}
 use Rattle.model.specs.Crash.{AgreeOn, Stage, CrashImage}
 use Rattle.model.proofs.WordLaws.{byte-of-word, overlay-same, overlay-other, overlay-small}
 use Rattle.model.proofs.Persist.{Misses, Clear, each-append, each-take, length-apply, length-replay, replay-clear, replay-append, replay-small}
 use Rattle.model.proofs.Settled.{Settled, Off, Flushed, Keeps, stage-held, crash-byte, crash-bytes, local-crash, stage-one, keeps-off, keeps-append, settles-fence}
 use Rattle.model.proofs.Runs.{Puts, puts-clear, puts-store, puts-block, each-cat, Neat, neat-nil, neat-append, neat-cat, neat-block, neat-keeps}
-use Rattle.model.proofs.Places.{image-size, metadata-inside, segment-in-image, apart, state-line-low, state-line-high, state-line-whole}
+use Rattle.model.proofs.Places.{metadata-inside, segment-in-image, apart, state-line-low, state-line-high, state-line-whole}
 use Rattle.model.proofs.Recovery.{puts-copy, neat-copy}
-use Rattle.model.proofs.View.{Contents, Choice, Holds, Recoverable, stateOf, recoverable-alike, recovers-at, fit-cong, epoch-cong, holds-given}
+use Rattle.model.proofs.View.{Contents, Choice, Recoverable, recoverable-alike, recovers-at, fit-cong, epoch-cong, holds-given}
 use Rattle.model.proofs.Invariant.{Invariant}
 
 -- ---- a byte stored in its word
@@ -92,7 +92,7 @@ abbrev pub statePhase : Image → ℕ → Ops
 statePhase I i = storeByte I (activeLine I + i) 2 ∷ clwb (activeLine I) ∷ sfence ∷ []
 
 module _ (l : Layout) (O : Ops) (I₀ : Image) (s : Session) (P W : Contents) (held : Bytes I₀) (inv : Invariant l O (replay O I₀) s P W)
-    (i j : ℕ) (choice : Choice l (stateOf (replay O I₀)) (backupToMain (replay O I₀)) i j) (A : Ops) (ready : Ready l (replay O I₀) i j A) where
+    (i j : ℕ) (choice : Choice l (activeState (replay O I₀)) (backupToMain (replay O I₀)) i j) (A : Ops) (ready : Ready l (replay O I₀) i j A) where
   abbrev I : Image
   I = replay O I₀
 
@@ -131,7 +131,7 @@ module _ (l : Layout) (O : Ops) (I₀ : Image) (s : Session) (P W : Contents) (h
   -- an image with the pair given, and main segment i in state 1 with its bytes or in state 2 with the backup's
   given : (H : Image) → length H ≡ length I → Bytes H
       → ((k : ℕ) → Settled (k / 64) O → (k < 128) ⊎ (320 ≤ k) → Clear k A → byteAt H k ≡ byteAt I k)
-      → ((u : ℕ) → u < 64 → u ≢ i → byteAt H (active + u) ≡ stateOf I u)
+      → ((u : ℕ) → u < 64 → u ≢ i → byteAt H (active + u) ≡ activeState I u)
       → Given I i j H
       → ((byteAt H (active + i) ≡ 1) × ((x : ℕ) → x < segmentSize l → byteAt H (mainAt l i + x) ≡ P i x))
       ⊎ ((byteAt H (active + i) ≡ 2) × ((x : ℕ) → x < segmentSize l → byteAt H (backupAt l j + x) ≡ P i x))
@@ -139,7 +139,7 @@ module _ (l : Layout) (O : Ops) (I₀ : Image) (s : Session) (P W : Contents) (h
   given H long bytes same states pairs turn =
       recovers-at l H P (committedEpoch I) (epoch-cong I H (λ k h. same k (inv .firmMeta k (omega arith)) (inl (omega arith)) (ready .clear k (inl (omega arith)))))
       (fit-cong l I H long bytes (λ k h x. same k (inv .firmMeta k (omega arith)) (inl (omega arith)) (ready .clear k (inl (omega arith)))) (inv .recovers .fit))
-      (holds-given l (inv .recovers .fit .sizes) (stateOf I) (backupToMain I) (byteAt I) _ _ _ P i j choice (inv .recovers .holds) states (pairs .0) (pairs .1)
+      (holds-given l (inv .recovers .fit .sizes) (activeState I) (backupToMain I) (byteAt I) _ _ _ P i j choice (inv .recovers .holds) states (pairs .0) (pairs .1)
       (λ u x h k ne e. same _ (inv .firmOwn u x h k e) (inr (omega arith)) (main-clear u x h k))
       (λ u t x h m k ne e d. same _ (inv .firmBackup t x m k) (inr (omega arith)) (backup-clear t x k ne))
       turn)
@@ -253,7 +253,7 @@ module _ (l : Layout) (O : Ops) (I₀ : Image) (s : Session) (P W : Contents) (h
   pairs-K : Given I i j K
   pairs-K = (K-same (256 + j) (inr (omega arith)) ∙ ready .paired .0, λ t h ne. K-same (256 + t) (inr (omega arith)) ∙ ready .paired .1 t h ne)
 
-  states-K : (u : ℕ) → u < 64 → u ≢ i → byteAt K (active + u) ≡ stateOf I u
+  states-K : (u : ℕ) → u < 64 → u ≢ i → byteAt K (active + u) ≡ activeState I u
   states-K u h ne = K-is (active + u) ∙ overlay-other (byteAt B) (active + i) 2 (active + u) (omega arith) ∙ low-B (active + u) (omega (arith, line))
 
   main-K : (u x : ℕ) → u < l .mains → x < segmentSize l → byteAt K (mainAt l u + x) ≡ byteAt I (mainAt l u + x)
@@ -262,10 +262,10 @@ module _ (l : Layout) (O : Ops) (I₀ : Image) (s : Session) (P W : Contents) (h
   epoch-K : committedEpoch K ≡ committedEpoch I
   epoch-K = epoch-cong I K (λ k h. K-same k (inl (omega arith)) ∙ low-B k (omega arith))
 
-  state-K : (u : ℕ) → u < 64 → u ≢ i → stateOf K u ≡ stateOf I u
+  state-K : (u : ℕ) → u < 64 → u ≢ i → activeState K u ≡ activeState I u
   state-K u h ne = ap (λ (e : ℕ). byteAt K (stateLine e + u)) epoch-K ∙ states-K u h ne
 
-  pub state-two : stateOf K i ≡ 2
+  pub state-two : activeState K i ≡ 2
   state-two = ap (λ (e : ℕ). byteAt K (stateLine e + i)) epoch-K ∙ K-is (active + i) ∙ overlay-same (byteAt B) (active + i) 2
 
   -- every line that was settled still is
@@ -307,12 +307,12 @@ module _ (l : Layout) (O : Ops) (I₀ : Image) (s : Session) (P W : Contents) (h
       low : (u : ℕ) → dirtySegment (unmarked s i) u ≡ true → u < l .mains
       low u e = inv .low u (same-dirty u e)
 
-      not-main : (u : ℕ) → dirtySegment (unmarked s i) u ≡ true → stateOf K u ≡ 1 → Dec (u ≡ i) → ⊥
-      not-main u e q (yes y) = inv .moved u (same-dirty u e) (subst (λ (w : ℕ). stateOf I w ≡ 1) (sym y) (choice .holds))
+      not-main : (u : ℕ) → dirtySegment (unmarked s i) u ≡ true → activeState K u ≡ 1 → Dec (u ≡ i) → ⊥
+      not-main u e q (yes y) = inv .moved u (same-dirty u e) (subst (λ (w : ℕ). activeState I w ≡ 1) (sym y) (choice .holds))
       not-main u e q (no y) = inv .moved u (same-dirty u e) (sym (state-K u (omega (arith, low u e, m64)) y) ∙ q)
 
-      one : (u : ℕ) → u < l .mains → stateOf K u ≡ 1 → Dec (u ≡ i) → stateOf I u ≡ 1
-      one u h e (yes y) = subst (λ (w : ℕ). stateOf I w ≡ 1) (sym y) (choice .holds)
+      one : (u : ℕ) → u < l .mains → activeState K u ≡ 1 → Dec (u ≡ i) → activeState I u ≡ 1
+      one u h e (yes y) = subst (λ (w : ℕ). activeState I w ≡ 1) (sym y) (choice .holds)
       one u h e (no y) = sym (state-K u (omega (arith, m64)) y) ∙ e
 
       twin : (u t x : ℕ) → u < l .mains → t < l .backups → x < segmentSize l → backupToMain K t ≡ u → dirtyBlock (unmarked s i) u (x / 256) ≡ false → Dec (t ≡ j)

@@ -1,6 +1,6 @@
 -- What holds between the calls of a history: the image I as it stands, the operations O played since all was durable, the
 -- session s, and the contents P (checkpoint) and W (working) of the reference model.
-use Prim.Native.Nat.{ℕ, _+_, _*_, _/_, _<_}
+use Prim.Native.Nat.{ℕ, _+_, _/_, _<_}
 use mathlib.Core.Path.{_≡_}
 use mathlib.Core.Logic.{_≢_}
 use mathlib.Core.Bool.{true, false}
@@ -8,11 +8,11 @@ use Rattle.model.specs.declared.Layout.{Layout}
 use Rattle.model.specs.declared.Session.{Session}
 use Rattle.model.specs.Words.{Image, byteAt}
 use Rattle.model.specs.Layout.{segmentSize, mainAt, backupAt}
-use Rattle.model.specs.Container.{backupToMain}
+use Rattle.model.specs.Container.{activeState, backupToMain}
 use Rattle.model.specs.Session.{dirtySegment, dirtyBlock}
 use Rattle.model.specs.Ops.{Ops}
 use Rattle.model.proofs.Settled.{Settled}
-use Rattle.model.proofs.View.{Contents, Recoverable, stateOf}
+use Rattle.model.proofs.View.{Contents, Recoverable}
 
 pub record Invariant (l : Layout) (O : Ops) (I : Image) (s : Session) (P W : Contents) : Type 0 where
   -- the image recovers to the checkpoint, and its main segments hold the working state
@@ -20,7 +20,7 @@ pub record Invariant (l : Layout) (O : Ops) (I : Image) (s : Session) (P W : Con
   pub working : (i x : ℕ) → i < l .mains → x < segmentSize l → byteAt I (mainAt l i + x) ≡ W i x
   -- dirty segments are segments, and none holds its checkpoint itself
   pub low : (i : ℕ) → dirtySegment s i ≡ true → i < l .mains
-  pub moved : (i : ℕ) → dirtySegment s i ≡ true → stateOf I i ≢ 1
+  pub moved : (i : ℕ) → dirtySegment s i ≡ true → activeState I i ≢ 1
   -- a segment that is not dirty has equal contents
   pub clean : (i x : ℕ) → i < l .mains → x < segmentSize l → dirtySegment s i ≡ false → W i x ≡ P i x
   -- a backup segment equals its main segment in every block that is not dirty
@@ -28,6 +28,6 @@ pub record Invariant (l : Layout) (O : Ops) (I : Image) (s : Session) (P W : Con
       → byteAt I (backupAt l j + x) ≡ byteAt I (mainAt l i + x)
   -- settled are: the metadata, a segment that holds its checkpoint itself, blocks that are not dirty, backup segments
   pub firmMeta : (i : ℕ) → i < 512 → Settled (i / 64) O
-  pub firmOwn : (i x : ℕ) → i < l .mains → x < segmentSize l → stateOf I i ≡ 1 → Settled ((mainAt l i + x) / 64) O
+  pub firmOwn : (i x : ℕ) → i < l .mains → x < segmentSize l → activeState I i ≡ 1 → Settled ((mainAt l i + x) / 64) O
   pub firmClean : (i x : ℕ) → i < l .mains → x < segmentSize l → dirtyBlock s i (x / 256) ≡ false → Settled ((mainAt l i + x) / 64) O
   pub firmBackup : (j x : ℕ) → j < l .backups → x < segmentSize l → Settled ((backupAt l j + x) / 64) O

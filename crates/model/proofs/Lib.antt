@@ -24,3 +24,4 @@ pub mod CopyArgument
 pub mod WriteArgument
 pub mod Pages
 pub mod Theorem
+pub mod Choice

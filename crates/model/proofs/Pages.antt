@@ -1,30 +1,29 @@
 -- Pages as lists and as contents: what the two reads give of a recoverable image, and that its checkpoint is its contents.
-use Prim.Native.Nat.{ℕ, zero, suc, _+_, _-_, _*_, _/_, _%_, _≤_, _<_}
+use Prim.Native.Nat.{ℕ, zero, suc, _+_, _*_, _/_, _%_, _≤_, _<_}
 use mathlib.Core.Path.{_≡_, refl, sym, ap, _∙_, subst}
-use mathlib.Core.Logic.{_≢_, _⊎_, inl, inr, ⊎-elim}
-use mathlib.Core.Bool.{Bool, true, false, cond}
+use mathlib.Core.Logic.{_⊎_, inl, inr}
 use mathlib.Core.List.{List, [], _∷_, _++_}
 use native.Mathlib.Decide.{decLt}
 use native.Mathlib.Nat.{mul-le-mul-right, mul-assoc, mul-comm, mul-left-comm, suc-mul, div-add-mod', mod-lt, div-lt-iff-lt-mul}
 use native.Mathlib.Omega.{arith}
-use borrow.Author.Tests.{le-leb, lt-leb}
+use borrow.Author.Tests.{lt-leb}
 use lib.Dec.{leb}
-use lib.ListN.{length, getD, take, drop, replicate, length-drop, length-append, length-replicate, getD-replicate, List·getD-append}
+use lib.ListN.{length, getD, take, drop, replicate, length-drop, length-replicate, getD-replicate, List·getD-append}
 use lib.Seq.{length-take-le, getD-take, getD-drop, getD-append-add, ext-getD}
 use Rattle.model.specs.declared.Layout.{Layout}
 use Rattle.model.specs.Range.{cat}
-use Rattle.model.specs.Words.{Image, byteAt, Bytes}
-use Rattle.model.specs.Layout.{segmentSize, segmentAt, mainAt, backupAt, imageSize}
+use Rattle.model.specs.Words.{Image, byteAt}
+use Rattle.model.specs.Layout.{segmentSize, segmentAt, mainAt, backupAt}
 use Rattle.model.specs.Status.{firstError}
-use Rattle.model.specs.Container.{activeLine, segState, backupToMain, pairedBackup, byState, segmentBytes, checkpointSegment, checkpointBytes}
-use Rattle.model.specs.Reads.{readStatus, workingPart, workingBlock, checkpointPart, checkpointBlock, blockPart, partOf}
+use Rattle.model.specs.Container.{activeState, activeLine, segState, backupToMain, pairedBackup, byState, segmentBytes, checkpointSegment, checkpointBytes}
+use Rattle.model.specs.Reads.{readStatus, workingPart, checkpointPart, checkpointBlock, blockPart, partOf}
 use Rattle.model.specs.Reference.{Page, pageBlock, pageAt}
-use Rattle.model.specs.CrashSafety.{Reads, ReadsBlock}
+use Rattle.model.specs.CrashSafety.{Reads}
 use Rattle.model.proofs.Range.{length-cat}
-use Rattle.model.proofs.Places.{image-size, segment-in-image, segment-inside}
+use Rattle.model.proofs.Places.{segment-in-image}
 use Rattle.model.proofs.Metadata.{ContainerOk, container-passes, paired-by, paired-at, paired-once}
 use Rattle.model.proofs.Agreement.{length-checkpoint, length-checkpoint-segment}
-use Rattle.model.proofs.View.{Contents, Holds, Fit, Recoverable, stateOf}
+use Rattle.model.proofs.View.{Contents, Holds, Recoverable}
 
 -- the contents of a page
 abbrev pub contentsOf : Layout → Page → Contents
@@ -76,22 +75,22 @@ module _ (l : Layout) (I : Image) (ok : ContainerOk l I) where
   segment-at k x h = getD-take (segmentSize l) (drop (segmentAt l k) I) x 0 h ∙ getD-drop (segmentAt l k) I x 0
 
   -- by its state: zeros, its own bytes, its backup's
-  pub segment-initial : (i x : ℕ) → x < segmentSize l → stateOf I i ≡ 0 → getD (checkpointSegment l I line i) x 0 ≡ 0
+  pub segment-initial : (i x : ℕ) → x < segmentSize l → activeState I i ≡ 0 → getD (checkpointSegment l I line i) x 0 ≡ 0
   unfolding checkpointSegment byState
   segment-initial i x h e = rw e (getD-replicate (segmentSize l) x 0 0 h)
 
-  pub segment-own : (i x : ℕ) → x < segmentSize l → stateOf I i ≡ 1 → getD (checkpointSegment l I line i) x 0 ≡ byteAt I (mainAt l i + x)
+  pub segment-own : (i x : ℕ) → x < segmentSize l → activeState I i ≡ 1 → getD (checkpointSegment l I line i) x 0 ≡ byteAt I (mainAt l i + x)
   unfolding checkpointSegment byState
   segment-own i x h e = rw e (segment-at i x h)
 
-  pub segment-backup : (i j x : ℕ) → i < l .mains → j < l .backups → x < segmentSize l → stateOf I i ≡ 2 → backupToMain I j ≡ i
+  pub segment-backup : (i j x : ℕ) → i < l .mains → j < l .backups → x < segmentSize l → activeState I i ≡ 2 → backupToMain I j ≡ i
       → getD (checkpointSegment l I line i) x 0 ≡ byteAt I (backupAt l j + x)
   unfolding checkpointSegment byState
   segment-backup i j x a b h e d = rw e (segment-at (l .mains + pairedBackup l (backupToMain I) i) x h
       ∙ ap (λ (k : ℕ). byteAt I (backupAt l k + x)) (paired-once l (backupToMain I) i (ok .valid) j b d a))
 
   -- an accepted image recovers to its checkpoint
-  pub checkpoint-holds : Holds l (stateOf I) (backupToMain I) (byteAt I) (contentsOf l (checkpointBytes l I line))
+  pub checkpoint-holds : Holds l (activeState I) (backupToMain I) (byteAt I) (contentsOf l (checkpointBytes l I line))
   checkpoint-holds = record {
     valid = ok .valid;
     initial = λ i x h k e. checkpoint-at i x h k ∙ segment-initial i x k e;
@@ -100,19 +99,19 @@ module _ (l : Layout) (I : Image) (ok : ContainerOk l I) where
   }
 
   -- and to no other contents
-  holds-only : (P : Contents) → Holds l (stateOf I) (backupToMain I) (byteAt I) P → (i x : ℕ) → i < l .mains → x < segmentSize l → contentsOf l (checkpointBytes l I line) i x ≡ P i x
-  holds-only P h i x a b = checkpoint-at i x a b ∙ go (stateOf I i) refl
+  holds-only : (P : Contents) → Holds l (activeState I) (backupToMain I) (byteAt I) P → (i x : ℕ) → i < l .mains → x < segmentSize l → contentsOf l (checkpointBytes l I line) i x ≡ P i x
+  holds-only P h i x a b = checkpoint-at i x a b ∙ go (activeState I i) refl
     where
-      go : (st : ℕ) → stateOf I i ≡ st → getD (checkpointSegment l I line i) x 0 ≡ P i x
+      go : (st : ℕ) → activeState I i ≡ st → getD (checkpointSegment l I line i) x 0 ≡ P i x
       go zero e = segment-initial i x b e ∙ sym (h .initial i x a b e)
       go (suc zero) e = segment-own i x b e ∙ h .own i x a b e
       go (suc (suc n)) e =
-          let two : stateOf I i ≡ 2 = omega (arith, ok .valid .states i a) in
+          let two : activeState I i ≡ 2 = omega (arith, ok .valid .states i a) in
           let k = ok .valid .kept i a two in
           segment-backup i (k .0) x a (k .1) b two (k .2) ∙ h .backup i (k .0) x a (k .1) b two (k .2)
 
   -- so a whole page that it recovers to is its checkpoint
-  pub checkpoint-is : (Q : Page) → Whole l Q → Holds l (stateOf I) (backupToMain I) (byteAt I) (contentsOf l Q) → checkpointBytes l I line ≡ Q
+  pub checkpoint-is : (Q : Page) → Whole l Q → Holds l (activeState I) (backupToMain I) (byteAt I) (contentsOf l Q) → checkpointBytes l I line ≡ Q
   checkpoint-is Q whole h = ext-getD 0 (checkpointBytes l I line) Q (length-checkpoint l I ok ∙ sym whole) (λ k q. at k (omega (arith, length-checkpoint l I ok)))
     where
       room : ℕ
@@ -155,7 +154,7 @@ module _ (l : Layout) (I : Image) (P W : Page) (wp : Whole l P) (ww : Whole l W)
       long′ : length (take 256 (drop (pageAt l i b) Q)) ≡ 256
       long′ = length-take-le 256 (drop (pageAt l i b) Q) (omega (arith, length-drop (pageAt l i b) Q, whole, block-inside l i b hi hb))
 
-  zero-block : (i b : ℕ) → i < l .mains → b < l .blocks → stateOf I i ≡ 0 → pageBlock l P i b ≡ replicate 256 0
+  zero-block : (i b : ℕ) → i < l .mains → b < l .blocks → activeState I i ≡ 0 → pageBlock l P i b ≡ replicate 256 0
   zero-block i b hi hb e =
       ext-getD 0 (take 256 (drop (pageAt l i b) P)) (replicate 256 0) (long ∙ sym (length-replicate {A = ℕ} 256 0))
       (λ x h. let y : x < 256 = omega (arith, long) in
@@ -168,14 +167,14 @@ module _ (l : Layout) (I : Image) (P W : Page) (wp : Whole l P) (ww : Whole l W)
   saved : (i b : ℕ) → i < l .mains → b < l .blocks → (checkpointBlock l I i b ≡ pageBlock l P i b)
       ⊎ ((segState I (activeLine I) i ≡ 0) × (checkpointBlock l I i b ≡ []) × (pageBlock l P i b ≡ replicate 256 0))
   unfolding checkpointPart byState
-  saved i b hi hb = go (stateOf I i) refl
+  saved i b hi hb = go (activeState I i) refl
     where
-      go : (st : ℕ) → stateOf I i ≡ st → (checkpointBlock l I i b ≡ pageBlock l P i b)
+      go : (st : ℕ) → activeState I i ≡ st → (checkpointBlock l I i b ≡ pageBlock l P i b)
           ⊎ ((segState I (activeLine I) i ≡ 0) × (checkpointBlock l I i b ≡ []) × (pageBlock l P i b ≡ replicate 256 0))
       go zero e = inr (e, rw (served i b hi hb, e) refl, zero-block i b hi hb e)
       go (suc zero) e = inl (rw (served i b hi hb, e) (block-is P i i b wp (omega arith) hi hb (λ x k. r .holds .own i x hi k e)))
       go (suc (suc n)) e =
-          let two : stateOf I i ≡ 2 = omega (arith, r .holds .valid .states i hi) in
+          let two : activeState I i ≡ 2 = omega (arith, r .holds .valid .states i hi) in
           let k = r .holds .valid .kept i hi two in
           let p = paired-at l (backupToMain I) i (paired-by l (backupToMain I) i (k .0) (k .1) (k .2)) in
           inl (rw (served i b hi hb, e) (block-is P (l .mains + pairedBackup l (backupToMain I) i) i b wp (omega (arith, p .0)) hi hb

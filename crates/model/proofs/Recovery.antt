@@ -2,31 +2,30 @@
 -- invariant holds.
 use Prim.Native.Nat.{ℕ, zero, suc, _+_, _-_, _*_, _/_, _%_, _≤_, _<_}
 use mathlib.Core.Path.{_≡_, refl, sym, ap, _∙_, subst}
-use mathlib.Core.Logic.{_≢_, _⊎_, inl, inr, ⊎-elim}
+use mathlib.Core.Logic.{_≢_, inl}
 use mathlib.Core.Bool.{Bool, true, false, true≢false}
-use mathlib.Core.List.{List, [], _∷_, _++_}
+use mathlib.Core.List.{[], _∷_, _++_}
 use native.Mathlib.Decide.{ℕ-discrete}
 use native.Mathlib.Omega.{arith}
 use lib.ListN.{length, take}
 use Rattle.model.specs.declared.Layout.{Layout}
 use Rattle.model.specs.declared.Session.{Session}
-use Rattle.model.specs.declared.Action.the-variants.{Nothing, ZeroMain, CopyToBackup, CopyToMain}
 use Rattle.model.specs.Range.{cat}
 use Rattle.model.specs.Words.{Image, byteAt, Bytes, wordAt}
-use Rattle.model.specs.Layout.{segmentSize, segmentAt, mainAt, backupAt}
-use Rattle.model.specs.Container.{committedEpoch, activeLine, backupToMain, isPaired, pairedBackup, Valid, byState}
-use Rattle.model.specs.Session.{freshSession, dirtySegment, dirtyBlock}
-use Rattle.model.specs.Ops.{Op, sfence, Ops, replay, putBlock, persistCopy, persistZero}
+use Rattle.model.specs.Layout.{segmentSize, mainAt, backupAt}
+use Rattle.model.specs.Container.{activeState, committedEpoch, activeLine, backupToMain, isPaired, pairedBackup, Valid, byState}
+use Rattle.model.specs.Session.{freshSession}
+use Rattle.model.specs.Ops.{sfence, Ops, replay, persistCopy, persistZero}
 use Rattle.model.specs.Open.{recoveryAction, copySegment, zeroSegment, actionOps, recoverSegment, recoveryOps}
-use Rattle.model.specs.Crash.{Stage, CrashImage}
+use Rattle.model.specs.Crash.{CrashImage}
 use Rattle.model.proofs.WordLaws.{byte-of-word, byte-of-zero}
-use Rattle.model.proofs.Persist.{Each, Misses, Clear, each-append, each-take, length-replay, replay-clear, replay-append, replay-small}
-use Rattle.model.proofs.Settled.{Settled, Off, Flushed, stage-clear, crash-byte, crash-bytes, settled-off, Keeps, settles-fence}
+use Rattle.model.proofs.Persist.{Misses, Clear, each-append, each-take, length-replay, replay-clear, replay-append, replay-small}
+use Rattle.model.proofs.Settled.{Settled, Flushed, stage-clear, crash-byte, crash-bytes, settled-off, Keeps, settles-fence}
 use Rattle.model.proofs.Runs.{Puts, puts-clear, puts-as, puts-blocks, each-cat, Neat, neat-nil, neat-cat, neat-blocks, flushed-blocks, flushed-cat, neat-keeps}
-use Rattle.model.proofs.Places.{image-size, segment-inside, segment-in-image, apart, state-line-low, state-line-high}
-use Rattle.model.proofs.Metadata.{paired-at, unpaired-none, paired-by, paired-once}
-use Rattle.model.proofs.SessionLaws.{fresh-segment, fresh-block}
-use Rattle.model.proofs.View.{Contents, Holds, Fit, Recoverable, stateOf, Alike, recoverable-alike}
+use Rattle.model.proofs.Places.{segment-in-image, apart, state-line-high}
+use Rattle.model.proofs.Metadata.{paired-at, unpaired-none}
+use Rattle.model.proofs.SessionLaws.{fresh-segment}
+use Rattle.model.proofs.View.{Contents, Recoverable, Alike, recoverable-alike}
 use Rattle.model.proofs.Invariant.{Invariant}
 
 -- ---- a segment copied, and filled with zeros
@@ -61,11 +60,11 @@ flushed-zero l to ℓ h x y = flushed-blocks ℓ (l .blocks) to (λ m k. 0) h x 
 
 -- its turn writes the contents P into itself (and writes that back), or into its backup, or does nothing
 pub data Treated (l : Layout) (I : Image) (P : Contents) (i : ℕ) (O : Ops) : Type 0 where
-  main : stateOf I i ≢ 1 → Puts O (mainAt l i) (segmentSize l) (λ k. P i (k - mainAt l i))
+  main : activeState I i ≢ 1 → Puts O (mainAt l i) (segmentSize l) (λ k. P i (k - mainAt l i))
       → ((ℓ : ℕ) → mainAt l i ≤ 64 * ℓ → 64 * ℓ < mainAt l i + segmentSize l → Flushed ℓ O) → Treated l I P i O
-  backup : (j : ℕ) → j < l .backups → stateOf I i ≡ 1 → backupToMain I j ≡ i
+  backup : (j : ℕ) → j < l .backups → activeState I i ≡ 1 → backupToMain I j ≡ i
       → Puts O (backupAt l j) (segmentSize l) (λ k. P i (k - backupAt l j)) → Treated l I P i O
-  idle : stateOf I i ≡ 1 → ((j : ℕ) → j < l .backups → backupToMain I j ≢ i) → O ≡ [] → Treated l I P i O
+  idle : activeState I i ≡ 1 → ((j : ℕ) → j < l .backups → backupToMain I j ≢ i) → O ≡ [] → Treated l I P i O
 
 abbrev turn : Layout → Image → ℕ → Ops
 turn l I i = recoverSegment l I (activeLine I) i
@@ -73,7 +72,7 @@ turn l I i = recoverSegment l I (activeLine I) i
 -- every turn writes back what it stores
 neat-turn : (l : Layout) (I : Image) (i : ℕ) → Neat (turn l I i)
 unfolding recoverSegment
-neat-turn l I i = go (stateOf I i) (isPaired l (backupToMain I) i)
+neat-turn l I i = go (activeState I i) (isPaired l (backupToMain I) i)
   where
     j : ℕ
     j = pairedBackup l (backupToMain I) i
@@ -89,7 +88,7 @@ neat-turn l I i = go (stateOf I i) (isPaired l (backupToMain I) i)
 module _ (l : Layout) (I : Image) (P : Contents) (r : Recoverable l I P) where
   pub treated : (i : ℕ) → i < l .mains → Treated l I P i (turn l I i)
   unfolding recoverSegment
-  treated i h = go (stateOf I i) (isPaired l (backupToMain I) i) refl refl
+  treated i h = go (activeState I i) (isPaired l (backupToMain I) i) refl refl
     where
       pr : ℕ → ℕ
       pr = backupToMain I
@@ -97,15 +96,15 @@ module _ (l : Layout) (I : Image) (P : Contents) (r : Recoverable l I P) where
       j : ℕ
       j = pairedBackup l pr i
 
-      v : Valid l (stateOf I) (backupToMain I)
+      v : Valid l (activeState I) (backupToMain I)
       v = r .holds .valid
 
-      go : (st : ℕ) (b : Bool) → stateOf I i ≡ st → isPaired l (backupToMain I) i ≡ b → Treated l I P i (actionOps l I i j (recoveryAction st b))
+      go : (st : ℕ) (b : Bool) → activeState I i ≡ st → isPaired l (backupToMain I) i ≡ b → Treated l I P i (actionOps l I i j (recoveryAction st b))
       go zero true e q = let k = paired-at l (backupToMain I) i q in absurd (v .bare i h e j (k .0) (k .1))
       go (suc zero) true e q = unfold recoveryAction byState actionOps in (let k = paired-at l (backupToMain I) i q in
           backup j (k .0) e (k .1) (puts-as _ (puts-copy l I (mainAt l i) (backupAt l j) (r .fit .bytes)) (λ n x y. r .holds .own i (n - backupAt l j) h (omega arith) e)))
       go (suc (suc n)) true e q = unfold recoveryAction byState actionOps in (let k = paired-at l (backupToMain I) i q in
-          let two : stateOf I i ≡ 2 = omega (arith, v .states i h) in
+          let two : activeState I i ≡ 2 = omega (arith, v .states i h) in
           main (λ c. omega arith)
           (puts-as _ (puts-copy l I (backupAt l j) (mainAt l i) (r .fit .bytes)) (λ n x y. r .holds .backup i j (n - mainAt l i) h (k .0) (omega arith) two (k .1)))
           (λ ℓ x y. flushed-copy l I (backupAt l j) (mainAt l i) ℓ (omega arith) x y))
@@ -118,8 +117,8 @@ module _ (l : Layout) (I : Image) (P : Contents) (r : Recoverable l I P) where
   -- what no opening stores to: the metadata, a segment that holds its checkpoint, the backup of one in state 2
   pub data Needed (k : ℕ) : Type 0 where
     meta : k < 512 → Needed k
-    own : (i : ℕ) → i < l .mains → stateOf I i ≡ 1 → mainAt l i ≤ k → k < mainAt l i + segmentSize l → Needed k
-    kept : (i j : ℕ) → i < l .mains → j < l .backups → stateOf I i ≡ 2 → backupToMain I j ≡ i
+    own : (i : ℕ) → i < l .mains → activeState I i ≡ 1 → mainAt l i ≤ k → k < mainAt l i + segmentSize l → Needed k
+    kept : (i j : ℕ) → i < l .mains → j < l .backups → activeState I i ≡ 2 → backupToMain I j ≡ i
         → backupAt l j ≤ k → k < backupAt l j + segmentSize l → Needed k
 
   needed-clear : (i k : ℕ) (O : Ops) → i < l .mains → Needed k → Treated l I P i O → Clear k O
@@ -127,7 +126,7 @@ module _ (l : Layout) (I : Image) (P : Contents) (r : Recoverable l I P) where
   needed-clear i k O h (meta x) (backup j b a c u) = puts-clear u k (inl (omega arith))
   needed-clear i k O h (meta x) (idle a b e) = rw e tt
   needed-clear i k O h (own w m q x y) (main a u f) =
-      puts-clear u k (apart l i w k (λ e. a (subst (λ (t : ℕ). stateOf I t ≡ 1) (sym e) q)) x y)
+      puts-clear u k (apart l i w k (λ e. a (subst (λ (t : ℕ). activeState I t ≡ 1) (sym e) q)) x y)
   needed-clear i k O h (own w m q x y) (backup j b a c u) = puts-clear u k (apart l (l .mains + j) w k (omega arith) x y)
   needed-clear i k O h (own w m q x y) (idle a b e) = rw e tt
   needed-clear i k O h (kept w t m n q c x y) (main a u f) = puts-clear u k (apart l i (l .mains + t) k (omega arith) x y)
@@ -136,7 +135,7 @@ module _ (l : Layout) (I : Image) (P : Contents) (r : Recoverable l I P) where
     where
       other : j ≡ t → ⊥
       other e = let g : i ≡ w = sym d ∙ ap (λ (n : ℕ). backupToMain I n) e ∙ c in
-          let g′ : stateOf I i ≡ stateOf I w = ap (λ (n : ℕ). stateOf I n) g in omega arith
+          let g′ : activeState I i ≡ activeState I w = ap (λ (n : ℕ). activeState I n) g in omega arith
   needed-clear i k O h (kept w t m n q c x y) (idle a b e) = rw e tt
 
   abbrev E : Ops
@@ -176,7 +175,7 @@ module _ (l : Layout) (I : Image) (P : Contents) (r : Recoverable l I P) where
   other-clear i m k O h ne x y (backup j b a c u) = puts-clear u k (apart l (l .mains + j) i k (omega arith) x y)
   other-clear i m k O h ne x y (idle a b e) = rw e tt
 
-  main-turn : (i k : ℕ) (O : Ops) (J : Image) → i < l .mains → length J ≡ length I → stateOf I i ≢ 1 → mainAt l i ≤ k → k < mainAt l i + segmentSize l
+  main-turn : (i k : ℕ) (O : Ops) (J : Image) → i < l .mains → length J ≡ length I → activeState I i ≢ 1 → mainAt l i ≤ k → k < mainAt l i + segmentSize l
       → Treated l I P i O → byteAt (replay O J) k ≡ P i (k - mainAt l i)
   main-turn i k O J h n ne x y (main a u f) = u .leaves J k (omega (arith, r .fit .long, segment-in-image l i (omega arith))) x y
   main-turn i k O J h n ne x y (backup j b a c u) = absurd (ne a)
@@ -184,12 +183,12 @@ module _ (l : Layout) (I : Image) (P : Contents) (r : Recoverable l I P) where
 
   -- PLAYED WHOLE: every main segment shows P
   pub recovery-shows : (i x : ℕ) → i < l .mains → x < segmentSize l → byteAt (replay E I) (mainAt l i + x) ≡ P i x
-  recovery-shows i x h b = go (ℕ-discrete (stateOf I i) 1)
+  recovery-shows i x h b = go (ℕ-discrete (activeState I i) 1)
     where
       k : ℕ
       k = mainAt l i + x
 
-      go : Dec (stateOf I i ≡ 1) → byteAt (replay E I) (mainAt l i + x) ≡ P i x
+      go : Dec (activeState I i ≡ 1) → byteAt (replay E I) (mainAt l i + x) ≡ P i x
       go (yes e) = replay-clear E I k (recovery-clear k (own i h e (omega arith) (omega arith))) ∙ r .holds .own i x h b e
       go (no e) = recovery-leave k (P i x) i h
           (λ m y ne. other-clear i m k _ h ne (omega arith) (omega arith) (treated m y))
@@ -222,7 +221,7 @@ module _ (l : Layout) (I : Image) (P : Contents) (r : Recoverable l I P) where
       puts-clear u k (apart l (l .mains + t) (l .mains + j) k (λ w. ne (let g : t ≡ j = omega arith in sym d ∙ ap (λ (w : ℕ). backupToMain I w) g ∙ q)) x y)
   backup-other i j m k O h ne q x y (idle a b e) = rw e tt
 
-  backup-turn : (i j k : ℕ) (O : Ops) (J : Image) → i < l .mains → j < l .backups → stateOf I i ≡ 1 → backupToMain I j ≡ i → length J ≡ length I
+  backup-turn : (i j k : ℕ) (O : Ops) (J : Image) → i < l .mains → j < l .backups → activeState I i ≡ 1 → backupToMain I j ≡ i → length J ≡ length I
       → backupAt l j ≤ k → k < backupAt l j + segmentSize l → Treated l I P i O → byteAt (replay O J) k ≡ P i (k - backupAt l j)
   backup-turn i j k O J h b e q n x y (main a u f) = absurd (a e)
   backup-turn i j k O J h b e q n x y (backup t c a d u) =
@@ -233,26 +232,26 @@ module _ (l : Layout) (I : Image) (P : Contents) (r : Recoverable l I P) where
   backup-turn i j k O J h b e q n x y (idle a c d) = absurd (c j b q)
 
   backup-shows : (i j x : ℕ) → i < l .mains → j < l .backups → x < segmentSize l → backupToMain I j ≡ i → byteAt (replay E I) (backupAt l j + x) ≡ P i x
-  backup-shows i j x h b c q = go (stateOf I i) refl
+  backup-shows i j x h b c q = go (activeState I i) refl
     where
       k : ℕ
       k = backupAt l j + x
 
-      go : (st : ℕ) → stateOf I i ≡ st → byteAt (replay E I) (backupAt l j + x) ≡ P i x
+      go : (st : ℕ) → activeState I i ≡ st → byteAt (replay E I) (backupAt l j + x) ≡ P i x
       go zero e = absurd (r .holds .valid .bare i h e j b q)
       go (suc zero) e = recovery-leave k (P i x) i h
           (λ m y ne. backup-other i j m k _ y ne q (omega arith) (omega arith) (treated m y))
           (λ J n. backup-turn i j k _ J h b e q n (omega arith) (omega arith) (treated i h) ∙ ap (P i) (omega arith))
-      go (suc (suc n)) e = let two : stateOf I i ≡ 2 = omega (arith, r .holds .valid .states i h) in
+      go (suc (suc n)) e = let two : activeState I i ≡ 2 = omega (arith, r .holds .valid .states i h) in
           replay-clear E I k (recovery-clear k (kept i j h b two q (omega arith) (omega arith))) ∙ r .holds .backup i j x h b c two q
 
   -- a segment that does not hold its checkpoint itself is written back whole
-  main-flushed : (i ℓ : ℕ) (O : Ops) → stateOf I i ≢ 1 → mainAt l i ≤ 64 * ℓ → 64 * ℓ < mainAt l i + segmentSize l → Treated l I P i O → Flushed ℓ O
+  main-flushed : (i ℓ : ℕ) (O : Ops) → activeState I i ≢ 1 → mainAt l i ≤ 64 * ℓ → 64 * ℓ < mainAt l i + segmentSize l → Treated l I P i O → Flushed ℓ O
   main-flushed i ℓ O ne x y (main a u f) = f ℓ x y
   main-flushed i ℓ O ne x y (backup j b a c u) = absurd (ne a)
   main-flushed i ℓ O ne x y (idle a b e) = absurd (ne a)
 
-  pub turns-flushed : (i ℓ : ℕ) → i < l .mains → stateOf I i ≢ 1 → mainAt l i ≤ 64 * ℓ → 64 * ℓ < mainAt l i + segmentSize l → Flushed ℓ (turns (l .mains))
+  pub turns-flushed : (i ℓ : ℕ) → i < l .mains → activeState I i ≢ 1 → mainAt l i ≤ 64 * ℓ → 64 * ℓ < mainAt l i + segmentSize l → Flushed ℓ (turns (l .mains))
   turns-flushed i ℓ h ne x y =
       flushed-cat ℓ (l .mains) (turn l I) (λ m z. neat-turn l I m) i h (main-flushed i ℓ _ ne x y (treated i h))
 
@@ -314,12 +313,12 @@ module _ (l : Layout) (O : Ops) (I₀ : Image) (s : Session) (P W : Contents) (h
       (λ k d. crash-byte I₀ H O (take p G) k (firm-needed k d) (each-take (Misses k) p G (recovery-clear l I P rec k d)) (c .lines (k / 64)))) rec
 
   firm-main : (i x : ℕ) → i < l .mains → x < segmentSize l → Settled ((mainAt l i + x) / 64) (O ++ G)
-  firm-main i x h k = go (ℕ-discrete (stateOf I i) 1)
+  firm-main i x h k = go (ℕ-discrete (activeState I i) 1)
     where
       ℓ : ℕ
       ℓ = (mainAt l i + x) / 64
 
-      go : Dec (stateOf I i ≡ 1) → Settled ((mainAt l i + x) / 64) (O ++ G)
+      go : Dec (activeState I i ≡ 1) → Settled ((mainAt l i + x) / 64) (O ++ G)
       go (yes e) = recovery-keeps l I ℓ O (inv .firmOwn i x h k e)
       go (no e) = unfold recoveryOps in (settles-fence ℓ (cat (l .mains) (turn l I)) (turns-flushed l I P rec i ℓ h e (omega arith) (omega arith)) O)
 

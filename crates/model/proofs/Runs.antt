@@ -3,14 +3,14 @@
 use Prim.Native.Nat.{ℕ, zero, suc, _+_, _-_, _*_, _/_, _%_, _≤_, _<_}
 use mathlib.Core.Path.{_≡_, refl, sym, ap, _∙_, subst}
 use mathlib.Core.Logic.{_⊎_, inl, inr, ⊎-elim}
-use mathlib.Core.List.{List, [], _∷_, _++_}
+use mathlib.Core.List.{[], _∷_, _++_}
 use native.Mathlib.Decide.{decLt, ℕ-discrete}
 use native.Mathlib.Nat.{mul-suc, mul-zero}
 use native.Mathlib.Omega.{arith}
 use lib.ListN.{length, getD}
 use Rattle.model.specs.Range.{cat}
-use Rattle.model.specs.Words.{Image, byteAt, Bytes, bytesOf, storeWord}
-use Rattle.model.specs.Ops.{Op, store, clwb, sfence, Ops, apply, replay, stores, clwbs, putBlock}
+use Rattle.model.specs.Words.{Image, byteAt, bytesOf, storeWord}
+use Rattle.model.specs.Ops.{store, clwb, sfence, Ops, apply, replay, stores, clwbs, putBlock}
 use Rattle.model.proofs.WordLaws.{length-bytesOf, sets-at}
 use Rattle.model.proofs.Persist.{Each, Misses, Clear, each-append, each-mono, length-replay, replay-clear, replay-append}
 use Rattle.model.proofs.Settled.{Off, Flushed, flushed-more, flushed-after, off-append, Keeps, keeps-off, settles-fence}

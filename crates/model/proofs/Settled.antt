@@ -2,16 +2,16 @@
 -- settled lines, a crash of that call alone (`local-crash`), so that each call can be looked at by itself.
 use Prim.Native.Nat.{ℕ, zero, suc, _+_, _-_, _/_, _≤_, _<_}
 use mathlib.Core.Path.{_≡_, refl, sym, ap, _∙_, subst}
-use mathlib.Core.Logic.{_⊎_, inl, inr, ⊎-elim}
-use mathlib.Core.List.{List, [], _∷_, _++_, append-assoc}
+use mathlib.Core.Logic.{_⊎_, inl, inr}
+use mathlib.Core.List.{[], _∷_, _++_, append-assoc}
 use native.Mathlib.Decide.{decLe}
 use native.Mathlib.Omega.{arith}
 use lib.ListN.{length, take, length-append}
 use lib.Seq.{take-append-le, take-append-add}
-use Rattle.model.specs.Words.{Image, byteAt, Bytes}
-use Rattle.model.specs.Ops.{Op, store, clwb, sfence, Ops, apply, replay}
+use Rattle.model.specs.Words.{Image, byteAt}
+use Rattle.model.specs.Ops.{store, clwb, sfence, Ops, apply, replay}
 use Rattle.model.specs.Crash.{Durable, AgreeOn, Stage, CrashImage}
-use Rattle.model.proofs.Persist.{Each, Misses, Clear, each-append, each-take, length-replay, replay-clear, replay-append, replay-small, apply-cong}
+use Rattle.model.proofs.Persist.{Misses, Clear, each-append, each-take, length-replay, replay-clear, replay-append, replay-small, apply-cong}
 
 -- line ℓ is settled: every stage of it is the last
 abbrev pub Settled : ℕ → Ops → Type 0

@@ -1,30 +1,29 @@
 -- The stores of a write's span: they go into a block of a main segment that does not hold its checkpoint, so that no
 -- stage of them matters to recovery.
-use Prim.Native.Nat.{ℕ, zero, suc, _+_, _-_, _*_, _/_, _%_, _≤_, _<_}
-use mathlib.Core.Path.{_≡_, refl, sym, ap, _∙_, subst}
+use Prim.Native.Nat.{ℕ, _+_, _*_, _/_, _≤_, _<_}
+use mathlib.Core.Path.{_≡_, sym, ap, _∙_, subst}
 use mathlib.Core.Logic.{_≢_, _⊎_, inl, inr, ⊎-elim}
 use mathlib.Core.Bool.{Bool, true, false, true≢false}
-use mathlib.Core.List.{List, [], _∷_, _++_}
-use native.Mathlib.Decide.{decLe, decLt, ℕ-discrete}
+use mathlib.Core.List.{_++_}
+use native.Mathlib.Decide.{decLt, ℕ-discrete}
 use native.Mathlib.Omega.{arith}
-use lib.Dec.{eqb}
 use lib.ListN.{length, take}
 use Rattle.model.specs.declared.Layout.{Layout}
 use Rattle.model.specs.declared.Session.{Session}
-use Rattle.model.specs.Words.{Image, byteAt, Bytes, wordOf, overlay}
+use Rattle.model.specs.Words.{Image, byteAt, Bytes, overlay}
 use Rattle.model.specs.Layout.{segmentSize, mainAt, backupAt}
-use Rattle.model.specs.Container.{committedEpoch, activeLine, backupToMain}
-use Rattle.model.specs.Session.{bit, dirtySegment, dirtyBlock, dirtyWord, withDirty}
-use Rattle.model.specs.Ops.{Ops, replay, stores, wordPlace}
+use Rattle.model.specs.Container.{activeState, committedEpoch, activeLine}
+use Rattle.model.specs.Session.{dirtySegment, dirtyBlock, dirtyWord, withDirty}
+use Rattle.model.specs.Ops.{Ops, replay, wordPlace}
 use Rattle.model.specs.Write.{WriteArgs, spanAt, spanWords, spanOps}
 use Rattle.model.specs.Crash.{CrashImage}
 use Rattle.model.proofs.WordLaws.{byte-of-word, overlay-before, overlay-after, overlay-small}
 use Rattle.model.proofs.Persist.{Misses, Clear, each-take, length-replay, replay-clear, replay-append, replay-small}
 use Rattle.model.proofs.Settled.{Settled, Off, crash-byte, crash-bytes, settled-more}
 use Rattle.model.proofs.Runs.{Puts, puts-clear, puts-stores}
-use Rattle.model.proofs.Places.{segment-in-image, segment-inside, apart, state-line-high}
+use Rattle.model.proofs.Places.{segment-in-image, apart, state-line-high}
 use Rattle.model.proofs.SessionLaws.{dirty-segment-same, dirty-segment-other, dirty-block-same, dirty-block-rest, dirty-block-other}
-use Rattle.model.proofs.View.{Contents, Recoverable, stateOf, Alike, recoverable-alike, alike-state}
+use Rattle.model.proofs.View.{Contents, Recoverable, Alike, recoverable-alike, alike-state}
 use Rattle.model.proofs.Invariant.{Invariant}
 
 -- ---- the session with block b of main segment i dirty
@@ -61,7 +60,7 @@ module _ (s : Session) (i b : ℕ) where
 -- ---- stores E into block b of main segment i, leaving g in a stretch of it
 
 module _ (l : Layout) (O : Ops) (I₀ : Image) (s : Session) (P W : Contents) (held : Bytes I₀) (inv : Invariant l O (replay O I₀) s P W)
-    (i b : ℕ) (hi : i < l .mains) (hb : b < l .blocks) (ne : stateOf (replay O I₀) i ≢ 1)
+    (i b : ℕ) (hi : i < l .mains) (hb : b < l .blocks) (ne : activeState (replay O I₀) i ≢ 1)
     (E : Ops) (a n : ℕ) (g : ℕ → ℕ) (puts : Puts E a n g) (from : mainAt l i + 256 * b ≤ a) (upto : a + n ≤ mainAt l i + 256 * b + 256) where
   abbrev I : Image
   I = replay O I₀
@@ -117,7 +116,7 @@ module _ (l : Layout) (O : Ops) (I₀ : Image) (s : Session) (P W : Contents) (h
     header = λ k h x. low k (omega arith);
     states = λ u h. low (activeLine I + u) (omega (arith, state-line-high (committedEpoch I)));
     pairs = λ j h. low (256 + j) (omega arith);
-    owns = λ u x h k e. same (mainAt l u + x) (beyond-segment u x k (λ q. ne (subst (λ (w : ℕ). stateOf I w ≡ 1) q e))) (inv .firmOwn u x h k e);
+    owns = λ u x h k e. same (mainAt l u + x) (beyond-segment u x k (λ q. ne (subst (λ (w : ℕ). activeState I w ≡ 1) q e))) (inv .firmOwn u x h k e);
     backups = λ u j x h m k e d. same _ (beyond-backup j x k) (inv .firmBackup j x m k);
   }
     where
@@ -160,11 +159,11 @@ module _ (l : Layout) (O : Ops) (I₀ : Image) (s : Session) (P W : Contents) (h
     alike : Alike l I K
     alike = span-alike K (length-replay (O ++ E) I₀ ∙ sym (length-replay O I₀)) (replay-small (O ++ E) I₀ held) (λ k q t. kept k (beyond-clear k q))
 
-    st : (u : ℕ) → u < l .mains → stateOf K u ≡ stateOf I u
+    st : (u : ℕ) → u < l .mains → activeState K u ≡ activeState I u
     st u h = alike-state l I K alike u (omega (arith, inv .recovers .fit .sizes .0))
 
-    not-own : (u : ℕ) → u < l .mains → stateOf K u ≡ 1 → u ≢ i
-    not-own u h e q = ne (subst (λ (w : ℕ). stateOf I w ≡ 1) q (sym (st u h) ∙ e))
+    not-own : (u : ℕ) → u < l .mains → activeState K u ≡ 1 → u ≢ i
+    not-own u h e q = ne (subst (λ (w : ℕ). activeState I w ≡ 1) q (sym (st u h) ∙ e))
 
     below : (u : ℕ) → dirtySegment (marked s i b) u ≡ true → u < l .mains
     below u e = go (ℕ-discrete u i)
@@ -173,7 +172,7 @@ module _ (l : Layout) (O : Ops) (I₀ : Image) (s : Session) (P W : Contents) (h
         go (yes q) = omega arith
         go (no q) = inv .low u (marked-segment s i b u true q e)
 
-    not-main : (u : ℕ) → dirtySegment (marked s i b) u ≡ true → stateOf K u ≢ 1
+    not-main : (u : ℕ) → dirtySegment (marked s i b) u ≡ true → activeState K u ≢ 1
     not-main u e q = go (ℕ-discrete u i)
       where
         go : Dec (u ≡ i) → ⊥

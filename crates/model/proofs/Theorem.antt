@@ -1,45 +1,43 @@
 -- DEMAND 3 and its sisters, proved: `crash-safety : CrashSafety` (specs/CrashSafety.antt). Every call of a history keeps the
 -- invariant and, crashed anywhere, leaves what recovers to a permitted page; openings keep that, cut or not.
-use Prim.Native.Nat.{ℕ, zero, suc, _+_, _-_, _*_, _^_, _/_, _%_, _≤_, _<_}
+use Prim.Native.Nat.{ℕ, zero, suc, _+_, _-_, _*_, _^_, _%_, _<_}
 use mathlib.Core.Path.{_≡_, refl, sym, ap, ap₂, _∙_, subst, subst₂}
 use mathlib.Core.Logic.{_≢_, _⊎_, inl, inr, ⊎-elim}
-use mathlib.Core.Bool.{Bool, true, false, cond, true≢false}
+use mathlib.Core.Bool.{Bool, true, false, cond}
 use mathlib.Core.List.{List, [], _∷_, _++_, append-nil}
-use native.Mathlib.Decide.{decLe, decLt, ℕ-discrete}
+use native.Mathlib.Decide.{decLt, ℕ-discrete}
 use native.Mathlib.Omega.{arith}
-use borrow.Author.Tests.{eq-eqb, ne-eqb, eqb-false, leb-false, le-leb, lt-leb, ltb-false}
-use lib.Dec.{eqb, leb, ltb}
+use borrow.Author.Tests.{eq-eqb, ne-eqb, eqb-false, leb-false, le-leb, lt-leb}
 use lib.ListN.{length, take, length-set}
 use lib.Seq.{sets, take-length, take-all, length-sets}
 use Rattle.model.specs.declared.Layout.{Layout}
 use Rattle.model.specs.declared.Session.{Session}
-use Rattle.model.specs.Words.{Image, byteAt, Bytes, wordOf, overlay}
-use Rattle.model.specs.Layout.{most, segmentSize, mainAt, imageSize}
+use Rattle.model.specs.Words.{Image, byteAt, Bytes, overlay}
+use Rattle.model.specs.Layout.{segmentSize, mainAt, imageSize}
 use Rattle.model.specs.Status.{firstError, served}
-use Rattle.model.specs.Container.{committedEpoch, activeLine, segState, backupToMain, checkpointBytes, HeaderOk, Free}
+use Rattle.model.specs.Container.{activeState, committedEpoch, activeLine, backupToMain, checkpointBytes, HeaderOk, Free}
 use Rattle.model.specs.Session.{freshSession, zeroSession, withDirty, withCheckpoint}
-use Rattle.model.specs.Ops.{Op, store, clwb, sfence, Ops, Trace, traceShort, replay, Outcome}
+use Rattle.model.specs.Ops.{clwb, sfence, Ops, Trace, traceShort, replay, Outcome}
 use Rattle.model.specs.Open.{recoveryOps, openStatus, openOutcome}
 use Rattle.model.specs.Write.{WriteArgs, needsBackup, spanAt, writeOps, writeSession, writeStatus, writeOutcome}
 use Rattle.model.specs.Checkpoint.{checkpointOps, checkpointStatus, checkpointOutcome}
 use Rattle.model.specs.Crash.{CrashImage}
 use Rattle.model.specs.Reference.{Page, Model, CallArgs, modelStep, openArgs, writeArgs, checkpointArgs, pageAt}
-use Rattle.model.specs.History.{Call, callOpen, callWrite, callCheckpoint, argsOf, traceOf, State, outcome, playedOps, replayedImage, calledOps, step, run, openedImage, start, Permitted, AllPermitted}
-use Rattle.model.specs.CrashSafety.{Reads, Recovers, Moment, between, during, PermittedAt, playedAt, EpochStored, Window, lastCheckpoint, MayShow, Leaves, CutOpenings, none, again, CrashSafetyFor, CrashSafety, CrashSafetyWithin, ReadsFollowModel, OpeningSettles, OpeningSafety, countOf, checkpoints, EpochCounts}
+use Rattle.model.specs.History.{Call, callOpen, callWrite, callCheckpoint, argsOf, traceOf, State, outcome, playedOps, calledOps, step, run, openedImage, start, Permitted, AllPermitted}
+use Rattle.model.specs.CrashSafety.{Reads, Recovers, Moment, between, during, PermittedAt, playedAt, EpochStored, Window, lastCheckpoint, MayShow, CrashModel, CutOpenings, none, again, CrashSafety, CrashSafetyWithin, ReadsFollowModel, OpeningSettles, OpeningSafety, checkpointsOf, checkpoints, EpochCounts}
 use Rattle.model.proofs.Refusals.{served-none}
 use Rattle.model.proofs.Metadata.{ContainerOk, container-then, container-passes}
-use Rattle.model.proofs.SessionLaws.{dirty-length}
-use Rattle.model.proofs.Places.{image-lines, image-size}
+use Rattle.model.proofs.Places.{image-lines}
 use Rattle.model.proofs.Agreement.{length-checkpoint, zero-write, zero-checkpoint}
-use Rattle.model.proofs.TraceLaws.{AllOk, played-ops, replayed-image}
+use Rattle.model.proofs.TraceLaws.{played-ops, replayed-image}
 use Rattle.model.proofs.WellFormed.{open-ok, call-ok, span-good}
 use Rattle.model.proofs.WordLaws.{word-lt, word-cong, overlay-sets, overlay-shift}
 use Rattle.model.proofs.Persist.{Clear, replay-clear, replay-append, replay-small}
-use Rattle.model.proofs.Settled.{Settled, settled-off, take-past}
-use Rattle.model.proofs.CrashExact.{settled-only}
-use Rattle.model.proofs.View.{Contents, Fit, Recoverable, stateOf}
+use Rattle.model.proofs.Settled.{settled-off, take-past}
+use Rattle.model.proofs.CrashExact.{newest, settled-only}
+use Rattle.model.proofs.View.{Contents, Fit, Recoverable}
 use Rattle.model.proofs.Invariant.{Invariant}
-use Rattle.model.proofs.Recovery.{meta, recovery-clear, recovery-crash, recovery-shows, recovery-keeps, opened-durable, reopen-crash, reopen-done}
+use Rattle.model.proofs.Recovery.{meta, recovery-clear, recovery-crash, recovery-keeps, opened-durable, reopen-crash, reopen-done}
 use Rattle.model.proofs.CheckpointArgument.{beforeEpoch, epochPhase, checkpoint-phases, checkpoint-crash, checkpoint-epoch, checkpoint-done}
 use Rattle.model.proofs.SpanArgument.{SpanOk}
 use Rattle.model.proofs.WriteArgument.{write-low, write-crash, write-done}
@@ -211,8 +209,8 @@ epoch-among s I p h = go (p - length (beforeEpoch s I)) refl
 -- ---- where a history stands
 
 pub record Stands (s : State) : Type 0 where
-  pub bytes : Bytes (s .held)
-  pub image : s .image ≡ replay (s .played) (s .held)
+  pub bytes : Bytes (s .durable)
+  pub image : s .image ≡ replay (s .played) (s .durable)
   -- the session of the last served call; a refused opening may have answered zeros since
   pub session : Session
   pub sized : session .layout ≡ s .layout
@@ -220,14 +218,14 @@ pub record Stands (s : State) : Type 0 where
   pub known : (s .session ≡ session) ⊎ (s .session ≡ zeroSession)
   pub wholeWorking : Whole (s .layout) (s .model .working)
   pub wholeCheckpoint : Whole (s .layout) (s .model .checkpoint)
-  pub inv : Invariant (s .layout) (s .played) (replay (s .played) (s .held)) session (contentsOf (s .layout) (s .model .checkpoint)) (contentsOf (s .layout) (s .model .working))
+  pub inv : Invariant (s .layout) (s .played) (replay (s .played) (s .durable)) session (contentsOf (s .layout) (s .model .checkpoint)) (contentsOf (s .layout) (s .model .working))
 
 -- operations that leave the first line alone leave the epoch
 low-epoch : (I₀ : Image) (O E : Ops) → ((k : ℕ) → k < 64 → Clear k E) → committedEpoch (replay (O ++ E) I₀) ≡ committedEpoch (replay O I₀)
 low-epoch I₀ O E h = ap (λ (J : Image). committedEpoch J) (replay-append O E I₀) ∙ word-cong _ _ 0 (λ k x y. replay-clear E (replay O I₀) k (h k (omega arith)))
 
 -- a refused call is no checkpoint
-count-refused : (s : State) (c : Call) → served (outcome s c .status) ≡ false → countOf s c ≡ 0
+count-refused : (s : State) (c : Call) → served (outcome s c .status) ≡ false → checkpointsOf s c ≡ 0
 count-refused s (callOpen l t) e = refl
 count-refused s (callWrite w t j) e = refl
 count-refused s (callCheckpoint t) e = rw e
@@ -240,9 +238,9 @@ pub record Next (s : State) (c : Call) (m : Model) : Type 0 where
   pub known : (outcome s c .session ≡ session) ⊎ (outcome s c .session ≡ zeroSession)
   pub wholeWorking : Whole (s .layout) (m .working)
   pub wholeCheckpoint : Whole (s .layout) (m .checkpoint)
-  pub inv : Invariant (s .layout) (s .played ++ outcome s c .ops) (replay (s .played ++ outcome s c .ops) (s .held)) session (contentsOf (s .layout) (m .checkpoint)) (contentsOf (s .layout) (m .working))
-  pub epoch : committedEpoch (replay (s .played ++ outcome s c .ops) (s .held)) ≡ committedEpoch (replay (s .played) (s .held)) + countOf s c
-  pub crash : (p : ℕ) (H : Image) → p < length (outcome s c .ops) → CrashImage (s .held) (s .played ++ take p (outcome s c .ops)) H
+  pub inv : Invariant (s .layout) (s .played ++ outcome s c .ops) (replay (s .played ++ outcome s c .ops) (s .durable)) session (contentsOf (s .layout) (m .checkpoint)) (contentsOf (s .layout) (m .working))
+  pub epoch : committedEpoch (replay (s .played ++ outcome s c .ops) (s .durable)) ≡ committedEpoch (replay (s .played) (s .durable)) + checkpointsOf s c
+  pub crash : (p : ℕ) (H : Image) → p < length (outcome s c .ops) → CrashImage (s .durable) (s .played ++ take p (outcome s c .ops)) H
       → Recoverable (s .layout) H (contentsOf (s .layout) (s .model .checkpoint))
       ⊎ ((calledOps s c p ≡ take p (outcome s c .ops) → Window s c p) × Recoverable (s .layout) H (contentsOf (s .layout) (s .model .working)))
 
@@ -255,7 +253,7 @@ module _ (s : State) (st : Stands s) where
   l = s .layout
 
   abbrev I : Image
-  I = replay (s .played) (s .held)
+  I = replay (s .played) (s .durable)
 
   same-length : length (s .image) ≡ imageSize l
   same-length = ap length (st .image) ∙ st .inv .recovers .fit .long
@@ -269,9 +267,9 @@ module _ (s : State) (st : Stands s) where
     known = ⊎-elim (λ q. inl (r .session ∙ q)) (λ q. inr (r .session ∙ q)) k;
     wholeWorking = st .wholeWorking;
     wholeCheckpoint = st .wholeCheckpoint;
-    inv = subst (λ (X : Ops). Invariant l X (replay X (s .held)) (st .session) (contentsOf l (s .model .checkpoint)) (contentsOf l (s .model .working)))
+    inv = subst (λ (X : Ops). Invariant l X (replay X (s .durable)) (st .session) (contentsOf l (s .model .checkpoint)) (contentsOf l (s .model .working)))
         (sym (append-nil (s .played)) ∙ ap (λ (X : Ops). s .played ++ X) (sym (r .ops))) (st .inv);
-    epoch = low-epoch (s .held) (s .played) (outcome s c .ops) (λ k h. subst (λ (X : Ops). Clear k X) (sym (r .ops)) tt) ∙ omega (arith, count-refused s c (r .status));
+    epoch = low-epoch (s .durable) (s .played) (outcome s c .ops) (λ k h. subst (λ (X : Ops). Clear k X) (sym (r .ops)) tt) ∙ omega (arith, count-refused s c (r .status));
     crash = λ p H h x. absurd (let z : length (outcome s c .ops) ≡ 0 = ap length (r .ops) in omega arith);
   })
     where
@@ -306,12 +304,12 @@ module _ (s : State) (st : Stands s) where
             known = inl (o .session);
             wholeWorking = st .wholeCheckpoint;
             wholeCheckpoint = st .wholeCheckpoint;
-            inv = subst (λ (X : Ops). Invariant l (s .played ++ X) (replay (s .played ++ X) (s .held)) (freshSession l) P P) (sym ops)
-                (reopen-done l (s .played) (s .held) (st .session) P W (st .bytes) (st .inv));
-            epoch = subst (λ (X : Ops). committedEpoch (replay (s .played ++ X) (s .held)) ≡ committedEpoch I + 0) (sym ops)
-                (low-epoch (s .held) (s .played) (recoveryOps l I (activeLine I)) (λ k q. recovery-clear l I P (st .inv .recovers) k (meta (omega arith))) ∙ omega arith);
-            crash = λ p H q x. inl (reopen-crash l (s .played) (s .held) (st .session) P W (st .bytes) (st .inv) p H
-                (subst (λ (X : Ops). CrashImage (s .held) (s .played ++ take p X) H) ops x));
+            inv = subst (λ (X : Ops). Invariant l (s .played ++ X) (replay (s .played ++ X) (s .durable)) (freshSession l) P P) (sym ops)
+                (reopen-done l (s .played) (s .durable) (st .session) P W (st .bytes) (st .inv));
+            epoch = subst (λ (X : Ops). committedEpoch (replay (s .played ++ X) (s .durable)) ≡ committedEpoch I + 0) (sym ops)
+                (low-epoch (s .durable) (s .played) (recoveryOps l I (activeLine I)) (λ k q. recovery-clear l I P (st .inv .recovers) k (meta (omega arith))) ∙ omega arith);
+            crash = λ p H q x. inl (reopen-crash l (s .played) (s .durable) (st .session) P W (st .bytes) (st .inv) p H
+                (subst (λ (X : Ops). CrashImage (s .durable) (s .played ++ take p X) H) ops x));
           })
 
       go : Dec (openStatus k (s .image) t ≡ 0) → Next s (callOpen k t) (after s (callOpen k t))
@@ -369,8 +367,8 @@ module _ (s : State) (st : Stands s) where
           let ops : outcome s (callWrite w t j) .ops ≡ writeOps σ I w j = o .ops ∙ ap₂ (λ (x : Session) (J : Image). writeOps x J w j) e (st .image) in
           let session : outcome s (callWrite w t j) .session ≡ writeSession σ I w = o .session ∙ ap₂ (λ (x : Session) (J : Image). writeSession x J w) e (st .image) in
           let h′ : writeStatus σ I w j t ≡ 0 = subst₂ (λ (x : Session) (J : Image). writeStatus x J w j t ≡ 0) e (st .image) h in
-          let free : needsBackup σ I (w .main) ≡ true → Free (σ .layout) (stateOf I) (backupToMain I) j =
-          subst₂ (λ (x : Session) (J : Image). needsBackup x J (w .main) ≡ true → Free (x .layout) (stateOf J) (backupToMain J) j) e (st .image) (permitted .1 h) in
+          let free : needsBackup σ I (w .main) ≡ true → Free (σ .layout) (activeState I) (backupToMain I) j =
+          subst₂ (λ (x : Session) (J : Image). needsBackup x J (w .main) ≡ true → Free (x .layout) (activeState J) (backupToMain J) j) e (st .image) (permitted .1 h) in
           let ok : SpanOk (σ .layout) w = span-ok σ I w j t (permitted .0) h′ in
           let ok′ : SpanOk l w = subst (λ (k : Layout). SpanOk k w) (st .sized) ok in
           let given = subst (λ (k : Layout). (u x : ℕ) → u < k .mains → x < segmentSize k → contentsOf l page u x ≡ overlay (byteAt I) (spanAt k w) (w .bytes) (mainAt k u + x))
@@ -382,13 +380,13 @@ module _ (s : State) (st : Stands s) where
             known = inl session;
             wholeWorking = length-sets (s .model .working) (pageAt l (w .main) (w .block) + w .offset) (w .bytes) ∙ st .wholeWorking;
             wholeCheckpoint = st .wholeCheckpoint;
-            inv = subst (λ (X : Ops). Invariant l (s .played ++ X) (replay (s .played ++ X) (s .held)) (writeSession σ I w) P (contentsOf l page)) (sym ops)
-                (subst (λ (k : Layout). Invariant k (s .played ++ writeOps σ I w j) (replay (s .played ++ writeOps σ I w j) (s .held)) (writeSession σ I w) P (contentsOf l page)) (st .sized)
-                (write-done (s .played) (s .held) σ P W (st .bytes) inv w ok (st .wide) j free (contentsOf l page) given));
-            epoch = subst (λ (X : Ops). committedEpoch (replay (s .played ++ X) (s .held)) ≡ committedEpoch I + 0) (sym ops)
-                (low-epoch (s .held) (s .played) (writeOps σ I w j) (write-low (s .played) (s .held) σ P W (st .bytes) inv w ok (st .wide) j free) ∙ omega arith);
+            inv = subst (λ (X : Ops). Invariant l (s .played ++ X) (replay (s .played ++ X) (s .durable)) (writeSession σ I w) P (contentsOf l page)) (sym ops)
+                (subst (λ (k : Layout). Invariant k (s .played ++ writeOps σ I w j) (replay (s .played ++ writeOps σ I w j) (s .durable)) (writeSession σ I w) P (contentsOf l page)) (st .sized)
+                (write-done (s .played) (s .durable) σ P W (st .bytes) inv w ok (st .wide) j free (contentsOf l page) given));
+            epoch = subst (λ (X : Ops). committedEpoch (replay (s .played ++ X) (s .durable)) ≡ committedEpoch I + 0) (sym ops)
+                (low-epoch (s .durable) (s .played) (writeOps σ I w j) (write-low (s .played) (s .durable) σ P W (st .bytes) inv w ok (st .wide) j free) ∙ omega arith);
             crash = λ p H q x. inl (subst (λ (k : Layout). Recoverable k H P) (st .sized)
-                (write-crash (s .played) (s .held) σ P W (st .bytes) inv w ok (st .wide) j free p H (subst (λ (X : Ops). CrashImage (s .held) (s .played ++ take p X) H) ops x)));
+                (write-crash (s .played) (s .durable) σ P W (st .bytes) inv w ok (st .wide) j free p H (subst (λ (X : Ops). CrashImage (s .durable) (s .played ++ take p X) H) ops x)));
           })
 
       go : Dec (writeStatus (s .session) (s .image) w j t ≡ 0) → Next s (callWrite w t j) (after s (callWrite w t j))
@@ -424,15 +422,15 @@ module _ (s : State) (st : Stands s) where
             known = inl session;
             wholeWorking = st .wholeWorking;
             wholeCheckpoint = st .wholeWorking;
-            inv = subst (λ (X : Ops). Invariant l (s .played ++ X) (replay (s .played ++ X) (s .held)) (withCheckpoint σ) W W) (sym ops)
-                (subst (λ (k : Layout). Invariant k (s .played ++ checkpointOps σ I) (replay (s .played ++ checkpointOps σ I) (s .held)) (withCheckpoint σ) W W) (st .sized)
-                (checkpoint-done (s .played) (s .held) σ P W (st .bytes) inv fits));
-            epoch = subst (λ (X : Ops). committedEpoch (replay (s .played ++ X) (s .held)) ≡ committedEpoch I + countOf s (callCheckpoint t)) (sym ops)
-                (let one : countOf s (callCheckpoint t) ≡ 1 = ap (λ (b : Bool). cond b 1 0) (o .status) in checkpoint-epoch (s .played) (s .held) σ P W (st .bytes) inv fits ∙ omega arith);
+            inv = subst (λ (X : Ops). Invariant l (s .played ++ X) (replay (s .played ++ X) (s .durable)) (withCheckpoint σ) W W) (sym ops)
+                (subst (λ (k : Layout). Invariant k (s .played ++ checkpointOps σ I) (replay (s .played ++ checkpointOps σ I) (s .durable)) (withCheckpoint σ) W W) (st .sized)
+                (checkpoint-done (s .played) (s .durable) σ P W (st .bytes) inv fits));
+            epoch = subst (λ (X : Ops). committedEpoch (replay (s .played ++ X) (s .durable)) ≡ committedEpoch I + checkpointsOf s (callCheckpoint t)) (sym ops)
+                (let one : checkpointsOf s (callCheckpoint t) ≡ 1 = ap (λ (b : Bool). cond b 1 0) (o .status) in checkpoint-epoch (s .played) (s .durable) σ P W (st .bytes) inv fits ∙ omega arith);
             crash = λ p H q x. ⊎-elim
                 (λ r. inl (subst (λ (k : Layout). Recoverable k H P) (st .sized) r))
                 (λ r. inr ((λ c. (subst EpochStored (sym (c ∙ ap (take p) ops)) (epoch-among σ I p (r .0)), q)), subst (λ (k : Layout). Recoverable k H W) (st .sized) (r .1)))
-                (checkpoint-crash (s .played) (s .held) σ P W (st .bytes) inv p H fits (subst (λ (X : Ops). CrashImage (s .held) (s .played ++ take p X) H) ops x));
+                (checkpoint-crash (s .played) (s .durable) σ P W (st .bytes) inv p H fits (subst (λ (X : Ops). CrashImage (s .durable) (s .played ++ take p X) H) ops x));
           })
 
       go : Dec (checkpointStatus (s .session) (s .image) t ≡ 0) → Next s (callCheckpoint t) (after s (callCheckpoint t))
@@ -460,25 +458,25 @@ module _ (s : State) (st : Stands s) where
       record {
         bytes = st .bytes;
         image = replayed-image (s .image) (outcome s c .ops) (traceOf c) (length (outcome s c .ops)) (omega (arith, same-length, image-lines l)) (call-ok s c permitted)
-            ∙ ap₂ replay (take-length (outcome s c .ops)) (st .image) ∙ sym (replay-append (s .played) (outcome s c .ops) (s .held))
-            ∙ ap (λ (X : Ops). replay (s .played ++ X) (s .held)) (sym e);
+            ∙ ap₂ replay (take-length (outcome s c .ops)) (st .image) ∙ sym (replay-append (s .played) (outcome s c .ops) (s .durable))
+            ∙ ap (λ (X : Ops). replay (s .played ++ X) (s .durable)) (sym e);
         session = n .session;
         sized = n .sized;
         wide = n .wide;
         known = n .known;
         wholeWorking = n .wholeWorking;
         wholeCheckpoint = n .wholeCheckpoint;
-        inv = subst (λ (X : Ops). Invariant l (s .played ++ X) (replay (s .played ++ X) (s .held)) (n .session) (contentsOf l (after s c .checkpoint)) (contentsOf l (after s c .working)))
+        inv = subst (λ (X : Ops). Invariant l (s .played ++ X) (replay (s .played ++ X) (s .durable)) (n .session) (contentsOf l (after s c .checkpoint)) (contentsOf l (after s c .working)))
             (sym e) (n .inv);
       }
 
   -- A CRASH between two calls
-  rest-crash : (H : Image) → CrashImage (s .held) (s .played) H → Recoverable l H (contentsOf l (s .model .checkpoint))
-  rest-crash H c = reopen-crash l (s .played) (s .held) (st .session) _ _ (st .bytes) (st .inv) 0 H
-      (subst (λ (X : Ops). CrashImage (s .held) X H) (sym (append-nil (s .played))) c)
+  rest-crash : (H : Image) → CrashImage (s .durable) (s .played) H → Recoverable l H (contentsOf l (s .model .checkpoint))
+  rest-crash H c = reopen-crash l (s .played) (s .durable) (st .session) _ _ (st .bytes) (st .inv) 0 H
+      (subst (λ (X : Ops). CrashImage (s .durable) X H) (sym (append-nil (s .played))) c)
 
 -- A CRASH at any moment leaves what recovers to a page that may be shown
-crash-page : (s : State) → Stands s → (m : Moment) → PermittedAt s m → (H : Image) → CrashImage (s .held) (playedAt s m) H
+crash-page : (s : State) → Stands s → (m : Moment) → PermittedAt s m → (H : Image) → CrashImage (s .durable) (playedAt s m) H
     → (Q : Page) × MayShow s m Q × Whole (s .layout) Q × Recoverable (s .layout) H (contentsOf (s .layout) Q)
 unfolding lastCheckpoint step
 crash-page s st between permitted H c = (s .model .checkpoint, refl, st .wholeCheckpoint, rest-crash s st H c)
@@ -491,13 +489,13 @@ crash-page s st (during d p) permitted H c = go (decLt p (length O))
     go (yes h) = ⊎-elim
         (λ r. (s .model .checkpoint, inl (rw (lt-leb (length O) p h)), st .wholeCheckpoint, r))
         (λ r. (s .model .working, inr (r .0 (called s st d permitted p), refl), st .wholeWorking, r .1))
-        (next s st d permitted .crash p H h (subst (λ (X : Ops). CrashImage (s .held) (s .played ++ X) H) (called s st d permitted p) c))
+        (next s st d permitted .crash p H h (subst (λ (X : Ops). CrashImage (s .durable) (s .played ++ X) H) (called s st d permitted p) c))
     go (no h) =
         let e : calledOps s d p ≡ calledOps s d (length O) = called s st d permitted p ∙ take-all p O (omega arith) ∙ sym (called-all s st d permitted) in (
           step s d .model .checkpoint,
           inl (rw (le-leb (length O) p (omega arith))),
           step-stands s st d permitted .wholeCheckpoint,
-          rest-crash (step s d) (step-stands s st d permitted) H (subst (λ (X : Ops). CrashImage (s .held) (s .played ++ X) H) e c),
+          rest-crash (step s d) (step-stands s st d permitted) H (subst (λ (X : Ops). CrashImage (s .durable) (s .played ++ X) H) e c),
         )
 
 -- ---- the whole history
@@ -545,10 +543,11 @@ crash-safety l I t b h cs permitted m pm H c H′ openings t′ ne =
     let e = start-layout l I t cs in
     let whole = subst (λ (k : Layout). Whole k (x .0)) e (x .2) in
     let r = subst (λ (k : Layout). Recoverable k H (contentsOf k (x .0))) e (x .3) in
-    (x .0, x .1, recovers l H′ t′ (x .0) whole (openings-keep (contentsOf l (x .0)) r openings) ne)
+    let r′ = openings-keep (contentsOf l (x .0)) r openings in
+    (x .0, x .1, recovers l H′ t′ (x .0) whole r′ ne, r′ .fit .bytes)
 
 -- the same for a module whose crash images are among these
-openings-within : (R : Leaves) → ((I : Image) (O : Ops) (H : Image) → R I O H → CrashImage I O H) → {l : Layout} {H H′ : Image} → CutOpenings R l H H′ → CutOpenings CrashImage l H H′
+openings-within : (R : CrashModel) → ((I : Image) (O : Ops) (H : Image) → R I O H → CrashImage I O H) → {l : Layout} {H H′ : Image} → CutOpenings R l H H′ → CutOpenings CrashImage l H H′
 openings-within R among none = none
 openings-within R among (again t p ne c rest) = again t p ne (among _ _ _ c) (openings-within R among rest)
 
@@ -567,24 +566,28 @@ reads-follow-model l I t b h cs permitted =
     (reads (s .layout) _ (s .model .checkpoint) (s .model .working) (st .wholeCheckpoint) (st .wholeWorking) (st .inv .recovers) (st .inv .working)))
 
 pub opening-settles : OpeningSettles
-opening-settles l I t b h H c =
+opening-settles l I t b h =
     let r = starting l I t b h in
     let O = recoveryOps l I (activeLine I) in
-    settled-only I H O (λ ℓ. recovery-keeps l I ℓ [] (settled-off ℓ [] (λ i e. tt))) (subst (λ (X : Ops). CrashImage I X H) (open-ops l I t h) c)
-    ∙ sym (opened-is l I (contentsOf l (checkpointBytes l I (activeLine I))) r t h)
+    let e : openOutcome l I t .ops ≡ O = open-ops l I t h in
+    let d : openedImage l I t ≡ replay O I = opened-is l I (contentsOf l (checkpointBytes l I (activeLine I))) r t h in (
+      subst₂ (λ (X : Ops) (H : Image). CrashImage I X H) (sym e) (sym d) (newest I O),
+      λ H c. settled-only I H O (λ ℓ. recovery-keeps l I ℓ [] (settled-off ℓ [] (λ i e. tt))) (subst (λ (X : Ops). CrashImage I X H) e c) ∙ sym d,
+    )
 
 pub opening-safety : OpeningSafety
 opening-safety l I t b h H openings t′ ne =
     let P = checkpointBytes l I (activeLine I) in
-    recovers l H t′ P (length-checkpoint l I (accepted l I t h)) (openings-keep (contentsOf l P) (starting l I t b h) openings) ne
+    let r = openings-keep (contentsOf l P) (starting l I t b h) openings in
+    (recovers l H t′ P (length-checkpoint l I (accepted l I t h)) r ne, r .fit .bytes)
 
 -- every call raises the epoch by the checkpoints that it is
-step-epoch : (s : State) (st : Stands s) (c : Call) → Permitted s c → committedEpoch (step s c .image) ≡ committedEpoch (s .image) + countOf s c
+step-epoch : (s : State) (st : Stands s) (c : Call) → Permitted s c → committedEpoch (step s c .image) ≡ committedEpoch (s .image) + checkpointsOf s c
 unfolding step
 step-epoch s st c permitted =
     ap (λ (J : Image). committedEpoch J) (step-stands s st c permitted .image)
-    ∙ ap (λ (X : Ops). committedEpoch (replay (s .played ++ X) (s .held))) (called-all s st c permitted)
-    ∙ next s st c permitted .epoch ∙ ap (λ (J : Image). committedEpoch J + countOf s c) (sym (st .image))
+    ∙ ap (λ (X : Ops). committedEpoch (replay (s .played ++ X) (s .durable))) (called-all s st c permitted)
+    ∙ next s st c permitted .epoch ∙ ap (λ (J : Image). committedEpoch J + checkpointsOf s c) (sym (st .image))
 
 run-epoch : (s : State) (cs : List Call) → Stands s → AllPermitted s cs → committedEpoch (run s cs .image) ≡ committedEpoch (s .image) + checkpoints s cs
 unfolding run checkpoints

@@ -1,18 +1,17 @@
 -- Which contents a container's checkpoint has, said of its metadata and bytes as functions (`Holds`), with three laws: it
 -- depends on what counts only; a backup segment is given to a main segment; a checkpoint turns the states. An image is
 -- recoverable to the contents that its active line holds.
-use Prim.Native.Nat.{ℕ, zero, suc, _+_, _*_, _≤_, _<_}
+use Prim.Native.Nat.{ℕ, _+_, _≤_, _<_}
 use mathlib.Core.Path.{_≡_, refl, sym, ap, _∙_, subst}
 use mathlib.Core.Logic.{_≢_, _⊎_, inl, inr, ⊎-elim}
 use mathlib.Core.Bool.{Bool, true, false}
-use mathlib.Core.List.{List, [], _∷_}
 use native.Mathlib.Decide.{ℕ-discrete}
 use native.Mathlib.Omega.{arith}
 use lib.ListN.{length}
 use Rattle.model.specs.declared.Layout.{Layout}
-use Rattle.model.specs.Words.{Image, byteAt, Bytes, wordAt}
+use Rattle.model.specs.Words.{Image, byteAt, Bytes}
 use Rattle.model.specs.Layout.{SizesOk, imageSize, stateLine, segmentSize, mainAt, backupAt}
-use Rattle.model.specs.Container.{committedEpoch, activeLine, segState, backupToMain, Valid, HeaderOk}
+use Rattle.model.specs.Container.{activeState, committedEpoch, activeLine, segState, backupToMain, Valid, HeaderOk}
 use Rattle.model.specs.Checkpoint.{nextState}
 use Rattle.model.proofs.WordLaws.{word-cong}
 
@@ -219,10 +218,6 @@ pub record Recoverable (l : Layout) (I : Image) (P : Contents) : Type 0 where
   pub fit : Fit l I
   pub holds : Holds l (segState I (activeLine I)) (backupToMain I) (byteAt I) P
 
--- the state of a main segment, by the active line
-abbrev pub stateOf : Image → ℕ → ℕ
-stateOf I = segState I (activeLine I)
-
 -- an image with the same header fits too
 pub fit-cong : (l : Layout) (I H : Image) → length H ≡ length I → Bytes H → ((i : ℕ) → 64 ≤ i → i < 88 → byteAt H i ≡ byteAt I i) → Fit l I → Fit l H
 fit-cong l I H n small head f = record {
@@ -251,15 +246,15 @@ pub record Alike (l : Layout) (I H : Image) : Type 0 where
   pub bytes : Bytes H
   pub epochs : (i : ℕ) → i < 8 → byteAt H i ≡ byteAt I i
   pub header : (i : ℕ) → 64 ≤ i → i < 88 → byteAt H i ≡ byteAt I i
-  pub states : (i : ℕ) → i < 64 → byteAt H (activeLine I + i) ≡ stateOf I i
+  pub states : (i : ℕ) → i < 64 → byteAt H (activeLine I + i) ≡ activeState I i
   pub pairs : (j : ℕ) → j < 64 → backupToMain H j ≡ backupToMain I j
-  pub owns : (i x : ℕ) → i < l .mains → x < segmentSize l → stateOf I i ≡ 1 → byteAt H (mainAt l i + x) ≡ byteAt I (mainAt l i + x)
-  pub backups : (i j x : ℕ) → i < l .mains → j < l .backups → x < segmentSize l → stateOf I i ≡ 2 → backupToMain I j ≡ i
+  pub owns : (i x : ℕ) → i < l .mains → x < segmentSize l → activeState I i ≡ 1 → byteAt H (mainAt l i + x) ≡ byteAt I (mainAt l i + x)
+  pub backups : (i j x : ℕ) → i < l .mains → j < l .backups → x < segmentSize l → activeState I i ≡ 2 → backupToMain I j ≡ i
       → byteAt H (backupAt l j + x) ≡ byteAt I (backupAt l j + x)
 
 pub recoverable-alike : (l : Layout) (I H : Image) (P : Contents) → Alike l I H → Recoverable l I P → Recoverable l H P
 recoverable-alike l I H P a r = recovers-at l H P (committedEpoch I) (epoch-cong I H (a .epochs)) (fit-cong l I H (a .long) (a .bytes) (a .header) (r .fit))
-    (holds-cong l (r .fit .sizes) (stateOf I) (backupToMain I) (byteAt I) _ _ _ P (r .holds) (a .states) (a .pairs) (a .owns) (a .backups))
+    (holds-cong l (r .fit .sizes) (activeState I) (backupToMain I) (byteAt I) _ _ _ P (r .holds) (a .states) (a .pairs) (a .owns) (a .backups))
 
-pub alike-state : (l : Layout) (I H : Image) → Alike l I H → (i : ℕ) → i < 64 → stateOf H i ≡ stateOf I i
+pub alike-state : (l : Layout) (I H : Image) → Alike l I H → (i : ℕ) → i < 64 → activeState H i ≡ activeState I i
 alike-state l I H a i h = ap (λ (e : ℕ). byteAt H (stateLine e + i)) (epoch-cong I H (a .epochs)) ∙ a .states i h

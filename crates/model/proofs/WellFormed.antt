@@ -236,10 +236,4 @@ unfolding start openedImage openStatus
 start-length l I t h = replayed-length I _ _ _ ∙ container-then l I _ h .0 .long
 
 pub replay-serves-all : ReplayServesAll
-replay-serves-all l I t b h cs permitted c q p = (replay-serves _ _ _ p whole ok, played-ops _ _ _ p whole ok)
-  where
-    whole : length (run (start l I t) cs .image) % lineSize ≡ 0
-    whole = omega (arith, image-lines l, run-length (start l I t) cs, start-length l I t h)
-
-    ok : AllOk (length (run (start l I t) cs .image)) (outcome (run (start l I t) cs) c .ops)
-    ok = call-ok (run (start l I t) cs) c q
+replay-serves-all s c whole permitted p = (replay-serves _ _ _ p whole (call-ok s c permitted), played-ops _ _ _ p whole (call-ok s c permitted))

@@ -1,21 +1,20 @@
 -- Write, whole: the copy that it may need, and then the stores of its span.
-use Prim.Native.Nat.{ℕ, zero, suc, _+_, _-_, _*_, _≤_, _<_}
+use Prim.Native.Nat.{ℕ, _+_, _-_, _≤_, _<_}
 use mathlib.Core.Path.{_≡_, refl, sym, ap, _∙_, subst}
-use mathlib.Core.Logic.{_≢_, _⊎_, inl, inr, ⊎-elim}
-use mathlib.Core.Bool.{Bool, true, false, not, cond, _&&_, true≢false}
-use mathlib.Core.List.{List, [], _∷_, _++_, append-assoc}
+use mathlib.Core.Logic.{_≢_, _⊎_, inl, ⊎-elim}
+use mathlib.Core.Bool.{Bool, true, false, not, true≢false}
+use mathlib.Core.List.{[], _∷_, _++_, append-assoc}
 use native.Mathlib.Omega.{arith}
-use borrow.Author.Tests.{eqb-true, eqb-false, not-true}
-use lib.Dec.{eqb}
-use lib.ListN.{length, take, set, length-set}
+use borrow.Author.Tests.{eqb-true, not-true}
+use lib.ListN.{length, take, length-set}
 use lib.Seq.{set-set, getD-set-same}
 use Rattle.model.specs.declared.Layout.{Layout}
 use Rattle.model.specs.declared.Session.{Session}
 use Rattle.model.specs.Words.{Image, byteAt, Bytes, overlay}
-use Rattle.model.specs.Layout.{segmentSize, mainAt, backupAt}
-use Rattle.model.specs.Container.{backupToMain, isPaired, pairedBackup, Free, Valid}
-use Rattle.model.specs.Session.{dirtySegment, dirtyBlock, dirtyWord, setBit, withDirty}
-use Rattle.model.specs.Ops.{Op, sfence, Ops, replay}
+use Rattle.model.specs.Layout.{segmentSize, mainAt}
+use Rattle.model.specs.Container.{activeState, backupToMain, isPaired, pairedBackup, Free}
+use Rattle.model.specs.Session.{dirtySegment, setBit, withDirty}
+use Rattle.model.specs.Ops.{sfence, Ops, replay}
 use Rattle.model.specs.Write.{WriteArgs, needsCopy, needsBackup, backupOps, stateOps, copyOnWriteOps, spanAt, spanOps, writeOps, writeSession}
 use Rattle.model.specs.Crash.{CrashImage}
 use Rattle.model.proofs.Range.{and-left, and-right, both}
@@ -23,7 +22,7 @@ use Rattle.model.proofs.Persist.{Misses, Clear, each-append}
 use Rattle.model.proofs.Settled.{crash-seq}
 use Rattle.model.proofs.Runs.{puts-clear}
 use Rattle.model.proofs.Metadata.{paired-at, unpaired-none}
-use Rattle.model.proofs.View.{Contents, Choice, Recoverable, stateOf}
+use Rattle.model.proofs.View.{Contents, Choice, Recoverable}
 use Rattle.model.proofs.Invariant.{Invariant}
 use Rattle.model.proofs.SpanArgument.{marked, span-crash, span-done, SpanOk, spanFirst, spanWide, span-bounds, span-puts, laid-outside}
 use Rattle.model.proofs.CopyArgument.{unmarked, Ready, statePhase, copy-crash, state-clear, state-crash, copy-done, state-two, ready-new, ready-old}
@@ -31,7 +30,7 @@ use Rattle.model.proofs.CopyArgument.{unmarked, Ready, statePhase, copy
 -- ---- the two cases
 
 -- a copy is needed: the segment is not dirty and in state 1
-copy-needed : (s : Session) (I : Image) (i : ℕ) → needsCopy s I i ≡ true → (dirtySegment s i ≡ false) × (stateOf I i ≡ 1)
+copy-needed : (s : Session) (I : Image) (i : ℕ) → needsCopy s I i ≡ true → (dirtySegment s i ≡ false) × (activeState I i ≡ 1)
 unfolding needsCopy
 copy-needed s I i e = (not-true _ (and-left _ _ e), eqb-true _ _ (and-right (not (dirtySegment s i)) _ e))
 
@@ -69,7 +68,7 @@ module _ (O : Ops) (I₀ : Image) (s : Session) (P W : Contents) (held : Bytes I
   room = omega (arith, i64, len)
 
   -- no copy: the segment is not in state 1
-  not-main : needsCopy s I i ≡ false → stateOf I i ≢ 1
+  not-main : needsCopy s I i ≡ false → activeState I i ≢ 1
   unfolding needsCopy
   not-main e q = go (dirtySegment s i) refl
     where
@@ -78,34 +77,34 @@ module _ (O : Ops) (I₀ : Image) (s : Session) (P W : Contents) (held : Bytes I
       go false d = true≢false (sym (both (ap not d) (rw q refl)) ∙ e)
 
   -- the backup segment that is taken: its own, or a free one
-  choice-new : (j : ℕ) → needsCopy s I i ≡ true → isPaired l (backupToMain I) i ≡ false → Free l (stateOf I) (backupToMain I) j → Choice l (stateOf I) (backupToMain I) i j
+  choice-new : (j : ℕ) → needsCopy s I i ≡ true → isPaired l (backupToMain I) i ≡ false → Free l (activeState I) (backupToMain I) j → Choice l (activeState I) (backupToMain I) i j
   choice-new j e q f = record {
     main = ok .main;
     below = f .0;
     holds = copy-needed s I i e .1;
-    free = λ u h p two. ⊎-elim (λ x. omega (arith, inv .recovers .fit .sizes .0)) (λ x. x (subst (λ (n : ℕ). stateOf I n ≡ 2) (sym p) two)) (f .1);
+    free = λ u h p two. ⊎-elim (λ x. omega (arith, inv .recovers .fit .sizes .0)) (λ x. x (subst (λ (n : ℕ). activeState I n ≡ 2) (sym p) two)) (f .1);
     sole = λ k h ne. unpaired-none l (backupToMain I) i q k h;
   }
 
-  choice-old : needsCopy s I i ≡ true → isPaired l (backupToMain I) i ≡ true → Choice l (stateOf I) (backupToMain I) i (pairedBackup l (backupToMain I) i)
+  choice-old : needsCopy s I i ≡ true → isPaired l (backupToMain I) i ≡ true → Choice l (activeState I) (backupToMain I) i (pairedBackup l (backupToMain I) i)
   choice-old e q =
       let p = paired-at l (backupToMain I) i q in
-      let one : stateOf I i ≡ 1 = copy-needed s I i e .1 in
+      let one : activeState I i ≡ 1 = copy-needed s I i e .1 in
       record {
         main = ok .main;
         below = p .0;
         holds = one;
-        free = λ u h d two. let g : u ≡ i = sym d ∙ p .1 in let g′ : stateOf I u ≡ stateOf I i = ap (stateOf I) g in omega arith;
+        free = λ u h d two. let g : u ≡ i = sym d ∙ p .1 in let g′ : activeState I u ≡ activeState I i = ap (activeState I) g in omega arith;
         sole = λ k h ne d. ne (inv .recovers .holds .valid .once k (pairedBackup l (backupToMain I) i) h (p .0) (omega (arith, ok .main)) (d ∙ sym (p .1)));
       }
 
   -- the first part makes a backup segment ready, in either way
   record Prepared (j : ℕ) : Type 0 where
     backup : ℕ
-    choice : Choice l (stateOf I) (backupToMain I) i backup
+    choice : Choice l (activeState I) (backupToMain I) i backup
     ready : Ready l I i backup (backupOps s I i j ++ sfence ∷ [])
 
-  prepared : (j : ℕ) → needsCopy s I i ≡ true → (needsBackup s I i ≡ true → Free l (stateOf I) (backupToMain I) j) → Prepared j
+  prepared : (j : ℕ) → needsCopy s I i ≡ true → (needsBackup s I i ≡ true → Free l (activeState I) (backupToMain I) j) → Prepared j
   unfolding backupOps
   prepared j e free = go (isPaired l (backupToMain I) i) refl
     where
@@ -122,14 +121,14 @@ module _ (O : Ops) (I₀ : Image) (s : Session) (P W : Contents) (held : Bytes I
                 (λ x h d. inv .twin i (pairedBackup l (backupToMain I) i) x (ok .main) (p .0) h (p .1) d));
           }
       go false q =
-          let f : Free l (stateOf I) (backupToMain I) j = free (unfold needsBackup in (both e (ap not q))) in
+          let f : Free l (activeState I) (backupToMain I) j = free (unfold needsBackup in (both e (ap not q))) in
           record {
             backup = j;
             choice = choice-new j e q f;
             ready = rw q (ready-new l I i j small (inv .recovers .fit .long) (sizes64 j (f .0)) (omega (arith, i64)) (ok .main) (f .0));
           }
 
-  module _ (j : ℕ) (free : needsBackup s I i ≡ true → Free l (stateOf I) (backupToMain I) j) where
+  module _ (j : ℕ) (free : needsBackup s I i ≡ true → Free l (activeState I) (backupToMain I) j) where
     abbrev A : Ops
     A = backupOps s I i j ++ sfence ∷ []
 
@@ -149,7 +148,7 @@ module _ (O : Ops) (I₀ : Image) (s : Session) (P W : Contents) (held : Bytes I
     after-copy : Prepared j → Invariant l (O ++ X) (replay (O ++ X) I₀) (unmarked s i) P W
     after-copy p = copy-done l O I₀ s P W held inv i (p .backup) (p .choice) A (p .ready)
 
-    turned : (p : Prepared j) → stateOf (replay (O ++ X) I₀) i ≢ 1
+    turned : (p : Prepared j) → activeState (replay (O ++ X) I₀) i ≢ 1
     turned p e = omega (arith, state-two l O I₀ s P W held inv i (p .backup) (p .choice) A (p .ready))
 
     -- the epoch's line is not stored to

@@ -1,16 +1,16 @@
 -- The metadata of an image: committed epoch, segment states, pairs; when it is valid; which bytes are the checkpoint.
 -- States and pairs are taken as functions, so that each rule can be read for either line of states. Assumes nothing.
-use Prim.Native.Nat.{ℕ, zero, suc, _+_, _*_, _≤_, _<_}
+use Prim.Native.Nat.{ℕ, zero, suc, _+_, _≤_, _<_}
 use mathlib.Core.Path.{_≡_}
 use mathlib.Core.Logic.{_≢_, _⊎_}
 use mathlib.Core.Bool.{Bool, not, _&&_, _||_}
-use mathlib.Core.List.{List, [], _∷_}
+use mathlib.Core.List.{List, [], _∷_, _++_}
 use lib.Dec.{leb, ltb, eqb}
 use lib.ListN.{length, take, drop, replicate}
 use Rattle.model.specs.declared.Layout.{Layout}
 use Rattle.model.specs.Range.{cat, allB, anyB, firstB}
 use Rattle.model.specs.Words.{Image, byteAt, wordAt}
-use Rattle.model.specs.Layout.{most, epochAt, mainsAt, backupsAt, blocksAt, pairsAt, unpaired, ssInitial, ssMain, ssBackup, stateLine, segmentSize, mainAt, backupAt, sizesOk, imageSize}
+use Rattle.model.specs.Layout.{most, epochAt, mainsAt, backupsAt, blocksAt, pairsAt, unpaired, ssInitial, ssBackup, stateLine, segmentSize, mainAt, backupAt, sizesOk, imageSize}
 use Rattle.model.specs.Status.{Errors}
 
 -- the number of checkpoints (document 01: epoch)
@@ -27,6 +27,10 @@ inactiveLine I = stateLine (suc (committedEpoch I))
 -- the state of main segment i on a line of states
 abbrev pub segState : Image → ℕ → ℕ → ℕ
 segState I line i = byteAt I (line + i)
+
+-- the same on the active line
+abbrev pub activeState : Image → ℕ → ℕ
+activeState I = segState I (activeLine I)
 
 -- the main segment of backup segment j, or `unpaired` (document 01: pairs)
 abbrev pub backupToMain : Image → ℕ → ℕ
@@ -51,7 +55,7 @@ pub record Valid (l : Layout) (st pr : ℕ → ℕ) : Type 0 where
 unfoldable pub isPaired : Layout → (ℕ → ℕ) → ℕ → Bool
 isPaired l pr i = anyB (l .backups) (λ j. eqb (pr j) i)
 
--- the same as a test
+-- Valid as a test
 unfoldable pub validMetadata : Layout → (ℕ → ℕ) → (ℕ → ℕ) → Bool
 validMetadata l st pr =
     allB (l .mains) (λ i. leb (st i) ssBackup)
@@ -69,9 +73,11 @@ unfoldable pub pairedBackup : Layout → (ℕ → ℕ) → ℕ → ℕ
 pairedBackup l pr i = firstB (l .backups) (λ j. eqb (pr j) i)
 
 -- a backup segment that may be given to another main segment: it is unpaired, or its main segment is not in state 2
+-- (document 01: a free spare)
 abbrev pub Free : Layout → (ℕ → ℕ) → (ℕ → ℕ) → ℕ → Type 0
 Free l st pr j = (j < l .backups) × ((pr j ≡ unpaired) ⊎ (st (pr j) ≢ ssBackup))
 
+-- Free as a test, for a backup segment of the layout; and whether there is one
 unfoldable pub isFree : (ℕ → ℕ) → (ℕ → ℕ) → ℕ → Bool
 isFree st pr j = eqb (pr j) unpaired || not (eqb (st (pr j)) ssBackup)
 
@@ -80,7 +86,8 @@ anyFree l st pr = anyB (l .backups) (isFree st pr)
 
 -- ---- the checkpoint state (document 01: saved bytes)
 
--- a choice by the state of a main segment: initial, main, backup
+-- a choice by the state of a main segment: initial, main, backup; any other number counts as backup, and refusal 4 comes
+-- before that could be seen
 unfoldable pub byState : {A : Type 0} → ℕ → A → A → A → A
 byState zero a b c = a
 byState (suc zero) a b c = b
@@ -100,7 +107,7 @@ checkpointSegment l I line i =
 unfoldable pub checkpointBytes : Layout → Image → ℕ → List ℕ
 checkpointBytes l I line = cat (l .mains) (checkpointSegment l I line)
 
--- ---- refusals 1 to 4, which every call but replay shares
+-- ---- refusals 1 and 2, all that format knows, and 1 to 4, which every other call but replay knows
 
 -- the image carries the sizes of the layout
 abbrev pub HeaderOk : Layout → Image → Type 0
@@ -114,5 +121,4 @@ sizeErrors l I = (1, not (sizesOk l)) ∷ (2, not (eqb (length I) (imageSize l))
 
 abbrev pub containerErrors : Layout → Image → Errors
 containerErrors l I =
-    (1, not (sizesOk l)) ∷ (2, not (eqb (length I) (imageSize l))) ∷ (3, not (headerOk l I))
-    ∷ (4, not (validMetadata l (segState I (activeLine I)) (backupToMain I))) ∷ []
+    sizeErrors l I ++ (3, not (headerOk l I)) ∷ (4, not (validMetadata l (activeState I) (backupToMain I))) ∷ []

@@ -1,15 +1,15 @@
 -- Demand 3, as one statement over a whole history (`CrashSafety`), and its sisters. Proved in proofs/Theorem.antt.
-use Prim.Native.Nat.{ℕ, _+_, _*_, _≤_, _<_}
+use Prim.Native.Nat.{ℕ, _+_, _*_, _%_, _≤_, _<_}
 use mathlib.Core.Path.{_≡_}
 use mathlib.Core.Logic.{_≢_, _⊎_}
-use mathlib.Core.Bool.{Bool, true, cond}
+use mathlib.Core.Bool.{cond}
 use mathlib.Core.List.{List, [], _∷_, _++_}
 use lib.Dec.{leb}
 use lib.ListN.{length, take, replicate}
 use Rattle.model.specs.declared.Layout.{Layout}
 use Rattle.model.specs.Words.{Image, Bytes}
-use Rattle.model.specs.Layout.{blockSize, epochAt, ssInitial}
-use Rattle.model.specs.Container.{activeLine, segState, checkpointBytes, committedEpoch}
+use Rattle.model.specs.Layout.{lineSize, blockSize, epochAt, ssInitial}
+use Rattle.model.specs.Container.{activeState, activeLine, checkpointBytes, committedEpoch}
 use Rattle.model.specs.Ops.{Ops, Trace, store}
 use Rattle.model.specs.Status.{served}
 use Rattle.model.specs.Replay.{replayOutcome}
@@ -26,14 +26,14 @@ pub record ReadsBlock (l : Layout) (I : Image) (W P : Page) (i b : ℕ) : Type 0
   pub status : readStatus l I i b ≡ 0
   pub working : workingBlock l I i b ≡ pageBlock l W i b
   pub checkpoint : (checkpointBlock l I i b ≡ pageBlock l P i b)
-      ⊎ ((segState I (activeLine I) i ≡ ssInitial) × (checkpointBlock l I i b ≡ []) × (pageBlock l P i b ≡ replicate blockSize 0))
+      ⊎ ((activeState I i ≡ ssInitial) × (checkpointBlock l I i b ≡ []) × (pageBlock l P i b ≡ replicate blockSize 0))
 
 -- in every block
 abbrev pub Reads : Layout → Image → Page → Page → Type 0
 Reads l I W P = (i b : ℕ) → i < l .mains → b < l .blocks → ReadsBlock l I W P i b
 
 -- opening is served and, replayed whole, leaves an image of which both reads give the page Q; Q is also the page that a
--- history which starts at this opening begins with
+-- history which starts at this opening begins with (document 01: an opening shows a page)
 pub record Recovers (l : Layout) (H : Image) (t : Trace) (Q : Page) : Type 0 where
   pub accepted : openStatus l H t ≡ 0
   pub shows : Reads l (openedImage l H t) Q Q
@@ -41,7 +41,7 @@ pub record Recovers (l : Layout) (H : Image) (t : Trace) (Q : Page) : Type 0 whe
 
 -- ---- the moment of the crash
 
--- between two calls, or after the first p operations of one more call
+-- between two calls, or after the first p operations of one more call (document 01: a cut)
 pub data Moment : Type 0 where
   between : Moment
   during : Call → ℕ → Moment
@@ -66,7 +66,7 @@ Window s (callOpen l t) p = ⊥
 Window s (callWrite w t j) p = ⊥
 Window s (callCheckpoint t) p = EpochStored (calledOps s (callCheckpoint t) p) × (p < length (outcome s (callCheckpoint t) .ops))
 
--- the checkpoint page after the calls whose traces were played whole
+-- document 01: the last finished save, the checkpoint page after the calls whose traces were played whole
 unfoldable pub lastCheckpoint : State → Call → ℕ → Page
 lastCheckpoint s c p = cond (leb (length (outcome s c .ops)) p) (step s c .model .checkpoint) (s .model .checkpoint)
 
@@ -75,87 +75,92 @@ abbrev pub MayShow : State → Moment → Page → Type 0
 MayShow s between Q = Q ≡ s .model .checkpoint
 MayShow s (during c p) Q = (Q ≡ lastCheckpoint s c p) ⊎ (Window s c p × (Q ≡ s .model .working))
 
+-- P holds of the layout, the image at the start and the state of every history: it starts at any image that an opening
+-- serves, with any sizes and any trace, and has any list of calls from there, refused ones included, with any arguments,
+-- traces and choices of free backups
+abbrev pub InEveryHistory : (Layout → Image → State → Type 0) → Type 0
+InEveryHistory P =
+    (l : Layout) (I : Image) (t : Trace) → Bytes I → openStatus l I t ≡ 0
+    → (cs : List Call) → AllPermitted (start l I t) cs → P l I (run (start l I t) cs)
+
 -- ---- demand 3, for a relation R between what was durable, the operations played since and what a crash may leave
 
-abbrev pub Leaves : Type 1
-Leaves = Image → Ops → Image → Type 0
+abbrev pub CrashModel : Type 1
+CrashModel = Image → Ops → Image → Type 0
 
 -- H becomes H′ through openings with the sizes l, each of them given what stands and any trace that 11 does not refuse,
 -- and cut after any number of its operations
-pub data CutOpenings (R : Leaves) (l : Layout) : Image → Image → Type 0 where
+pub data CutOpenings (R : CrashModel) (l : Layout) : Image → Image → Type 0 where
   none : {H : Image} → CutOpenings R l H H
   again : {H H′ H″ : Image} (t : Trace) (p : ℕ) → openStatus l H t ≢ 11 → R H (playedOps H (openOutcome l H t .ops) t p) H′
       → CutOpenings R l H′ H″ → CutOpenings R l H H″
 
-abbrev pub CrashSafetyFor : Leaves → Type 0
-CrashSafetyFor R =
-    -- any image that an opening serves, with any sizes and any trace
-    (l : Layout) (I : Image) (t : Trace) → Bytes I → openStatus l I t ≡ 0
-    -- any list of calls from there, refused ones included, with any arguments, traces and choices of free backups
-    → (cs : List Call) → AllPermitted (start l I t) cs
+abbrev pub CrashSafetyFor : CrashModel → Type 0
+CrashSafetyFor R = InEveryHistory (λ l I s.
     -- any moment: at rest, or after any number of operations of one more call
-    → (m : Moment) → PermittedAt (run (start l I t) cs) m
+    (m : Moment) → PermittedAt s m
     -- any image that a crash may leave there
-    → (H : Image) → R (run (start l I t) cs .held) (playedAt (run (start l I t) cs) m) H
+    → (H : Image) → R (s .durable) (playedAt s m) H
     -- any number of openings that are cut themselves
     → (H′ : Image) → CutOpenings R l H H′
     -- any trace for the last opening that is long enough
     → (t′ : Trace) → openStatus l H′ t′ ≢ 11
-    -- it is served, and shows one of the permitted pages, whole
-    → (Q : Page) × MayShow (run (start l I t) cs) m Q × Recovers l H′ t′ Q
+    -- it is served, and shows one of the permitted pages, whole; what stands are bytes, so that another life can start there
+    → (Q : Page) × MayShow s m Q × Recovers l H′ t′ Q × Bytes H′)
 
--- DEMAND 3
+-- DEMAND 3. In the customer's words: "Opening with the same sizes and a long enough tape accepts what then stands, also after
+-- any number of such openings that were themselves cut in the same way, and the first that finishes shows every byte of the
+-- last finished save. Only a cut from a save's epoch store up to its last fence may show that save's bytes instead, and then
+-- all of them."
 abbrev pub CrashSafety : Type 0
 CrashSafety = CrashSafetyFor CrashImage
 
 -- the same for a module whose crash images are among these
 abbrev pub CrashSafetyWithin : Type 1
-CrashSafetyWithin = (R : Leaves) → ((I : Image) (O : Ops) (H : Image) → R I O H → CrashImage I O H) → CrashSafetyFor R
+CrashSafetyWithin = (R : CrashModel) → ((I : Image) (O : Ops) (H : Image) → R I O H → CrashImage I O H) → CrashSafetyFor R
 
 -- ---- its sisters
 
 -- demand 2: after every call of a history the two reads give the two pages of the reference model
 abbrev pub ReadsFollowModel : Type 0
-ReadsFollowModel =
-    (l : Layout) (I : Image) (t : Trace) → Bytes I → openStatus l I t ≡ 0 → (cs : List Call) → AllPermitted (start l I t) cs
-    → Reads l (run (start l I t) cs .image) (run (start l I t) cs .model .working) (run (start l I t) cs .model .checkpoint)
+ReadsFollowModel = InEveryHistory (λ l I s. Reads l (s .image) (s .model .working) (s .model .checkpoint))
 
--- every operation that a call of a history writes is well formed: replay serves the reported part and plays all of it,
--- or the first p where it is stopped there
+-- every operation that a call writes is well formed, whatever the image and the session: replay serves the reported part
+-- and plays all of it, or the first p where it is stopped there; so it is for openings before, in and after a history
 abbrev pub ReplayServesAll : Type 0
 ReplayServesAll =
-    (l : Layout) (I : Image) (t : Trace) → Bytes I → openStatus l I t ≡ 0 → (cs : List Call) → AllPermitted (start l I t) cs
-    → (c : Call) → Permitted (run (start l I t) cs) c → (p : ℕ)
-    → (replayOutcome (run (start l I t) cs .image) (reported (outcome (run (start l I t) cs) c .ops) (traceOf c)) p .status ≡ 0)
-    × (calledOps (run (start l I t) cs) c p ≡ take p (outcome (run (start l I t) cs) c .ops))
+    (s : State) (c : Call) → length (s .image) % lineSize ≡ 0 → Permitted s c → (p : ℕ)
+    → (replayOutcome (s .image) (reported (outcome s c .ops) (traceOf c)) p .status ≡ 0)
+    × (calledOps s c p ≡ take p (outcome s c .ops))
 
 -- a finished opening leaves one crash image only, so that what a history starts with is durable indeed
 abbrev pub OpeningSettles : Type 0
 OpeningSettles =
     (l : Layout) (I : Image) (t : Trace) → Bytes I → openStatus l I t ≡ 0
-    → (H : Image) → CrashImage I (openOutcome l I t .ops) H → H ≡ openedImage l I t
+    → CrashImage I (openOutcome l I t .ops) (openedImage l I t)
+    × ((H : Image) → CrashImage I (openOutcome l I t .ops) H → H ≡ openedImage l I t)
 
 -- openings alone: any image that is accepted, cut in any number of openings, shows its checkpoint
 abbrev pub OpeningSafety : Type 0
 OpeningSafety =
     (l : Layout) (I : Image) (t : Trace) → Bytes I → openStatus l I t ≡ 0 → (H : Image) → CutOpenings CrashImage l I H
-    → (t′ : Trace) → openStatus l H t′ ≢ 11 → Recovers l H t′ (checkpointBytes l I (activeLine I))
+    → (t′ : Trace) → openStatus l H t′ ≢ 11 → Recovers l H t′ (checkpointBytes l I (activeLine I)) × Bytes H
 
 -- a trace that suffices for every opening
 abbrev pub TraceSuffices : Type 0
 TraceSuffices = (l : Layout) (I : Image) (t : Trace) → 3 * (36 * l .blocks * l .mains + 1) ≤ length t → openStatus l I t ≢ 11
 
 -- the checkpoints that a list of calls serves
-abbrev pub countOf : State → Call → ℕ
-countOf s (callOpen l t) = 0
-countOf s (callWrite w t j) = 0
-countOf s (callCheckpoint t) = cond (served (outcome s (callCheckpoint t) .status)) 1 0
+abbrev pub checkpointsOf : State → Call → ℕ
+checkpointsOf s (callOpen l t) = 0
+checkpointsOf s (callWrite w t j) = 0
+checkpointsOf s (callCheckpoint t) = cond (served (outcome s (callCheckpoint t) .status)) 1 0
 
 unfoldable pub checkpoints : State → List Call → ℕ
 checkpoints s [] = 0
-checkpoints s (c ∷ cs) = countOf s c + checkpoints (step s c) cs
+checkpoints s (c ∷ cs) = checkpointsOf s c + checkpoints (step s c) cs
 
--- the epoch is the number of checkpoints
+-- the epoch is the start's epoch and one more for each served checkpoint; nothing else changes it
 abbrev pub EpochCounts : Type 0
 EpochCounts =
     (l : Layout) (I : Image) (t : Trace) → Bytes I → openStatus l I t ≡ 0 → (cs : List Call) → AllPermitted (start l I t) cs

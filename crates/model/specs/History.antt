@@ -1,8 +1,7 @@
 -- Histories: any list of openings, writes and checkpoints, each on the image and the session that the last one left, its
 -- part of the trace replayed before the next. Every step is made of the outcomes that the calls' contracts cite.
 -- Assumes nothing.
-use Prim.Native.Nat.{ℕ, _+_, _*_}
-use mathlib.Core.Path.{_≡_}
+use Prim.Native.Nat.{ℕ, _*_}
 use mathlib.Core.List.{List, [], _∷_, _++_}
 use lib.ListN.{length, take}
 use Rattle.model.specs.declared.Layout.{Layout}
@@ -17,7 +16,7 @@ use Rattle.model.specs.Write.{WriteArgs, writeOutcome, Chosen}
 use Rattle.model.specs.Checkpoint.{checkpointOutcome}
 use Rattle.model.specs.Reference.{Model, CallArgs, openArgs, writeArgs, checkpointArgs, modelStep}
 
--- a call with its arguments and trace; a write also with the backup segment that it takes if it needs a new one
+-- a call with its arguments and trace (document 01: openings, writes and saves); a write also with the backup segment that it takes if it needs a new one
 pub data Call : Type 0 where
   callOpen : Layout → Trace → Call
   callWrite : WriteArgs → Trace → ℕ → Call
@@ -38,7 +37,7 @@ pub record State : Type 0 where
   -- the sizes of the opening that it started with
   pub layout : Layout
   -- the image when all was last durable, and the operations played since
-  pub held : Image
+  pub durable : Image
   pub played : Ops
   -- the image as it stands, and the session last answered
   pub image : Image
@@ -52,14 +51,15 @@ outcome s (callOpen l t) = openOutcome l (s .image) t
 outcome s (callWrite w t j) = writeOutcome (s .session) (s .image) w j t
 outcome s (callCheckpoint t) = checkpointOutcome (s .session) (s .image) t
 
--- the replay of the first p operations of a call: the part of the trace t that holds the reported operations O is handed
--- to replay on the image I; which operations were played, and the image that is left
+-- the part of the trace t that holds the reported operations O
 unfoldable pub reported : Ops → Trace → Trace
 reported O t = take (3 * length O) (written O t)
 
+-- what replay plays of it on the image I where it is stopped after the first p operations
 unfoldable pub playedOps : Image → Ops → Trace → ℕ → Ops
 playedOps I O t p = replayedOps (reported O t) (replayOutcome I (reported O t) p .played)
 
+-- and the image that it leaves
 unfoldable pub replayedImage : Image → Ops → Trace → ℕ → Image
 replayedImage I O t p = replayOutcome I (reported O t) p .image
 
@@ -71,7 +71,7 @@ calledOps s c p = playedOps (s .image) (outcome s c .ops) (traceOf c) p
 unfoldable pub step : State → Call → State
 step s c = record {
   layout = s .layout;
-  held = s .held;
+  durable = s .durable;
   played = s .played ++ calledOps s c (length (outcome s c .ops));
   image = replayedImage (s .image) (outcome s c .ops) (traceOf c) (length (outcome s c .ops));
   session = outcome s c .session;
@@ -91,7 +91,7 @@ openedImage l I t = replayedImage I (openOutcome l I t .ops) t (length (openOutc
 unfoldable pub start : Layout → Image → Trace → State
 start l I t = record {
   layout = l;
-  held = openedImage l I t;
+  durable = openedImage l I t;
   played = [];
   image = openedImage l I t;
   session = openOutcome l I t .session;

@@ -1,6 +1,6 @@
 pub mod Range
-pub mod Words
 pub mod Layout
+pub mod Words
 pub mod Status
 pub mod Container
 pub mod Session

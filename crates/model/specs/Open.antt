@@ -1,9 +1,8 @@
 -- Opening, which recovers (document 01: Opening). Assumes nothing.
-use Prim.Native.Nat.{ℕ, zero, suc, _+_, _*_}
+use Prim.Native.Nat.{ℕ, _+_, _*_}
 use mathlib.Core.Bool.{Bool, true, false, cond}
-use mathlib.Core.List.{List, [], _∷_, _++_}
+use mathlib.Core.List.{[], _∷_, _++_}
 use Rattle.model.specs.declared.Layout.{Layout}
-use Rattle.model.specs.declared.Session.{Session}
 use Rattle.model.specs.declared.Action.{Action}
 use Rattle.model.specs.declared.Action.the-variants.{Nothing, ZeroMain, CopyToBackup, CopyToMain}
 use Rattle.model.specs.Range.{cat}
@@ -12,7 +11,7 @@ use Rattle.model.specs.Layout.{blockSize, mainAt, backupAt}
 use Rattle.model.specs.Status.{Errors, firstError, served}
 use Rattle.model.specs.Container.{activeLine, segState, backupToMain, isPaired, pairedBackup, byState, containerErrors}
 use Rattle.model.specs.Session.{freshSession, zeroSession}
-use Rattle.model.specs.Ops.{Op, sfence, Ops, Trace, traceShort, Outcome, persistCopy, persistZero}
+use Rattle.model.specs.Ops.{sfence, Ops, Trace, traceShort, Outcome, persistCopy, persistZero}
 
 -- the opening table, by state and whether the main segment is paired; the two cells that cannot be do nothing
 unfoldable pub recoveryAction : ℕ → Bool → Action

@@ -27,17 +27,28 @@ Trace = List ℕ
 
 -- ---- an operation as three numbers, and back
 
+-- the three kinds
+abbrev pub opStore : ℕ
+opStore = 1
+
+abbrev pub opClwb : ℕ
+opClwb = 2
+
+abbrev pub opSfence : ℕ
+opSfence = 3
+
 abbrev pub triple : Op → Trace → Trace
-triple (store p w) t = 1 ∷ p ∷ w ∷ t
-triple (clwb p) t = 2 ∷ p ∷ 0 ∷ t
-triple sfence t = 3 ∷ 0 ∷ 0 ∷ t
+triple (store p w) t = opStore ∷ p ∷ w ∷ t
+triple (clwb p) t = opClwb ∷ p ∷ 0 ∷ t
+triple sfence t = opSfence ∷ 0 ∷ 0 ∷ t
 
 unfoldable pub encode : Ops → Trace
 encode [] = []
 encode (o ∷ O) = triple o (encode O)
 
+-- a kind that is neither of the first two is read as a fence; refusal 12 comes before that could be seen
 unfoldable pub opOf : ℕ → ℕ → ℕ → Op
-opOf kind p w = cond (eqb kind 1) (store p w) (cond (eqb kind 2) (clwb p) sfence)
+opOf kind p w = cond (eqb kind opStore) (store p w) (cond (eqb kind opClwb) (clwb p) sfence)
 
 unfoldable pub decode : Trace → Ops
 decode [] = []
@@ -73,7 +84,7 @@ apply (store p w) I = storeWord I p w
 apply (clwb p) I = I
 apply sfence I = I
 
--- the operations, one after the other
+-- the operations, one after the other (document 01: play)
 unfoldable pub replay : Ops → Image → Image
 replay [] I = I
 replay (o ∷ O) I = replay O (apply o I)

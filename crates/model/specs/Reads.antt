@@ -8,7 +8,7 @@ use Rattle.model.specs.declared.Layout.{Layout}
 use Rattle.model.specs.Words.{Image}
 use Rattle.model.specs.Layout.{blockSize, mainAt, backupAt}
 use Rattle.model.specs.Status.{Errors, firstError, served}
-use Rattle.model.specs.Container.{activeLine, segState, backupToMain, pairedBackup, byState, containerErrors}
+use Rattle.model.specs.Container.{activeState, backupToMain, pairedBackup, byState, containerErrors}
 
 abbrev pub readErrors : Layout → Image → ℕ → ℕ → Errors
 readErrors l I i b = containerErrors l I ++ (6, leb (l .mains) i) ∷ (7, leb (l .blocks) b) ∷ []
@@ -42,7 +42,7 @@ workingPart l I i b = cond (served (readStatus l I i b)) (blockPart (mainAt l i)
 unfoldable pub checkpointPart : Layout → Image → ℕ → ℕ → Part
 checkpointPart l I i b =
     cond (served (readStatus l I i b))
-    (byState (segState I (activeLine I) i) nowhere (blockPart (mainAt l i) b) (blockPart (backupAt l (pairedBackup l (backupToMain I) i)) b))
+    (byState (activeState I i) nowhere (blockPart (mainAt l i) b) (blockPart (backupAt l (pairedBackup l (backupToMain I) i)) b))
     nowhere
 
 abbrev pub workingBlock : Layout → Image → ℕ → ℕ → List ℕ

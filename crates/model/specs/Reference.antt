@@ -33,9 +33,10 @@ pageBlock l P i b = take blockSize (drop (pageAt l i b) P)
 
 -- what a call does to the model
 unfoldable pub modelStep : Layout → CallArgs → Bool → Model → Model
-modelStep l (openArgs m) true b = record { working = b .checkpoint; checkpoint = b .checkpoint }
-modelStep l (openArgs m) false b = b
-modelStep l (writeArgs w) true b = record { working = sets (b .working) (pageAt l (w .main) (w .block) + w .offset) (w .bytes); checkpoint = b .checkpoint }
-modelStep l (writeArgs w) false b = b
-modelStep l checkpointArgs true b = record { working = b .working; checkpoint = b .working }
-modelStep l checkpointArgs false b = b
+modelStep l (openArgs k) true m = record { working = m .checkpoint; checkpoint = m .checkpoint }
+modelStep l (openArgs k) false m = m
+modelStep l (writeArgs w) true m =
+    record { working = sets (m .working) (pageAt l (w .main) (w .block) + w .offset) (w .bytes); checkpoint = m .checkpoint }
+modelStep l (writeArgs w) false m = m
+modelStep l checkpointArgs true m = record { working = m .working; checkpoint = m .working }
+modelStep l checkpointArgs false m = m

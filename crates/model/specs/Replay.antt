@@ -8,15 +8,15 @@ use Rattle.model.specs.Range.{allB}
 use Rattle.model.specs.Words.{Image}
 use Rattle.model.specs.Layout.{wordSize, lineSize}
 use Rattle.model.specs.Status.{Errors, firstError, served}
-use Rattle.model.specs.Ops.{Ops, Trace, decode, replay}
+use Rattle.model.specs.Ops.{Ops, Trace, opStore, opClwb, opSfence, decode, replay}
 
 -- three numbers are an operation on an image of so many bytes
 unfoldable pub wellFormed : ℕ → ℕ → ℕ → ℕ → Bool
 wellFormed size kind p w =
     ltb p size
-    && (eqb kind 1 && eqb (p % wordSize) 0
-    || eqb kind 2 && eqb (p % lineSize) 0 && eqb w 0
-    || eqb kind 3 && eqb p 0 && eqb w 0)
+    && (eqb kind opStore && eqb (p % wordSize) 0
+    || eqb kind opClwb && eqb (p % lineSize) 0 && eqb w 0
+    || eqb kind opSfence && eqb p 0 && eqb w 0)
 
 -- the first n operations of a trace are well formed
 unfoldable pub allWellFormed : ℕ → Trace → ℕ → Bool

@@ -1,9 +1,9 @@
 -- Equality of two checkpoints (document 01: likeness). Assumes nothing.
-use Prim.Native.Nat.{ℕ, _+_, _*_}
-use mathlib.Core.Bool.{Bool, false, cond, _&&_}
+use Prim.Native.Nat.{ℕ, _*_}
+use mathlib.Core.Bool.{Bool, false, cond}
 use mathlib.Core.List.{List, _++_}
 use lib.Dec.{eqb}
-use lib.ListN.{length, getD}
+use lib.ListN.{getD}
 use Rattle.model.specs.declared.Layout.{Layout}
 use Rattle.model.specs.Range.{allB}
 use Rattle.model.specs.Words.{Image}
@@ -27,7 +27,10 @@ pub record Compared : Type 0 where
   pub status : ℕ
   pub same : Bool
 
+abbrev pub sameStatus : Layout → Image → Image → ℕ
+sameStatus l I J = firstError (sameErrors l I J)
+
 unfoldable pub sameOutcome : Layout → Image → Image → Compared
 sameOutcome l I J =
-    let e : ℕ = firstError (sameErrors l I J) in
+    let e : ℕ = sameStatus l I J in
     record { status = e; same = cond (served e) (sameCheckpoint l I J) false }

@@ -5,6 +5,7 @@ use mathlib.Core.List.{List, [], _∷_}
 use lib.Dec.{leb}
 use lib.ListN.{getD}
 use lib.Seq.{sets}
+use Rattle.model.specs.Layout.{wordSize}
 
 -- the contents of a persistent container (document 01: the module's image)
 abbrev pub Image : Type 0
@@ -25,7 +26,7 @@ littleEndian (suc n) f p = f p + 256 * littleEndian n f (suc p)
 
 -- the word whose bytes are f p .. f (p + 7)
 unfoldable pub wordOf : (ℕ → ℕ) → ℕ → ℕ
-wordOf f p = littleEndian 8 f p
+wordOf f p = littleEndian wordSize f p
 
 -- the word at a place of an image
 abbrev pub wordAt : Image → ℕ → ℕ
@@ -38,7 +39,7 @@ bytesOf (suc n) w = w % 256 ∷ bytesOf n (w / 256)
 
 -- the image with the word w stored at the place p
 unfoldable pub storeWord : Image → ℕ → ℕ → Image
-storeWord I p w = sets I p (bytesOf 8 w)
+storeWord I p w = sets I p (bytesOf wordSize w)
 
 -- f, with the bytes bs laid over it from the place a on
 unfoldable pub overlay : (ℕ → ℕ) → ℕ → List ℕ → ℕ → ℕ

@@ -1,6 +1,6 @@
 -- Write (document 01: Write). The backup segment that a write takes when it needs a new one is left open: it is the
 -- argument j of each definition, `Chosen` says what holds of it, and all else follows from it. Assumes nothing.
-use Prim.Native.Nat.{ℕ, _+_, _-_, _*_, _/_, _<_}
+use Prim.Native.Nat.{ℕ, _+_, _-_, _*_, _/_}
 use mathlib.Core.Path.{_≡_}
 use mathlib.Core.Bool.{Bool, true, not, cond, _&&_, _||_}
 use mathlib.Core.List.{List, [], _∷_, _++_}
@@ -12,9 +12,9 @@ use Rattle.model.specs.Range.{cat}
 use Rattle.model.specs.Words.{Image, byteAt, wordOf, overlay}
 use Rattle.model.specs.Layout.{wordSize, blockSize, pairsAt, ssMain, ssBackup, mainAt, backupAt}
 use Rattle.model.specs.Status.{Errors, firstError, served}
-use Rattle.model.specs.Container.{activeLine, segState, backupToMain, isPaired, pairedBackup, Free, anyFree, containerErrors}
+use Rattle.model.specs.Container.{activeState, activeLine, backupToMain, isPaired, pairedBackup, Free, anyFree, containerErrors}
 use Rattle.model.specs.Session.{dirtySegment, dirtyBlock, dirtyWord, withDirty, validSession}
-use Rattle.model.specs.Ops.{Op, store, clwb, sfence, Ops, Trace, traceShort, Outcome, stores, persistCopy, wordPlace, storeByte}
+use Rattle.model.specs.Ops.{clwb, sfence, Ops, Trace, traceShort, Outcome, stores, persistCopy, wordPlace, storeByte}
 use Rattle.model.specs.Open.{copySegment}
 
 -- what a write is given: main segment, block, offset in the block, and the bytes (document 01: level, frame, offset, bytes)
@@ -24,9 +24,9 @@ pub record WriteArgs : Type 0 where
   pub offset : ℕ
   pub bytes : List ℕ
 
--- the segment must be copied first: it is not dirty, and it holds its checkpoint itself
+-- the segment must be copied first: it is not dirty, and its state is 1 (document 01: untouched and in state 1)
 unfoldable pub needsCopy : Session → Image → ℕ → Bool
-needsCopy s I i = not (dirtySegment s i) && eqb (segState I (activeLine I) i) ssMain
+needsCopy s I i = not (dirtySegment s i) && eqb (activeState I i) ssMain
 
 -- and it has no backup segment to be copied to
 unfoldable pub needsBackup : Session → Image → ℕ → Bool
@@ -84,14 +84,15 @@ writeSession s I w = withDirty s (w .main) (w .block) (cond (needsCopy s I (w .m
 unfoldable pub spanBad : WriteArgs → Bool
 spanBad w = eqb (length (w .bytes)) 0 || ltb blockSize (w .offset + length (w .bytes))
 
+-- j stands here only through the number of operations, which does not depend on it (write-status-chosen)
 abbrev pub writeErrors : Session → Image → WriteArgs → ℕ → Trace → Errors
 writeErrors s I w j t =
     containerErrors (s .layout) I
-    ++ (5, not (validSession s (segState I (activeLine I))))
+    ++ (5, not (validSession s (activeState I)))
     ∷ (6, leb (s .layout .mains) (w .main))
     ∷ (7, leb (s .layout .blocks) (w .block))
     ∷ (8, spanBad w)
-    ∷ (9, needsBackup s I (w .main) && not (anyFree (s .layout) (segState I (activeLine I)) (backupToMain I)))
+    ∷ (9, needsBackup s I (w .main) && not (anyFree (s .layout) (activeState I) (backupToMain I)))
     ∷ (11, traceShort (writeOps s I w j) t) ∷ []
 
 unfoldable pub writeStatus : Session → Image → WriteArgs → ℕ → Trace → ℕ
@@ -110,4 +111,4 @@ writeOutcome s I w j t =
 abbrev pub Chosen : Session → Image → WriteArgs → Trace → ℕ → Type 0
 Chosen s I w t j =
     writeStatus s I w j t ≡ 0 → needsBackup s I (w .main) ≡ true
-    → Free (s .layout) (segState I (activeLine I)) (backupToMain I) j
+    → Free (s .layout) (activeState I) (backupToMain I) j

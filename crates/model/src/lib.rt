@@ -23,6 +23,12 @@ impl Layout {
     pub const LINE_SIZE: u64 = 64;
 
     pub const BLOCK_SIZE: u64 = 256;
+    // Words and lines of a block, words of a line.
+    pub const BLOCK_WORDS: u64 = 32;
+
+    pub const BLOCK_LINES: u64 = 4;
+
+    pub const LINE_WORDS: u64 = 8;
 
     pub const METADATA_SIZE: u64 = 512;
     // The most main segments, backup segments or blocks.
