@@ -1,0 +1,66 @@
+use Prim.Native.Nat.{ℕ, _-_, _≤_, _<_}
+use mathlib.Core.Bool.{false, not}
+use mathlib.Core.Path.{_≡_, _∙_, sym, ap}
+use native.Mathlib.Omega.{arith}
+use lib.Dec.{eqb}
+use borrow.Author.Tests.{eq-eqb, ne-eqb}
+use borrow.Author.Count.{below-none, below-more}
+use borrow.Author.Needs.{needs}
+use Rattle.model.proofs.Range.{first-none}
+use Rattle.model.specs.Container.{backupToMain, segState}
+use Rattle.metadata.proofs.Laws.{first-found}
+use Rattle.metadata.proofs.find_idle_backup.Statement.{statement}
+use Rattle.metadata.proofs.find_idle_backup.Tie as tie
+
+abbrev Inv-loop : tie.InvT-loop
+Inv-loop image line backups j₀ j = (j ≤ backups) × ((k : ℕ) → k < j → not (eqb (segState image line (backupToMain image k)) 2) ≡ false)
+
+abbrev μ-loop : tie.MeasureT-loop
+μ-loop image line backups j₀ j = backups - j
+
+loop-holds : tie.Need-loop-holds Inv-loop μ-loop
+loop-holds c = (search needs, below-none _)
+
+add-paired-state : tie.Need-add-paired-state Inv-loop μ-loop
+add-paired-state c = search needs
+
+shared-slice-read-paired-state : tie.Need-shared-slice-read-paired-state Inv-loop μ-loop
+shared-slice-read-paired-state c = search needs
+
+paired-state-requires : tie.Need-paired-state-requires Inv-loop μ-loop
+paired-state-requires c κs = search needs
+
+returns : tie.Need-returns Inv-loop μ-loop
+returns c =
+    let b = c .before .before .before .before in
+    (sym (first-found _ _ (b .loop .j) (c .before .before .before .loop-test .taken) (b .loop .inv .1) (ap not (ne-eqb _ _ (λ e. c .if1 .taken (c .before .paired-state .ensures ∙ e))))), omega arith)
+
+add-j : tie.Need-add-j Inv-loop μ-loop
+add-j c = search needs
+
+loop-less : tie.Need-loop-less Inv-loop μ-loop
+loop-less c = search needs
+
+loop-again : tie.Need-loop-again Inv-loop μ-loop
+loop-again c =
+    let b = c .before .before .before .before in
+    (omega arith, below-more _ _ (b .loop .inv .1) (ap not (eq-eqb _ _ (sym (c .before .paired-state .ensures) ∙ c .if1 .left))))
+
+returns-2 : tie.Need-returns-2 Inv-loop μ-loop
+returns-2 c = (sym (first-none _ _ (λ k h. c .before .loop .inv .1 k (omega arith))), omega arith)
+
+pub find-idle-backup-spec : {M : Type 1} → statement M
+find-idle-backup-spec =
+    tie.close
+    (tie.spec
+    Inv-loop
+    μ-loop
+    loop-holds
+    add-paired-state
+    shared-slice-read-paired-state
+    paired-state-requires
+    returns
+    add-j
+    loop-less
+    loop-again
+    returns-2)

@@ -1,0 +1,68 @@
+use Prim.Native.Nat.{ℕ, _-_, _≤_, _<_}
+use mathlib.Core.Bool.{false}
+use mathlib.Core.Path.{_≡_, _∙_, sym}
+use native.Mathlib.Omega.{arith}
+use lib.Dec.{eqb}
+use borrow.Author.Tests.{eq-eqb, ne-eqb}
+use borrow.Author.Count.{below-none, below-more}
+use borrow.Author.Needs.{needs}
+use Rattle.model.proofs.Range.{first-none}
+use Rattle.model.specs.Container.{backupToMain, pairedBackup}
+use Rattle.metadata.proofs.Laws.{first-found}
+use Rattle.metadata.proofs.find_paired_backup.Statement.{statement}
+use Rattle.metadata.proofs.find_paired_backup.Tie as tie
+
+abbrev Inv-loop : tie.InvT-loop
+Inv-loop image main backups j₀ j = (j ≤ backups) × ((k : ℕ) → k < j → eqb (backupToMain image k) main ≡ false)
+
+abbrev μ-loop : tie.MeasureT-loop
+μ-loop image main backups j₀ j = backups - j
+
+loop-holds : tie.Need-loop-holds Inv-loop μ-loop
+loop-holds c = (search needs, below-none _)
+
+add-wide : tie.Need-add-wide Inv-loop μ-loop
+add-wide c = search needs
+
+shared-slice-read-wide : tie.Need-shared-slice-read-wide Inv-loop μ-loop
+shared-slice-read-wide c = search needs
+
+wide-requires : tie.Need-wide-requires Inv-loop μ-loop
+wide-requires c κs = search needs
+
+returns : tie.Need-returns Inv-loop μ-loop
+unfolding pairedBackup
+returns c =
+    let b = c .before .before .before .before in
+    (sym (first-found _ _ (b .loop .j) (c .before .before .before .loop-test .taken) (b .loop .inv .1) (eq-eqb _ _ (sym (c .before .wide .ensures) ∙ c .if1 .taken))), omega arith)
+
+add-j : tie.Need-add-j Inv-loop μ-loop
+add-j c = search needs
+
+loop-less : tie.Need-loop-less Inv-loop μ-loop
+loop-less c = search needs
+
+loop-again : tie.Need-loop-again Inv-loop μ-loop
+loop-again c =
+    let b = c .before .before .before .before in
+    (omega arith, below-more _ _ (b .loop .inv .1) (ne-eqb _ _ (λ e. c .if1 .left (c .before .wide .ensures ∙ e))))
+
+returns-2 : tie.Need-returns-2 Inv-loop μ-loop
+unfolding pairedBackup
+returns-2 c = (sym (first-none _ _ (λ k h. c .before .loop .inv .1 k (omega arith))), omega arith)
+
+pub find-paired-backup-spec : {M : Type 1} → statement M
+find-paired-backup-spec =
+    tie.close
+    (tie.spec
+    Inv-loop
+    μ-loop
+    loop-holds
+    add-wide
+    shared-slice-read-wide
+    wide-requires
+    returns
+    add-j
+    loop-less
+    loop-again
+    returns-2)

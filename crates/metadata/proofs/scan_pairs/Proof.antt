@@ -1,0 +1,91 @@
+use Prim.Native.Nat.{ℕ, _-_, _≤_, _<_}
+use mathlib.Core.Bool.{false}
+use mathlib.Core.Path.{_≡_, ap}
+use native.Mathlib.Omega.{arith}
+use lib.ListN.{length, getD, length-set}
+use lib.Dec.{eqb, ltb}
+use borrow.Author.Needs.{needs}
+use Rattle.session.proofs.Gather.{all-none, all-more}
+use Rattle.model.specs.Container.{backupToMain}
+use Rattle.model.specs.Range.{allB, anyB}
+use Rattle.metadata.specs.Scan.{pairFits}
+use Rattle.metadata.proofs.Laws.{marks-none, marks-more, pair-by-mark}
+use Rattle.metadata.proofs.scan_pairs.Statement.{statement}
+use Rattle.metadata.proofs.scan_pairs.Tie as tie
+
+abbrev Inv-loop : tie.InvT-loop
+Inv-loop image mains backups paired₀ ok₀ j₀ paired ok j =
+    (j ≤ backups) × (length paired ≡ 64) × (ok ≡ allB j (pairFits (backupToMain image) mains))
+    × ((i : ℕ) → i < mains → getD paired i false ≡ anyB j (λ n. eqb (backupToMain image n) i))
+
+abbrev μ-loop : tie.MeasureT-loop
+μ-loop image mains backups paired₀ ok₀ j₀ paired ok j = backups - j
+
+loop-holds : tie.Need-loop-holds Inv-loop μ-loop
+loop-holds c = (search needs, search needs, all-none _, marks-none _ _ (omega arith))
+
+add-pair : tie.Need-add-pair Inv-loop μ-loop
+add-pair c = search needs
+
+shared-slice-read-pair : tie.Need-shared-slice-read-pair Inv-loop μ-loop
+shared-slice-read-pair c = search needs
+
+mark-of-requires : tie.Need-mark-of-requires Inv-loop μ-loop
+mark-of-requires c κs = search needs
+
+array-read-taken : tie.Need-array-read-taken Inv-loop μ-loop
+array-read-taken c = search needs
+
+pair-fits-requires : tie.Need-pair-fits-requires Inv-loop μ-loop
+pair-fits-requires c κs = search needs
+
+wide-requires : tie.Need-wide-requires Inv-loop μ-loop
+wide-requires c κs = search needs
+
+array-write-paired : tie.Need-array-write-paired Inv-loop μ-loop
+array-write-paired c = search needs
+
+add-j : tie.Need-add-j Inv-loop μ-loop
+add-j c = search needs
+
+loop-less : tie.Need-loop-less Inv-loop μ-loop
+loop-less c = search needs
+
+loop-again : tie.Need-loop-again Inv-loop μ-loop
+loop-again c =
+    let p = c .before in
+    let m = p .before in
+    let b = m .before .before .before in
+    let k = m .mark-of .ensures .0 in
+    let a = b .before .before .args in
+    let pr = backupToMain (a .image .now) in (
+      omega arith,
+      rw length-set (b .loop .inv .1),
+      all-more (b .loop .j) _ (b .loop .inv .2) (pair-by-mark (b .loop .paired) pr (a .mains) (b .loop .j) _ _ (omega arith) k (b .loop .inv .3) (p .pair-fits .ensures)),
+      marks-more (b .loop .paired) pr (a .mains) (b .loop .j) _ _ (omega arith) (omega arith) k (ap (λ (x : ℕ). ltb x (a .mains)) (c .wide .ensures)) (b .loop .inv .3),
+    )
+
+returns : tie.Need-returns Inv-loop μ-loop
+returns c =
+    let b = c .before in
+    let e : b .loop .j ≡ b .before .before .args .backups = omega arith in
+    record { fits = rw e at (b .loop .inv .2); found = rw e at (b .loop .inv .3) }
+
+pub scan-pairs-spec : {M : Type 1} → statement M
+scan-pairs-spec =
+    tie.close
+    (tie.spec
+    Inv-loop
+    μ-loop
+    loop-holds
+    add-pair
+    shared-slice-read-pair
+    mark-of-requires
+    array-read-taken
+    pair-fits-requires
+    wide-requires
+    array-write-paired
+    add-j
+    loop-less
+    loop-again
+    returns)

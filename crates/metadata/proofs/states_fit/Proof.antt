@@ -1,0 +1,60 @@
+use Prim.Native.Nat.{_+_, _-_, _≤_}
+use mathlib.Core.Bool.{false}
+use mathlib.Core.Path.{_≡_}
+use native.Mathlib.Omega.{arith}
+use lib.ListN.{getD}
+use borrow.Author.Needs.{needs}
+use Rattle.session.proofs.Gather.{all-none, all-more}
+use Rattle.model.specs.Range.{allB}
+use Rattle.metadata.specs.Scan.{stateFits}
+use Rattle.metadata.proofs.states_fit.Statement.{statement}
+use Rattle.metadata.proofs.states_fit.Tie as tie
+
+abbrev Inv-loop : tie.InvT-loop
+Inv-loop image line mains paired ok₀ i₀ ok i = (i ≤ mains) × (ok ≡ allB i (λ k. stateFits (getD paired k false) (getD image (line + k) 0)))
+
+abbrev μ-loop : tie.MeasureT-loop
+μ-loop image line mains paired ok₀ i₀ ok i = mains - i
+
+loop-holds : tie.Need-loop-holds Inv-loop μ-loop
+loop-holds c = (search needs, all-none _)
+
+add-state-fits : tie.Need-add-state-fits Inv-loop μ-loop
+add-state-fits c = search needs
+
+shared-slice-read-state-fits : tie.Need-shared-slice-read-state-fits Inv-loop μ-loop
+shared-slice-read-state-fits c = search needs
+
+array-read-state-fits : tie.Need-array-read-state-fits Inv-loop μ-loop
+array-read-state-fits c = search needs
+
+state-fits-requires : tie.Need-state-fits-requires Inv-loop μ-loop
+state-fits-requires c κs = search needs
+
+add-i : tie.Need-add-i Inv-loop μ-loop
+add-i c = search needs
+
+loop-less : tie.Need-loop-less Inv-loop μ-loop
+loop-less c = search needs
+
+loop-again : tie.Need-loop-again Inv-loop μ-loop
+loop-again c = let b = c .before .before .before in (omega arith, all-more (b .loop .i) _ (b .loop .inv .1) (c .state-fits .ensures))
+
+returns : tie.Need-returns Inv-loop μ-loop
+returns c = let e : c .before .loop .i ≡ c .before .before .before .args .mains = omega arith in rw e at (c .before .loop .inv .1)
+
+pub states-fit-spec : {M : Type 1} → statement M
+states-fit-spec =
+    tie.close
+    (tie.spec
+    Inv-loop
+    μ-loop
+    loop-holds
+    add-state-fits
+    shared-slice-read-state-fits
+    array-read-state-fits
+    state-fits-requires
+    add-i
+    loop-less
+    loop-again
+    returns)

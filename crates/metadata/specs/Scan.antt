@@ -1,0 +1,37 @@
+-- The tests that one pass over pairs and states makes, and the choice of a free backup segment. That they are the rules of
+-- model's Container is shown in proofs/. Assumes nothing.
+use Prim.Native.Nat.{ℕ, _≤_, _<_}
+use mathlib.Core.Path.{_≡_}
+use mathlib.Core.Bool.{Bool, false, not, cond, _&&_, _||_}
+use lib.Dec.{leb, ltb, eqb}
+use lib.ListN.{getD}
+use Rattle.model.specs.declared.Layout.{Layout}
+use Rattle.model.specs.Range.{allB, anyB, firstB}
+use Rattle.model.specs.Layout.{unpaired, ssInitial, ssMain, ssBackup}
+use Rattle.model.specs.Container.{pairedBackup, Free, anyFree}
+use Rattle.metadata.specs.declared.PairScan.{PairScan}
+
+-- the pair of backup segment j is `unpaired`, or a main segment that no earlier backup segment has
+unfoldable pub pairFits : (ℕ → ℕ) → ℕ → ℕ → Bool
+pairFits pr mains j = (ltb (pr j) mains || eqb (pr j) unpaired) && not (ltb (pr j) mains && anyB j (λ k. eqb (pr k) (pr j)))
+
+-- a main segment may be in this state: 1 or 2 if it has a backup, else 0 or 1
+unfoldable pub stateFits : Bool → ℕ → Bool
+stateFits paired st = cond paired (ltb ssInitial st && leb st ssBackup) (leb st ssMain)
+
+-- what the pass over the pairs answers: whether all fit, and which main segments are paired
+pub record Scanned (pr : ℕ → ℕ) (mains backups : ℕ) (r : PairScan) : Type 0 where
+  pub fits : r .ok ≡ allB backups (pairFits pr mains)
+  pub found : (i : ℕ) → i < mains → getD (r .paired) i false ≡ anyB backups (λ j. eqb (pr j) i)
+
+-- the lowest backup segment that is unpaired, else the lowest whose main segment is not in state 2, else their number
+unfoldable pub freeBackup : Layout → (ℕ → ℕ) → (ℕ → ℕ) → ℕ
+freeBackup l st pr =
+    cond (ltb (pairedBackup l pr unpaired) (l .backups)) (pairedBackup l pr unpaired) (firstB (l .backups) (λ j. not (eqb (st (pr j)) ssBackup)))
+
+-- what is known of the choice: it is free, and where it is none, none is free
+pub record Choice (l : Layout) (st pr : ℕ → ℕ) (r : ℕ) : Type 0 where
+  pub chosen : r ≡ freeBackup l st pr
+  pub most : r ≤ l .backups
+  pub free : r < l .backups → Free l st pr r
+  pub none : r ≡ l .backups → anyFree l st pr ≡ false

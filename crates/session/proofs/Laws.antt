@@ -1,0 +1,95 @@
+-- Laws of the session's tests: bits as the code shifts them, the words of dirty blocks in two runs, and the states that
+-- validity depends on.
+use Prim.Native.Nat.{ℕ, _+_, _-_, _*_, _^_, _/_, _%_, _≤_, _<_}
+use mathlib.Core.Path.{_≡_, refl, sym, ap, ap₂, _∙_}
+use mathlib.Core.Bool.{Bool, true, false, not, cond, _&&_, _||_}
+use native.Mathlib.Omega.{arith}
+use native.Mathlib.Decide.{decLt}
+use native.Mathlib.Nat.{one-mul, div-eq-of-lt, div-lt-iff-lt-mul}
+use lib.Bits.{bitAnd, and-mask}
+use lib.Pow.{pow-pos, shl-exact, shr-shr}
+use lib.Dec.{eqb, ltb}
+use lib.ListN.{length, getD, take, drop}
+use lib.Seq.{getD-take, getD-drop}
+use borrow.Author.Tests.{lt-ltb, le-ltb, eq-eqb, ne-eqb, eqb-true, ltb-true, ltb-false}
+use Rattle.model.specs.declared.Session.{Session}
+use Rattle.model.specs.Range.{allB}
+use Rattle.model.specs.Words.{Image}
+use Rattle.model.specs.Container.{segState}
+use Rattle.model.specs.Session.{bit, dirtyWord, dirtySegment, validSession}
+use Rattle.model.proofs.Range.{both, and-left, and-right, all-at, all-from}
+use Rattle.session.proofs.Gather.{all-ext, same-test}
+
+-- `1 << f`
+pub shifted-one : (f : ℕ) → f < 64 → 1 * 2 ^ f % 18446744073709551616 ≡ 2 ^ f
+shifted-one f h = shl-exact 1 f 64 (omega arith) (omega arith) ∙ one-mul (2 ^ f)
+
+-- `(m >> f) & 1`
+pub masked-bit : (m f : ℕ) → bitAnd (m / 2 ^ f) 1 ≡ bit m f
+unfolding bit
+masked-bit m f = and-mask (m / 2 ^ f) 1
+
+-- `(m >> (n - 1)) >> 1 == 0`
+pub high-clear : (m n : ℕ) → 1 ≤ n → eqb (m / 2 ^ (n - 1) / 2) 0 ≡ ltb m (2 ^ n)
+high-clear m n h = go (decLt m (2 ^ n))
+  where
+    shifted : m / 2 ^ (n - 1) / 2 ≡ m / 2 ^ n
+    shifted = shr-shr m (n - 1) 1 ∙ ap (λ (k : ℕ). m / 2 ^ k) (let e : n - 1 + 1 ≡ n = omega arith in e)
+
+    go : Dec (m < 2 ^ n) → eqb (m / 2 ^ (n - 1) / 2) 0 ≡ ltb m (2 ^ n)
+    go (yes l) = eq-eqb _ _ (shifted ∙ div-eq-of-lt l) ∙ sym (lt-ltb _ _ l)
+    go (no l) = ne-eqb _ _ (λ e. l (below (sym shifted ∙ e))) ∙ sym (le-ltb m (2 ^ n) (omega arith))
+      where
+        below : m / 2 ^ n ≡ 0 → m < 2 ^ n
+        below e = let q : m / 2 ^ n < 1 = omega arith in omega (arith, div-lt-iff-lt-mul (pow-pos n) .0 q, one-mul (2 ^ n))
+
+-- the words below n have no bit from k on, and the rest none at all
+module _ (words : ℕ → ℕ) (n k : ℕ) where
+  abbrev below : ℕ → Bool
+  below i = ltb (words i) (2 ^ k)
+
+  abbrev rest : ℕ → Bool
+  rest i = ltb i n || eqb (words i) 0
+
+  abbrev either : ℕ → Bool
+  either i = ltb (words i) (cond (ltb i n) (2 ^ k) 1)
+
+  pub words-in-two : n ≤ 64 → (allB n below && allB 64 rest) ≡ allB 64 either
+  words-in-two h = same-test _ _ there back
+    where
+      join : (i : ℕ) (a : Bool) → ltb i n ≡ a → (i < n → below i ≡ true) → (a || eqb (words i) 0) ≡ true → ltb (words i) (cond a (2 ^ k) 1) ≡ true
+      join i true e p q = p (ltb-true _ _ e)
+      join i false e p q = lt-ltb (words i) 1 (omega (arith, eqb-true (words i) 0 q))
+
+      there : (allB n below && allB 64 rest) ≡ true → allB 64 either ≡ true
+      there e = all-from 64 _ (λ i l. join i (ltb i n) refl (all-at n below (and-left (allB n below) (allB 64 rest) e) i) (all-at 64 rest (and-right (allB n below) (allB 64 rest) e) i l))
+
+      split : (i : ℕ) (a : Bool) → ltb i n ≡ a → ltb (words i) (cond a (2 ^ k) 1) ≡ true → (i < n → below i ≡ true) × ((a || eqb (words i) 0) ≡ true)
+      split i true e t = (λ l. t, refl)
+      split i false e t = (λ l. absurd (omega (arith, ltb-false i n e)), eq-eqb (words i) 0 (omega (arith, ltb-true (words i) 1 t)))
+
+      back : allB 64 either ≡ true → (allB n below && allB 64 rest) ≡ true
+      back e = both (all-from n _ (λ i l. split i (ltb i n) refl (all-at 64 either e i (omega arith)) .0 l)) (all-from 64 _ (λ i l. split i (ltb i n) refl (all-at 64 either e i l) .1))
+
+-- validity by the tests that the code makes
+pub valid-session-tests : (s : Session) (st : ℕ → ℕ) (a b c d : Bool) → s .layout .mains ≤ 64
+    → a ≡ ltb (s .«dirty_segments») (2 ^ s .layout .mains)
+    → b ≡ allB (s .layout .mains) (λ (i : ℕ). ltb (dirtyWord s i) (2 ^ s .layout .blocks))
+    → c ≡ allB 64 (λ (i : ℕ). ltb i (s .layout .mains) || eqb (dirtyWord s i) 0)
+    → d ≡ allB (s .layout .mains) (λ (i : ℕ). not (eqb (bit (s .«dirty_segments») i) 1 && eqb (st i) 1))
+    → ((a && (b && c)) && d) ≡ validSession s st
+unfolding validSession dirtySegment
+valid-session-tests s st a b c d h p q r t =
+    ap₂ (λ (x y : Bool). x && y) (ap₂ (λ (x y : Bool). x && y) p (ap₂ (λ (x y : Bool). x && y) q r ∙ words-in-two (dirtyWord s) (s .layout .mains) (s .layout .blocks) h)) t
+
+-- validity depends on the states of main segments only
+pub valid-session-cong : (s : Session) (f g : ℕ → ℕ) → ((i : ℕ) → i < s .layout .mains → f i ≡ g i) → validSession s f ≡ validSession s g
+unfolding validSession
+valid-session-cong s f g h =
+    rw (all-ext (s .layout .mains) (λ (i : ℕ). not (dirtySegment s i && eqb (f i) 1)) (λ (i : ℕ). not (dirtySegment s i && eqb (g i) 1))
+    (λ i l. ap (λ (x : ℕ). not (dirtySegment s i && eqb x 1)) (h i l)))
+
+-- a line of states handed on as a part of the image
+pub valid-session-part : (s : Session) (I : Image) (line : ℕ) → s .layout .mains ≤ 64 → line + 64 ≤ length I
+    → validSession s (λ (i : ℕ). getD (take 64 (drop line I)) i 0) ≡ validSession s (segState I line)
+valid-session-part s I line m h = valid-session-cong s _ _ (λ i l. getD-take 64 (drop line I) i 0 (omega arith) ∙ getD-drop line I i 0)

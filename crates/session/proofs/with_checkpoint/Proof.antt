@@ -1,0 +1,11 @@
+use borrow.Author.Needs.{needs}
+use Rattle.model.specs.Session.{withCheckpoint}
+use Rattle.session.proofs.with_checkpoint.Statement.{statement}
+use Rattle.session.proofs.with_checkpoint.Tie as tie
+
+returns : tie.Need-returns
+unfolding withCheckpoint
+returns c = search needs
+
+pub with-checkpoint-spec : {M : Type 1} → statement M
+with-checkpoint-spec = tie.close (tie.spec returns)

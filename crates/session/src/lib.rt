@@ -1,0 +1,138 @@
+// The volatile session by value (document 01: the card): tests and changes of its dirty bits, its validity against the
+// states of main segments, and how many blocks are dirty.
+use model::Session;
+ghost use mathlib.Core.Path.{_≡_};
+ghost use mathlib.Core.Bool.{not, _&&_, _||_};
+ghost use Prim.Native.Nat.{ℕ, _*_, _^_, _≤_, _<_};
+ghost use lib.Count.{ones};
+ghost use lib.Dec.{eqb, ltb};
+ghost use lib.ListN.{length, getD};
+ghost use Rattle.model.specs.Range.{allB};
+ghost use Rattle.model.specs.Session.{bit, dirtyWord, withDirty, withCheckpoint, validSession};
+ghost use Rattle.model.proofs.Counts.{dirtyTotal};
+
+// Whether bit b of a word of dirty bits is set.
+pub fn is_dirty(word: u64, b: u64) -> bool
+    requires { ⌜ b < 64 ⌝ }
+    ensures { λ r. ⌜ r ≡ eqb (bit word b) 1 ⌝ }
+{
+    (word >> b) & 1 == 1
+}
+
+// The session after a write to a block of a main segment whose word of dirty blocks was `word`.
+pub fn with_dirty(s: Session, main: u64, block: u64, word: u64) -> Session
+    requires { ⌜ (main < 64) × (block < 64) ⌝ }
+    ensures { λ r. ⌜ r ≡ withDirty s main block word ⌝ }
+{
+    let i = main as usize;
+    let mut next = s;
+    next.dirty_segments = next.dirty_segments | (1 << main);
+    next.dirty_blocks[i] = word | (1 << block);
+    next
+}
+
+// The session after a checkpoint: no segment is dirty, dirty blocks stay.
+pub fn with_checkpoint(s: Session) -> Session
+    ensures { λ r. ⌜ r ≡ withCheckpoint s ⌝ }
+{
+    let mut next = s;
+    next.dirty_segments = 0;
+    next
+}
+
+// Whether no bit of a word is set from bit n on.
+pub fn within(word: u64, n: u64) -> bool
+    requires { ⌜ (1 ≤ n) × (n ≤ 64) ⌝ }
+    ensures { λ r. ⌜ r ≡ ltb word (2 ^ n) ⌝ }
+{
+    (word >> (n - 1)) >> 1 == 0
+}
+
+// Whether each of the first words has no bit set from bit `blocks` on.
+pub fn blocks_within(words: [u64; 64], mains: usize, blocks: u64) -> bool
+    requires { ⌜ (mains ≤ 64) × (1 ≤ blocks) × (blocks ≤ 64) ⌝ }
+    ensures { λ r. ⌜ r ≡ allB mains (λ i. ltb (getD words i 0) (2 ^ blocks)) ⌝ }
+{
+    let mut ok = true;
+    let mut i = 0;
+    while i < mains {
+        ok = ok & within(words[i], blocks);
+        i += 1;
+    }
+    ok
+}
+
+// Whether the words from `mains` on are 0.
+pub fn rest_clear(words: [u64; 64], mains: usize) -> bool
+    requires { ⌜ mains ≤ 64 ⌝ }
+    ensures { λ r. ⌜ r ≡ allB 64 (λ i. ltb i mains || eqb (getD words i 0) 0) ⌝ }
+{
+    let mut ok = true;
+    let mut i = mains;
+    while i < 64 {
+        ok = ok & (words[i] == 0);
+        i += 1;
+    }
+    ok
+}
+
+// Whether main segment i may stand in this state: it is not both dirty and in state 1.
+pub fn may_stand(segments: u64, i: u64, state: u8) -> bool
+    requires { ⌜ i < 64 ⌝ }
+    ensures { λ r. ⌜ r ≡ not (eqb (bit segments i) 1 && eqb state 1) ⌝ }
+{
+    !(is_dirty(segments, i) & (state == 1))
+}
+
+// Whether no dirty segment is in state 1.
+pub fn none_in_main(segments: u64, states: &[u8], mains: u64) -> bool
+    requires { ⌜ (mains ≤ 64) × (64 ≤ length (now states)) ⌝ }
+    ensures { λ r. ⌜ r ≡ allB mains (λ i. not (eqb (bit segments i) 1 && eqb (getD (now (states .entry)) i 0) 1)) ⌝ }
+{
+    let mut ok = true;
+    let mut i = 0;
+    while i < mains {
+        ok = ok & may_stand(segments, i, states[i as usize]);
+        i += 1;
+    }
+    ok
+}
+
+// Whether a session is valid, by the states of main segments.
+pub fn session_valid(s: Session, states: &[u8]) -> bool
+    requires { ⌜ (1 ≤ s .layout .mains) × (s .layout .mains ≤ 64) × (1 ≤ s .layout .blocks) × (s .layout .blocks ≤ 64) ⌝ }
+    requires { ⌜ 64 ≤ length (now states) ⌝ }
+    ensures { λ r. ⌜ r ≡ validSession s (λ i. getD (now (states .entry)) i 0) ⌝ }
+{
+    let mains = s.layout.mains;
+    let blocks = s.layout.blocks;
+    let segments = s.dirty_segments;
+    let words = s.dirty_blocks;
+    let n = mains as usize;
+    let in_blocks = blocks_within(words, n, blocks) & rest_clear(words, n);
+    within(segments, mains) & in_blocks & none_in_main(segments, states, mains)
+}
+
+// How many blocks of a main segment are dirty, by its word.
+pub fn dirty_count(word: u64) -> u64
+    ensures { λ r. ⌜ (r ≡ ones word) × (r ≤ 64) ⌝ }
+{
+    u64::count_ones(word) as u64
+}
+
+// How many blocks of all main segments are dirty.
+pub fn dirty_total(s: Session) -> u64
+    requires { ⌜ s .layout .mains ≤ 64 ⌝ }
+    requires { ⌜ ((i : ℕ) → i < s .layout .mains → dirtyWord s i < 2 ^ s .layout .blocks) ⌝ }
+    ensures { λ r. ⌜ (r ≡ dirtyTotal s) × (r ≤ 4096) ⌝ }
+{
+    let mains = s.layout.mains as usize;
+    let words = s.dirty_blocks;
+    let mut sum = 0;
+    let mut i = 0;
+    while i < mains {
+        sum += dirty_count(words[i]);
+        i += 1;
+    }
+    sum
+}

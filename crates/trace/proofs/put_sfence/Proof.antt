@@ -1,0 +1,18 @@
+use borrow.Author.Needs.{needs}
+use Rattle.model.specs.Ops.{encode}
+use Rattle.trace.specs.Emit.{emit}
+use Rattle.trace.proofs.put_sfence.Statement.{statement}
+use Rattle.trace.proofs.put_sfence.Tie as tie
+
+put-op-requires : tie.Need-put-op-requires
+put-op-requires c κs = search needs
+
+same-length : tie.Need-same-length
+same-length c = search needs
+
+returns : tie.Need-returns
+unfolding emit encode
+returns c = search needs
+
+pub put-sfence-spec : {M : Type 1} → statement M
+put-sfence-spec = tie.close (tie.spec put-op-requires same-length returns)

@@ -1,0 +1,18 @@
+use borrow.Author.Needs.{needs}
+use Rattle.model.specs.Ops.{encode}
+use Rattle.trace.specs.Emit.{emit}
+use Rattle.trace.proofs.put_store.Statement.{statement}
+use Rattle.trace.proofs.put_store.Tie as tie
+
+put-op-requires : tie.Need-put-op-requires
+put-op-requires c κs = search needs
+
+same-length : tie.Need-same-length
+same-length c = search needs
+
+returns : tie.Need-returns
+unfolding emit encode
+returns c = search needs
+
+pub put-store-spec : {M : Type 1} → statement M
+put-store-spec = tie.close (tie.spec put-op-requires same-length returns)

@@ -1,0 +1,62 @@
+// Words of an image: 8 bytes, the least significant first.
+ghost use mathlib.Core.Path.{_≡_};
+ghost use mathlib.Core.List.{[], _∷_};
+ghost use Prim.Native.Nat.{_+_, _≤_};
+ghost use lib.ListN.{length};
+ghost use Rattle.model.specs.Words.{wordAt, storeWord};
+
+// The word that eight bytes make, the least significant first.
+pub fn join(a: u8, b: u8, c: u8, d: u8, e: u8, f: u8, g: u8, h: u8) -> u64
+    ensures { λ r. ⌜ r ≡ wordAt (a ∷ b ∷ c ∷ d ∷ e ∷ f ∷ g ∷ h ∷ []) 0 ⌝ }
+{
+    a as u64
+        + 256
+            * (b as u64
+                + 256
+                    * (c as u64
+                        + 256
+                            * (d as u64
+                                + 256
+                                    * (e as u64
+                                        + 256 * (f as u64 + 256 * (g as u64 + 256 * (h as u64)))))))
+}
+
+// The word at a place of an image.
+pub fn word_at(image: &[u8], at: usize) -> u64
+    requires { ⌜ at + 8 ≤ length (now image) ⌝ }
+    ensures { λ r. ⌜ r ≡ wordAt (now (image .entry)) at ⌝ }
+{
+    join(
+        image[at],
+        image[at + 1],
+        image[at + 2],
+        image[at + 3],
+        image[at + 4],
+        image[at + 5],
+        image[at + 6],
+        image[at + 7],
+    )
+}
+
+// Stores a word at a place of an image.
+pub fn store_word(image: &mut [u8], at: usize, w: u64)
+    requires { ⌜ at + 8 ≤ length (now image) ⌝ }
+    ensures { λ _. ⌜ now (image .exit) ≡ storeWord (now (image .entry)) at w ⌝ }
+{
+    let mut rest = w;
+    image[at] = (rest % 256) as u8;
+    rest = rest / 256;
+    image[at + 1] = (rest % 256) as u8;
+    rest = rest / 256;
+    image[at + 2] = (rest % 256) as u8;
+    rest = rest / 256;
+    image[at + 3] = (rest % 256) as u8;
+    rest = rest / 256;
+    image[at + 4] = (rest % 256) as u8;
+    rest = rest / 256;
+    image[at + 5] = (rest % 256) as u8;
+    rest = rest / 256;
+    image[at + 6] = (rest % 256) as u8;
+    rest = rest / 256;
+    image[at + 7] = (rest % 256) as u8;
+}
