@@ -12,13 +12,13 @@ ghost use Rattle.blocks.specs.Dirty.{dirtyBlocks, eachDirty};
 use model::Layout;
 
 // Words of a block.
-pub const BLOCK_WORDS: usize = 32;
+pub const BLOCK_WORDS: usize = Layout::BLOCK_WORDS as usize;
 
 // Lines of a block.
-pub const BLOCK_LINES: usize = 4;
+pub const BLOCK_LINES: usize = Layout::BLOCK_LINES as usize;
 
 // Operations that store a block and write it back.
-pub const BLOCK_OPS: usize = 36;
+pub const BLOCK_OPS: usize = BLOCK_WORDS + BLOCK_LINES;
 
 // Bytes of a word and of a block, as indexes count them.
 const WORD_SIZE: usize = Layout::WORD_SIZE as usize;
