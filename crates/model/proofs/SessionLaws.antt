@@ -146,17 +146,6 @@ pub fresh-segment : (l : Layout) (u : ℕ) → dirtySegment (freshSession l) u �
 unfolding dirtySegment freshSession
 fresh-segment l u = no-bit u
 
-pub fresh-block : (l : Layout) (u f : ℕ) → dirtyBlock (freshSession l) u f ≡ false
-unfolding dirtyBlock freshSession
-fresh-block l u f = ap (λ (w : ℕ). eqb (bit w f) 1) word ∙ no-bit f
-  where
-    word : getD {A = ℕ} (replicate most 0) u 0 ≡ 0
-    word =
-        elim (decLt u most) [
-          | yes h ↦ getD-replicate most u 0 0 h
-          | no h ↦ List·getD-eq-default (replicate most 0) 0 {n = u} (omega arith)
-        ]
-
 -- ---- valid sessions
 
 -- a session has a word for each of 64 main segments

@@ -110,9 +110,6 @@ AllOk size O = All (OpOk size) O
 pub all-ok-append : (size : ℕ) (O E : Ops) → AllOk size O → AllOk size E → AllOk size (O ++ E)
 all-ok-append size = all-append (OpOk size)
 
-pub all-ok-take : (size n : ℕ) (O : Ops) → AllOk size O → AllOk size (take n O)
-all-ok-take size = all-take (OpOk size)
-
 -- operation i of a trace is well formed
 abbrev WellFormedAt : ℕ → Trace → ℕ → Type 0
 WellFormedAt size t i = wellFormed size (getD t (3 * i) 0) (getD t (3 * i + 1) 0) (getD t (3 * i + 2) 0) ≡ true

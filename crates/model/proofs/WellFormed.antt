@@ -1,8 +1,8 @@
 -- Every operation that recovery, a write or a checkpoint writes is well formed: it meets its image, at a whole word or line.
 use Prim.Native.Nat.{ℕ, zero, suc, _+_, _*_, _%_, _≤_, _<_}
-use mathlib.Core.Path.{_≡_, refl, sym, _∙_, subst}
+use mathlib.Core.Path.{_≡_, refl, sym, subst}
 use mathlib.Core.Bool.{Bool, true, false, cond, _||_, true≢false}
-use mathlib.Core.List.{List, [], _∷_, _++_}
+use mathlib.Core.List.{[], _∷_, _++_}
 use native.Mathlib.Omega.{arith}
 use lib.Dec.{ltb, eqb}
 use lib.ListN.{length}
@@ -15,14 +15,12 @@ use Rattle.model.specs.Layout.{wordSize, lineSize, blockSize, metadataSi
 use Rattle.model.specs.Status.{served}
 use Rattle.model.specs.Container.{committedEpoch, activeLine, inactiveLine, segState, backupToMain, isPaired, pairedBackup, byState}
 use Rattle.model.specs.Session.{dirtyBlock}
-use Rattle.model.specs.Ops.{clwb, sfence, Ops, Trace, replay, stores, clwbs, putBlock, persistCopy, persistZero, storeByte}
+use Rattle.model.specs.Ops.{traceShort, clwb, sfence, Ops, Trace, stores, clwbs, putBlock, persistCopy, persistZero, storeByte}
 use Rattle.model.specs.Open.{recoveryAction, copySegment, zeroSegment, actionOps, recoverSegment, recoveryOps, openStatus, openOutcome}
 use Rattle.model.specs.Write.{WriteArgs, needsCopy, needsBackup, pairOps, copyDirty, backupOps, stateOps, copyOnWriteOps, spanOps, writeOps, spanBad, writeStatus, writeOutcome, Chosen}
 use Rattle.model.specs.Checkpoint.{flushDirty, nextStates, statesOps, epochOps, checkpointOps, checkpointStatus, checkpointOutcome}
-use Rattle.model.specs.Replay.{replayCount, replayedOps, replayStatus, replayOutcome}
-use Rattle.model.specs.History.{Call, callOpen, callWrite, callCheckpoint, State, outcome, reported, replayedImage, step, run, openedImage, start, Permitted}
+use Rattle.model.specs.History.{Call, callOpen, callWrite, callCheckpoint, State, outcome, Permitted}
 use Rattle.model.specs.CrashSafety.{ReplayServesAll}
-use Rattle.model.proofs.Persist.{length-replay}
 use Rattle.model.proofs.Refusals.{served-none}
 use Rattle.model.proofs.Metadata.{paired-at, container-then}
 use Rattle.model.proofs.Places.{metadata-inside, image-lines, segment-in-image, state-line-low, state-line-high, state-line-whole}
@@ -217,23 +215,30 @@ call-ok s (callOpen l t) h = open-ok l (s .image) t
 call-ok s (callWrite w t j) h = write-outcome-ok (s .session) (s .image) w t j (h .1)
 call-ok s (callCheckpoint t) h = checkpoint-outcome-ok (s .session) (s .image) t
 
--- replay keeps the length of an image, whatever it is handed
-pub replayed-length : (I : Image) (O : Ops) (t : Trace) (p : ℕ) → length (replayedImage I O t p) ≡ length I
-unfolding replayedImage replayOutcome
-replayed-length I O t p = go (served (replayStatus I (reported O t) p))
+-- ---- the operations of a call fit its trace
+
+fits : (e : ℕ) (O : Ops) (t : Trace) → (e ≡ 0 → traceShort O t ≡ false) → 3 * length (cond (served e) O []) ≤ length t
+unfolding traceShort
+fits e O t h = go (served e) refl
   where
-    go : (b : Bool) → length (cond b (replay (replayedOps (reported O t) (replayCount (reported O t) p)) I) I) ≡ length I
-    go true = length-replay _ I
-    go false = refl
+    go : (b : Bool) → served e ≡ b → 3 * length (cond b O []) ≤ length t
+    go true q = ltb-false (length t) (3 * length O) (h (eqb-true e 0 q))
+    go false q = omega arith
 
-pub run-length : (s : State) (cs : List Call) → length (run s cs .image) ≡ length (s .image)
-unfolding run step
-run-length s [] = refl
-run-length s (c ∷ cs) = run-length (step s c) cs ∙ replayed-length (s .image) _ _ _
+pub open-fits : (l : Layout) (I : Image) (t : Trace) → 3 * length (openOutcome l I t .ops) ≤ length t
+unfolding openOutcome openStatus
+open-fits l I t =
+    fits (openStatus l I t) (recoveryOps l I (activeLine I)) t (λ h. served-none ((11, traceShort (recoveryOps l I (activeLine I)) t) ∷ []) (omega arith) (container-then l I _ h .1) .0)
 
-pub start-length : (l : Layout) (I : Image) (t : Trace) → openStatus l I t ≡ 0 → length (start l I t .image) ≡ imageSize l
-unfolding start openedImage openStatus
-start-length l I t h = replayed-length I _ _ _ ∙ container-then l I _ h .0 .long
+pub write-fits : (s : Session) (I : Image) (w : WriteArgs) (j : ℕ) (t : Trace) → 3 * length (writeOutcome s I w j t .ops) ≤ length t
+unfolding writeOutcome writeStatus
+write-fits s I w j t =
+    fits (writeStatus s I w j t) (writeOps s I w j) t (λ h. served-none _ (omega arith) (container-then (s .layout) I _ h .1) .1 .1 .1 .1 .1 .0)
+
+pub checkpoint-fits : (s : Session) (I : Image) (t : Trace) → 3 * length (checkpointOutcome s I t .ops) ≤ length t
+unfolding checkpointOutcome checkpointStatus
+checkpoint-fits s I t =
+    fits (checkpointStatus s I t) (checkpointOps s I) t (λ h. served-none _ (omega arith) (container-then (s .layout) I _ h .1) .1 .1 .0)
 
 pub replay-serves-all : ReplayServesAll
 replay-serves-all s c whole permitted p = (replay-serves _ _ _ p whole (call-ok s c permitted), played-ops _ _ _ p whole (call-ok s c permitted))
