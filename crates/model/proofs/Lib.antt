@@ -25,3 +25,4 @@ pub mod WriteArgument
 pub mod Pages
 pub mod Theorem
 pub mod Choice
+pub mod Exactness

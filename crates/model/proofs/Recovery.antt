@@ -10,6 +10,8 @@ use native.Mathlib.Omega.{arith}
 use lib.ListN.{length, take}
 use Rattle.model.specs.declared.Layout.{Layout}
 use Rattle.model.specs.declared.Session.{Session}
+use Rattle.model.specs.declared.Action.{Action}
+use Rattle.model.specs.declared.Action.the-variants.{Nothing, ZeroMain, CopyToBackup, CopyToMain}
 use Rattle.model.specs.Range.{cat}
 use Rattle.model.specs.Words.{Image, byteAt, Bytes, wordAt}
 use Rattle.model.specs.Layout.{segmentSize, mainAt, backupAt}
@@ -70,20 +72,16 @@ abbrev turn : Layout → Image → ℕ → Ops
 turn l I i = recoverSegment l I (activeLine I) i
 
 -- every turn writes back what it stores
+neat-action : (l : Layout) (I : Image) (i j : ℕ) (a : Action) → Neat (actionOps l I i j a)
+unfolding actionOps
+neat-action l I i j Nothing = neat-nil
+neat-action l I i j ZeroMain = neat-zero l (mainAt l i) (omega arith)
+neat-action l I i j CopyToBackup = neat-copy l I (mainAt l i) (backupAt l j) (omega arith)
+neat-action l I i j CopyToMain = neat-copy l I (backupAt l j) (mainAt l i) (omega arith)
+
 neat-turn : (l : Layout) (I : Image) (i : ℕ) → Neat (turn l I i)
 unfolding recoverSegment
-neat-turn l I i = go (activeState I i) (isPaired l (backupToMain I) i)
-  where
-    j : ℕ
-    j = pairedBackup l (backupToMain I) i
-
-    go : (st : ℕ) (b : Bool) → Neat (actionOps l I i j (recoveryAction st b))
-    go zero true = unfold recoveryAction byState actionOps in neat-nil
-    go (suc zero) true = unfold recoveryAction byState actionOps in neat-copy l I (mainAt l i) (backupAt l j) (omega arith)
-    go (suc (suc n)) true = unfold recoveryAction byState actionOps in neat-copy l I (backupAt l j) (mainAt l i) (omega arith)
-    go zero false = unfold recoveryAction byState actionOps in neat-zero l (mainAt l i) (omega arith)
-    go (suc zero) false = unfold recoveryAction byState actionOps in neat-nil
-    go (suc (suc n)) false = unfold recoveryAction byState actionOps in neat-nil
+neat-turn l I i = neat-action l I i (pairedBackup l (backupToMain I) i) (recoveryAction (activeState I i) (isPaired l (backupToMain I) i))
 
 module _ (l : Layout) (I : Image) (P : Contents) (r : Recoverable l I P) where
   pub treated : (i : ℕ) → i < l .mains → Treated l I P i (turn l I i)

@@ -152,6 +152,25 @@ lowest-given k (e ∷ es) a n p = go (e .1) p (lowest-given (e .0) es (a .1) n)
 
 -- ---- the numbers of each call
 
+-- every list ascends but that of `same`, which is the same list twice
+pub size-ascending : (l : Layout) (I : Image) → Ascending 0 (sizeErrors l I)
+size-ascending l I = omega arith
+
+pub open-ascending : (l : Layout) (I : Image) (t : Trace) → Ascending 0 (openErrors l I t)
+open-ascending l I t = omega arith
+
+pub read-ascending : (l : Layout) (I : Image) (i b : ℕ) → Ascending 0 (readErrors l I i b)
+read-ascending l I i b = omega arith
+
+pub write-ascending : (s : Session) (I : Image) (w : WriteArgs) (j : ℕ) (t : Trace) → Ascending 0 (writeErrors s I w j t)
+write-ascending s I w j t = omega arith
+
+pub checkpoint-ascending : (s : Session) (I : Image) (t : Trace) → Ascending 0 (checkpointErrors s I t)
+checkpoint-ascending s I t = omega arith
+
+pub replay-ascending : (I : Image) (t : Trace) (n : ℕ) → Ascending 0 (replayErrors I t n)
+replay-ascending I t n = omega arith
+
 abbrev pub OneOf : List ℕ → ℕ → Type 0
 OneOf [] n = ⊥
 OneOf (m ∷ ms) n = (n ≡ m) ⊎ OneOf ms n
@@ -199,25 +218,6 @@ pub same-numbers : (l : Layout) (I J : Image) → OneOf (0 ∷ 1 ∷ 2 ∷ 3 ∷
 unfolding sameOutcome
 same-numbers l I J =
     either-part (OneOf (0 ∷ 1 ∷ 2 ∷ 3 ∷ 4 ∷ [])) (containerErrors l I) (containerErrors l J) (in-list (containerErrors l I)) (in-list (containerErrors l J))
-
--- every list ascends but that of `same`, which is the same list twice
-pub size-ascending : (l : Layout) (I : Image) → Ascending 0 (sizeErrors l I)
-size-ascending l I = omega arith
-
-pub open-ascending : (l : Layout) (I : Image) (t : Trace) → Ascending 0 (openErrors l I t)
-open-ascending l I t = omega arith
-
-pub read-ascending : (l : Layout) (I : Image) (i b : ℕ) → Ascending 0 (readErrors l I i b)
-read-ascending l I i b = omega arith
-
-pub write-ascending : (s : Session) (I : Image) (w : WriteArgs) (j : ℕ) (t : Trace) → Ascending 0 (writeErrors s I w j t)
-write-ascending s I w j t = omega arith
-
-pub checkpoint-ascending : (s : Session) (I : Image) (t : Trace) → Ascending 0 (checkpointErrors s I t)
-checkpoint-ascending s I t = omega arith
-
-pub replay-ascending : (I : Image) (t : Trace) (n : ℕ) → Ascending 0 (replayErrors I t n)
-replay-ascending I t n = omega arith
 
 -- ---- numbers of the enum
 
