@@ -1,0 +1,43 @@
+use mathlib.Core.Path.{_∙_, ap}
+use borrow.Author.Needs.{needs}
+use Rattle.model.specs.Reads.{workingBlock}
+use Rattle.model.specs.declared.Layout.{Layout}
+use Rattle.reads.proofs.Laws.{part-bytes}
+use Rattle.reads.proofs.crpm_read_working.Statement.{statement}
+use Rattle.reads.proofs.crpm_read_working.Tie as tie
+
+new-requires : tie.Need-new-requires
+new-requires c κs = search needs
+
+working-part-requires : tie.Need-working-part-requires
+working-part-requires c κs = search needs
+
+add-end : tie.Need-add-end
+add-end c = search needs
+
+sub-result : tie.Need-sub-result
+sub-result c = search needs
+
+part-result-start : tie.Need-part-result-start
+part-result-start c = search needs
+
+part-result-end : tie.Need-part-result-end
+part-result-end c = search needs
+
+returns : tie.Need-returns
+returns c =
+    let b = c .before in
+    let a = b .before .before .before .args in
+    part-bytes (a .image .now) _ _ (b .working-part .ensures) ∙ ap (λ (l : Layout). workingBlock l (a .image .now) (a .main) (a .block)) (b .before .new .ensures)
+
+pub crpm-read-working-spec : {M : Type 1} → statement M
+crpm-read-working-spec =
+    tie.close
+    (tie.spec
+    new-requires
+    working-part-requires
+    add-end
+    sub-result
+    part-result-start
+    part-result-end
+    returns)

@@ -1,0 +1,112 @@
+// Replay of a trace on an image (document 01: the player). The operations to be played are judged first, then played.
+use model::Layout;
+use model::Status;
+ghost use mathlib.Core.Path.{_≡_};
+ghost use mathlib.Core.Bool.{true};
+ghost use Prim.Native.Nat.{_*_, _%_, _≤_};
+ghost use lib.ListN.{length};
+ghost use Rattle.model.specs.Status.{codeOf};
+ghost use Rattle.model.specs.Ops.{opOf, apply, replay};
+ghost use Rattle.model.specs.Replay.{wellFormed, allWellFormed, replayCount, replayedOps, replayStatus, replayOutcome};
+
+// How a replay ends, and how many operations it played.
+pub struct Replayed {
+    pub status: Status,
+    pub played: u64,
+}
+
+// Whether three numbers are an operation on an image of so many bytes.
+pub fn op_well_formed(size: u64, kind: u64, place: u64, word: u64) -> bool
+    ensures { λ r. ⌜ r ≡ wellFormed size kind place word ⌝ }
+{
+    let store = (kind == trace::OP_STORE) & (place % Layout::WORD_SIZE == 0);
+    let clwb = (kind == trace::OP_CLWB) & (place % Layout::LINE_SIZE == 0) & (word == 0);
+    let sfence = (kind == trace::OP_SFENCE) & (place == 0) & (word == 0);
+    (place < size) & (store | clwb | sfence)
+}
+
+// Whether the first `count` operations of a trace are well formed on an image of so many bytes.
+pub fn all_well_formed(size: u64, trace: &[u64], count: usize) -> bool
+    requires { ⌜ 3 * count ≤ length (now trace) ⌝ }
+    ensures { λ r. ⌜ r ≡ allWellFormed size (now (trace .entry)) count ⌝ }
+{
+    let mut ok = true;
+    let mut k = 0;
+    while k < count {
+        let at = 3 * k;
+        ok = ok & op_well_formed(size, trace[at], trace[at + 1], trace[at + 2]);
+        k += 1;
+    }
+    ok
+}
+
+// How many operations are to be played: n, or all of the trace if there are fewer.
+pub fn replay_count(trace: &[u64], n: u64) -> usize
+    ensures { λ r. ⌜ r ≡ replayCount (now (trace .entry)) n ⌝ }
+{
+    let all = trace.len() / 3;
+    if n < all as u64 { n as usize } else { all }
+}
+
+// The status of a replay, by its number.
+pub fn replay_status(image: &[u8], trace: &[u64], n: u64) -> u64
+    ensures { λ r. ⌜ r ≡ replayStatus (now (image .entry)) (now (trace .entry)) n ⌝ }
+{
+    if image.len() as u64 % Layout::LINE_SIZE != 0 {
+        return 2;
+    }
+    if trace.len() % 3 != 0 {
+        return 12;
+    }
+    if !all_well_formed(image.len() as u64, trace, replay_count(trace, n)) {
+        return 12;
+    }
+    0
+}
+
+// Plays one operation: a store changes the image, the others do not.
+pub fn play_op(image: &mut [u8], kind: u64, place: u64, word: u64)
+    requires { ⌜ length (now image) % 64 ≡ 0 ⌝ }
+    requires { ⌜ wellFormed (length (now image)) kind place word ≡ true ⌝ }
+    ensures { λ _. ⌜ now (image .exit) ≡ apply (opOf kind place word) (now (image .entry)) ⌝ }
+{
+    if kind == trace::OP_STORE {
+        words::store_word(image, place as usize, word);
+    }
+}
+
+// Plays the first `count` operations of a trace.
+pub fn play(image: &mut [u8], trace: &[u64], count: usize)
+    requires { ⌜ 3 * count ≤ length (now trace) ⌝ }
+    requires { ⌜ length (now image) % 64 ≡ 0 ⌝ }
+    requires { ⌜ allWellFormed (length (now image)) (now trace) count ≡ true ⌝ }
+    ensures { λ _. ⌜ now (image .exit) ≡ replay (replayedOps (now (trace .entry)) count) (now (image .entry)) ⌝ }
+{
+    let mut k = 0;
+    while k < count {
+        let at = 3 * k;
+        play_op(image, trace[at], trace[at + 1], trace[at + 2]);
+        k += 1;
+    }
+}
+
+// Plays the first n operations of a trace, or all if there are fewer. A refusal changes nothing.
+pub fn crpm_replay(image: &mut [u8], trace: &[u64], n: u64) -> Replayed
+    ensures { λ r. ⌜ codeOf (r .status) ≡ replayOutcome (now (image .entry)) (now (trace .entry)) n .status ⌝ }
+    ensures { λ r. ⌜ r .played ≡ replayOutcome (now (image .entry)) (now (trace .entry)) n .played ⌝ }
+    ensures { λ _. ⌜ now (image .exit) ≡ replayOutcome (now (image .entry)) (now (trace .entry)) n .image ⌝ }
+{
+    let status = replay_status(image, trace, n);
+    if status != 0 {
+        return Replayed {
+            status: Status::of(status),
+            played: 0,
+        };
+    }
+    let count = replay_count(trace, n);
+    play(image, trace, count);
+    Replayed {
+        status: Status::Served,
+        played: count as u64,
+    }
+}
