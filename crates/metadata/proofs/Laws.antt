@@ -3,7 +3,7 @@
 use Prim.Native.Nat.{ℕ, zero, suc, _+_, _-_, _*_, _%_, _≤_, _<_}
 use mathlib.Core.Path.{_≡_, refl, sym, ap, ap₂, _∙_, subst}
 use mathlib.Core.Logic.{_≢_, _⊎_, inl, inr, ⊎-elim}
-use mathlib.Core.Bool.{Bool, true, false, not, _&&_, _||_, true≢false, or-true, or-false, and-eq-true-iff}
+use mathlib.Core.Bool.{Bool, true, false, not, _&&_, _||_, true≢false, or-false, and-eq-true-iff}
 use mathlib.Core.List.{List, [], _∷_}
 use native.Mathlib.Omega.{arith}
 use native.Mathlib.Decide.{decLt, ℕ-discrete}
@@ -11,7 +11,7 @@ use native.Mathlib.Nat.{mul-le-mul, suc-mul}
 use native.Mathlib.Numerals.{add-one}
 use lib.Dec.{ltb, eqb}
 use lib.ListN.{length, getD, set, replicate, getD-replicate}
-use lib.Seq.{set-getD, getD-set-same, getD-set-other}
+use lib.Seq.{getD-set-same, getD-set-other}
 use borrow.Author.Tests.{lt-ltb, le-ltb, ltb-true, leb-true, le-leb, eqb-true, eqb-false, eq-eqb, ne-eqb, not-true}
 use Rattle.model.specs.declared.Layout.{Layout}
 use Rattle.model.specs.Range.{allB, anyB, orNext, firstB}
@@ -101,20 +101,20 @@ next-line e = go (ℕ-discrete (e % 2) 0)
 -- ---- the pass over the pairs
 
 -- nothing is marked yet
-pub marks-none : (pr : ℕ → ℕ) (mains : ℕ) → mains ≤ 64 → (i : ℕ) → i < mains → getD (replicate 64 false) i false ≡ anyB 0 (λ n. eqb (pr n) i)
+pub marks-none : (pr : ℕ → ℕ) (mains : ℕ) → mains ≤ 64 → (i : ℕ) → i < mains → getD (replicate 65 false) i false ≡ anyB 0 (λ n. eqb (pr n) i)
 unfolding anyB
-marks-none pr mains m i l = getD-replicate 64 i false false (omega arith)
+marks-none pr mains m i l = getD-replicate 65 i false false (omega arith)
 
 -- the mark at a pair's main segment says whether an earlier backup segment has it
-pub pair-by-mark : (marks : List Bool) (pr : ℕ → ℕ) (mains j k : ℕ) (r : Bool) → mains ≤ 64 → k ≡ pr j % 64
+pub pair-by-mark : (marks : List Bool) (pr : ℕ → ℕ) (mains j k : ℕ) (r : Bool) → (pr j < mains → k ≡ pr j)
     → ((i : ℕ) → i < mains → getD marks i false ≡ anyB j (λ n. eqb (pr n) i))
     → r ≡ ((ltb (pr j) mains || eqb (pr j) 255) && not (ltb (pr j) mains && getD marks k false)) → r ≡ pairFits pr mains j
 unfolding pairFits
-pair-by-mark marks pr mains j k r m e h q = q ∙ go (decLt (pr j) mains)
+pair-by-mark marks pr mains j k r e h q = q ∙ go (decLt (pr j) mains)
   where
     go : Dec (pr j < mains) → ((ltb (pr j) mains || eqb (pr j) 255) && not (ltb (pr j) mains && getD marks k false))
         ≡ ((ltb (pr j) mains || eqb (pr j) 255) && not (ltb (pr j) mains && anyB j (λ n. eqb (pr n) (pr j))))
-    go (yes l) = let p : k ≡ pr j = omega arith in rw (p, h (pr j) l)
+    go (yes l) = rw (e l, h (pr j) l)
     go (no l) = rw (le-ltb (pr j) mains (omega arith))
 
 pub any-more : (n : ℕ) (P : ℕ → Bool) → anyB (n + 1) P ≡ (anyB n P || P n)
@@ -122,20 +122,22 @@ unfolding anyB
 any-more n P = rw add-one
 
 -- the marks of paired main segments after one more pair
-pub marks-more : (marks : List Bool) (pr : ℕ → ℕ) (mains j k : ℕ) (below : Bool) → mains ≤ 64 → 64 ≤ length marks → k ≡ pr j % 64 → below ≡ ltb (pr j) mains
+pub marks-more : (marks : List Bool) (pr : ℕ → ℕ) (mains j k : ℕ) → mains ≤ 64 → 64 ≤ length marks → (pr j < mains → k ≡ pr j) → (mains ≤ pr j → k ≡ 64)
     → ((i : ℕ) → i < mains → getD marks i false ≡ anyB j (λ n. eqb (pr n) i))
-    → (i : ℕ) → i < mains → getD (set marks k (getD marks k false || below)) i false ≡ anyB (j + 1) (λ n. eqb (pr n) i)
-marks-more marks pr mains j k below m len e b h i l = go (decLt (pr j) mains) (ℕ-discrete i (pr j)) ∙ sym (any-more j (λ n. eqb (pr n) i))
+    → (i : ℕ) → i < mains → getD (set marks k true) i false ≡ anyB (j + 1) (λ n. eqb (pr n) i)
+marks-more marks pr mains j k m len e f h i l = go (decLt (pr j) mains) (ℕ-discrete i (pr j)) ∙ sym (any-more j (λ n. eqb (pr n) i))
   where
-    other : pr j ≢ i → getD marks i false ≡ (anyB j (λ n. eqb (pr n) i) || eqb (pr j) i)
-    other w = h i l ∙ sym (ap (λ (x : Bool). anyB j (λ n. eqb (pr n) i) || x) (ne-eqb (pr j) i w) ∙ or-false _)
+    other : k ≢ i → pr j ≢ i → getD (set marks k true) i false ≡ (anyB j (λ n. eqb (pr n) i) || eqb (pr j) i)
+    other q w =
+        getD-set-other marks k i true false (λ x. q (sym x)) ∙ h i l
+        ∙ sym (ap (λ (x : Bool). anyB j (λ n. eqb (pr n) i) || x) (ne-eqb (pr j) i w) ∙ or-false _)
 
-    go : Dec (pr j < mains) → Dec (i ≡ pr j) → getD (set marks k (getD marks k false || below)) i false ≡ (anyB j (λ n. eqb (pr n) i) || eqb (pr j) i)
+    go : Dec (pr j < mains) → Dec (i ≡ pr j) → getD (set marks k true) i false ≡ (anyB j (λ n. eqb (pr n) i) || eqb (pr j) i)
     go (yes q) (yes w) =
-        let p : k ≡ i = omega arith in
-        rw (p, b, lt-ltb (pr j) mains q, or-true) (getD-set-same marks i true false (omega arith) ∙ sym (or-right (anyB j (λ n. eqb (pr n) i)) (eq-eqb (pr j) i (sym w))))
-    go (yes q) (no w) = getD-set-other marks k i _ false (λ x. w (omega arith)) ∙ other (λ x. w (sym x))
-    go (no q) d = rw (b, le-ltb (pr j) mains (omega arith), or-false, set-getD) (other (λ x. omega arith))
+        let p : k ≡ i = e q ∙ sym w in
+        rw p (getD-set-same marks i true false (omega arith) ∙ sym (or-right (anyB j (λ n. eqb (pr n) i)) (eq-eqb (pr j) i (sym w))))
+    go (yes q) (no w) = other (λ x. w (sym x ∙ e q)) (λ x. w (sym x))
+    go (no q) d = let p : k ≡ 64 = f (omega arith) in other (λ x. omega arith) (λ x. omega arith)
 
 -- ---- the tests of the pass
 

@@ -3,7 +3,7 @@
 use model::Layout;
 ghost use mathlib.Core.Path.{_≡_};
 ghost use mathlib.Core.Bool.{false, not, _&&_, _||_};
-ghost use Prim.Native.Nat.{_+_, _*_, _%_, _≤_, _<_};
+ghost use Prim.Native.Nat.{_+_, _*_, _≤_, _<_};
 ghost use lib.Dec.{eqb, ltb};
 ghost use lib.ListN.{length, getD};
 ghost use Rattle.model.specs.Range.{allB, firstB};
@@ -82,10 +82,11 @@ pub fn rest_is(image: &[u8], line: usize, n: usize, value: u8) -> bool
     ok
 }
 
-// What the pass over the pairs finds: whether they fit, and for each main segment whether it is paired.
+// What the pass over the pairs finds: whether they fit, and for each main segment whether it is paired. The last mark is
+// for pairs that name no main segment.
 pub struct PairScan {
     pub ok: bool,
-    pub paired: [bool; 64],
+    pub paired: [bool; 65],
 }
 
 // A byte as a number.
@@ -102,11 +103,16 @@ pub fn pair_fits(pair: u8, mains: u64, taken: bool) -> bool
     ((wide(pair) < mains) | (pair == 255)) & !((wide(pair) < mains) & taken)
 }
 
-// The place of a main segment's mark, by the pair byte that names it.
-pub fn mark_of(pair: u8) -> usize
-    ensures { λ r. ⌜ (r ≡ pair % 64) × (r < 64) ⌝ }
+// The place of the mark of the main segment that a pair byte names, or of the last mark.
+pub fn mark_of(pair: u8, mains: u64) -> usize
+    requires { ⌜ mains ≤ 64 ⌝ }
+    ensures { λ r. ⌜ (r ≤ 64) × (pair < mains → r ≡ pair) × (mains ≤ pair → r ≡ 64) ⌝ }
 {
-    (pair % 64) as usize
+    if wide(pair) < mains {
+        pair as usize
+    } else {
+        64
+    }
 }
 
 // The pass over the pairs of backup segments.
@@ -114,15 +120,15 @@ pub fn scan_pairs(image: &[u8], mains: u64, backups: usize) -> PairScan
     requires { ⌜ (mains ≤ 64) × (backups ≤ 64) × (320 ≤ length (now image)) ⌝ }
     ensures { λ r. ⌜ Scanned (backupToMain (now (image .entry))) mains backups r ⌝ }
 {
-    let mut paired = [false; 64];
+    let mut paired = [false; 65];
     let mut ok = true;
     let mut j = 0;
     while j < backups {
         let pair = image[Layout::PAIRS_AT as usize + j];
-        let i = mark_of(pair);
+        let i = mark_of(pair, mains);
         let taken = paired[i];
         ok = ok & pair_fits(pair, mains, taken);
-        paired[i] = taken | (wide(pair) < mains);
+        paired[i] = true;
         j += 1;
     }
     PairScan {
@@ -143,7 +149,7 @@ pub fn state_fits(state: u8, paired: bool) -> bool
 }
 
 // Whether the states of main segments fit their pairs.
-pub fn states_fit(image: &[u8], line: usize, mains: usize, paired: [bool; 64]) -> bool
+pub fn states_fit(image: &[u8], line: usize, mains: usize, paired: [bool; 65]) -> bool
     requires { ⌜ (mains ≤ 64) × (line + 64 ≤ length (now image)) ⌝ }
     ensures { λ r. ⌜ r ≡ allB mains (λ i. stateFits (getD paired i false) (byteAt (now (image .entry)) (line + i))) ⌝ }
 {

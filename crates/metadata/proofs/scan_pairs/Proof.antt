@@ -1,9 +1,9 @@
 use Prim.Native.Nat.{ℕ, _-_, _≤_, _<_}
 use mathlib.Core.Bool.{false}
-use mathlib.Core.Path.{_≡_, ap}
+use mathlib.Core.Path.{_≡_}
 use native.Mathlib.Omega.{arith}
 use lib.ListN.{length, getD, length-set}
-use lib.Dec.{eqb, ltb}
+use lib.Dec.{eqb}
 use borrow.Author.Needs.{needs}
 use Rattle.session.proofs.Gather.{all-none, all-more}
 use Rattle.model.specs.Container.{backupToMain}
@@ -15,7 +15,7 @@ use Rattle.metadata.proofs.scan_pairs.Tie as tie
 
 abbrev Inv-loop : tie.InvT-loop
 Inv-loop image mains backups paired₀ ok₀ j₀ paired ok j =
-    (j ≤ backups) × (length paired ≡ 64) × (ok ≡ allB j (pairFits (backupToMain image) mains))
+    (j ≤ backups) × (length paired ≡ 65) × (ok ≡ allB j (pairFits (backupToMain image) mains))
     × ((i : ℕ) → i < mains → getD paired i false ≡ anyB j (λ n. eqb (backupToMain image n) i))
 
 abbrev μ-loop : tie.MeasureT-loop
@@ -39,9 +39,6 @@ array-read-taken c = search needs
 pair-fits-requires : tie.Need-pair-fits-requires Inv-loop μ-loop
 pair-fits-requires c κs = search needs
 
-wide-requires : tie.Need-wide-requires Inv-loop μ-loop
-wide-requires c κs = search needs
-
 array-write-paired : tie.Need-array-write-paired Inv-loop μ-loop
 array-write-paired c = search needs
 
@@ -53,16 +50,15 @@ loop-less c = search needs
 
 loop-again : tie.Need-loop-again Inv-loop μ-loop
 loop-again c =
-    let p = c .before in
-    let m = p .before in
+    let m = c .before in
     let b = m .before .before .before in
-    let k = m .mark-of .ensures .0 in
+    let k = m .mark-of .ensures in
     let a = b .before .before .args in
     let pr = backupToMain (a .image .now) in (
       omega arith,
       rw length-set (b .loop .inv .1),
-      all-more (b .loop .j) _ (b .loop .inv .2) (pair-by-mark (b .loop .paired) pr (a .mains) (b .loop .j) _ _ (omega arith) k (b .loop .inv .3) (p .pair-fits .ensures)),
-      marks-more (b .loop .paired) pr (a .mains) (b .loop .j) _ _ (omega arith) (omega arith) k (ap (λ (x : ℕ). ltb x (a .mains)) (c .wide .ensures)) (b .loop .inv .3),
+      all-more (b .loop .j) _ (b .loop .inv .2) (pair-by-mark (b .loop .paired) pr (a .mains) (b .loop .j) _ _ (k .1) (b .loop .inv .3) (c .pair-fits .ensures)),
+      marks-more (b .loop .paired) pr (a .mains) (b .loop .j) _ (omega arith) (omega arith) (k .1) (k .2) (b .loop .inv .3),
     )
 
 returns : tie.Need-returns Inv-loop μ-loop
@@ -83,7 +79,6 @@ scan-pairs-spec =
     mark-of-requires
     array-read-taken
     pair-fits-requires
-    wide-requires
     array-write-paired
     add-j
     loop-less
