@@ -5,9 +5,9 @@ use mathlib.Core.Path.{_≡_, refl, sym, ap, ap₂, _∙_}
 use mathlib.Core.Bool.{Bool, true, false, not, cond, _&&_, _||_}
 use native.Mathlib.Omega.{arith}
 use native.Mathlib.Decide.{decLt}
-use native.Mathlib.Nat.{one-mul, div-eq-of-lt, div-lt-iff-lt-mul}
-use lib.Bits.{bitAnd, and-mask}
-use lib.Pow.{pow-pos, shl-exact, shr-shr}
+use native.Mathlib.Nat.{one-mul, zero-mul, mod-eq-of-lt, div-eq-of-lt, div-lt-iff-lt-mul}
+use lib.Bits.{bitAnd, and-mask, and-high}
+use lib.Pow.{pow-pos, shl-exact, shr-shr, high, ones-lt, ones-split}
 use lib.Dec.{eqb, ltb}
 use lib.ListN.{length, getD, take, drop}
 use lib.Seq.{getD-take, getD-drop}
@@ -93,3 +93,17 @@ valid-session-cong s f g h =
 pub valid-session-part : (s : Session) (I : Image) (line : ℕ) → s .layout .mains ≤ 64 → line + 64 ≤ length I
     → validSession s (λ (i : ℕ). getD (take 64 (drop line I)) i 0) ≡ validSession s (segState I line)
 valid-session-part s I line m h = valid-session-cong s _ _ (λ i l. getD-take 64 (drop line I) i 0 (omega arith) ∙ getD-drop line I i 0)
+
+-- a mask of the n lowest bits, taken away: the code's `m & !(ones >> (64 - n))`
+pub low-cleared : (m n : ℕ) → n ≤ 64 → m < 2 ^ n → bitAnd m (18446744073709551615 - 18446744073709551615 / 2 ^ (64 - n)) ≡ 0
+low-cleared m n h k =
+    let e : n + (64 - n) ≡ 64 = omega arith in
+    let d : (64 - n) + n ≡ 64 = omega arith in
+    let split : 18446744073709551615 ≡ (2 ^ n - 1) * 2 ^ (64 - n) + (2 ^ (64 - n) - 1) = ap (λ (w : ℕ). 2 ^ w - 1) (sym e) ∙ ones-split n (64 - n) in
+    let low : 18446744073709551615 / 2 ^ (64 - n) ≡ 2 ^ n - 1 = ap (λ (w : ℕ). w / 2 ^ (64 - n)) split ∙ high (2 ^ n - 1) (64 - n) (ones-lt (64 - n)) in
+    let mask : 18446744073709551615 - 18446744073709551615 / 2 ^ (64 - n) ≡ 2 ^ (64 - n + n) - 2 ^ n =
+      ap (λ (w : ℕ). 18446744073709551615 - w) low ∙ omega (arith, pow-pos n, ap (λ (w : ℕ). 2 ^ w) d) in
+    ap (bitAnd m) mask ∙ and-high m (64 - n) n ∙ ap (λ (w : ℕ). w % 2 ^ (64 - n) * 2 ^ n) (div-eq-of-lt k) ∙ zero-of n
+  where
+    zero-of : (n : ℕ) → 0 % 2 ^ (64 - n) * 2 ^ n ≡ 0
+    zero-of n = ap (λ (w : ℕ). w * 2 ^ n) (mod-eq-of-lt (pow-pos (64 - n))) ∙ zero-mul (2 ^ n)

@@ -1,5 +1,6 @@
 // The volatile session by value (document 01: the card): tests and changes of its dirty bits, its validity against the
 // states of main segments, and how many blocks are dirty.
+use model::Layout;
 use model::Session;
 ghost use mathlib.Core.Path.{_≡_};
 ghost use mathlib.Core.Bool.{not, _&&_, _||_};
@@ -38,6 +39,15 @@ pub fn with_checkpoint(s: Session) -> Session
     let mut next = s;
     next.dirty_segments = 0;
     next
+}
+
+// The word of dirty blocks of a main segment with the bits of all its blocks cleared: no bit is left.
+pub fn clear_blocks(word: u64, blocks: u64) -> u64
+    requires { ⌜ (1 ≤ blocks) × (blocks ≤ 64) × (word < 2 ^ blocks) ⌝ }
+    ensures { λ r. ⌜ r ≡ 0 ⌝ }
+{
+    let all: u64 = 18446744073709551615;
+    word & !(all >> (Layout::MOST - blocks))
 }
 
 // Whether no bit of a word is set from bit n on.

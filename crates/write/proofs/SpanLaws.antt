@@ -1,0 +1,41 @@
+-- Laws of a span: bytes and words of an image with the span's bytes laid over it, and the test of its end.
+use Prim.Native.Nat.{ℕ, zero, suc, _+_, _-_, _≤_, _<_}
+use mathlib.Core.Path.{_≡_, refl, sym, ap, _∙_}
+use mathlib.Core.List.{List, [], _∷_}
+use native.Mathlib.Omega.{arith}
+use native.Mathlib.Decide.{decLt}
+use lib.Dec.{ltb}
+use lib.ListN.{length, getD}
+use borrow.Author.Tests.{lt-ltb, le-ltb}
+use Rattle.model.specs.Words.{byteAt, littleEndian, wordOf, wordAt, overlay}
+use Rattle.model.proofs.WordLaws.{overlay-in}
+
+-- an element that is there does not depend on the default
+any-default : (bs : List ℕ) (j d : ℕ) → j < length bs → getD bs j 0 ≡ getD bs j d
+any-default [] j d h = let z : ⊥ = omega arith in absurd z
+any-default (b ∷ bs) zero d h = refl
+any-default (b ∷ bs) (suc j) d h = any-default bs j d (omega arith)
+
+-- a byte, and a word, that lies whole among the bytes
+pub byte-inside : (f : ℕ → ℕ) (a : ℕ) (bs : List ℕ) (i : ℕ) → a ≤ i → i - a < length bs → getD bs (i - a) 0 ≡ overlay f a bs i
+byte-inside f a bs i h l = any-default bs (i - a) (f i) l ∙ sym (overlay-in f a bs i h)
+
+number-inside : (n : ℕ) (f : ℕ → ℕ) (a : ℕ) (bs : List ℕ) (p q : ℕ) → a ≤ p → q ≡ p - a → q + n ≤ length bs
+    → littleEndian n (byteAt bs) q ≡ littleEndian n (overlay f a bs) p
+unfolding littleEndian
+number-inside zero f a bs p q h e l = refl
+number-inside (suc n) f a bs p q h e l =
+    let b : byteAt bs q ≡ overlay f a bs p = ap (byteAt bs) e ∙ byte-inside f a bs p h (omega arith) in
+    rw (b, number-inside n f a bs (suc p) (suc q) (omega arith) (omega arith) (omega arith))
+
+pub word-inside : (f : ℕ → ℕ) (a : ℕ) (bs : List ℕ) (p : ℕ) → a ≤ p → p - a + 8 ≤ length bs → wordAt bs (p - a) ≡ wordOf (overlay f a bs) p
+unfolding wordOf
+word-inside f a bs p h l = number-inside 8 f a bs p (p - a) h refl l
+
+-- the span's end, tested without a sum
+pub span-over : (offset len : ℕ) → offset ≤ 256 → ltb (256 - offset) len ≡ ltb 256 (offset + len)
+span-over offset len h = go (decLt 256 (offset + len))
+  where
+    go : Dec (256 < offset + len) → ltb (256 - offset) len ≡ ltb 256 (offset + len)
+    go (yes l) = lt-ltb (256 - offset) len (omega arith) ∙ sym (lt-ltb _ _ l)
+    go (no l) = le-ltb (256 - offset) len (omega arith) ∙ sym (le-ltb 256 (offset + len) (omega arith))
