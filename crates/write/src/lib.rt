@@ -13,7 +13,7 @@ ghost use lib.ListN.{length};
 ghost use Rattle.model.specs.Words.{byteAt, wordOf, overlay};
 ghost use Rattle.model.specs.Layout.{mainAt, backupAt};
 ghost use Rattle.model.specs.Status.{codeOf, firstError};
-ghost use Rattle.model.specs.Container.{activeLine, activeState};
+ghost use Rattle.model.specs.Container.{activeState};
 ghost use Rattle.model.specs.Session.{dirtyWord, withDirty, validSession};
 ghost use Rattle.model.specs.Ops.{sfence, storeByte, wordPlace, Gives};
 ghost use Rattle.model.specs.Open.{copySegment};

@@ -1,0 +1,101 @@
+use mathlib.Core.Path.{_∙_}
+use Rattle.words.proofs.Joined.{word-joined}
+use borrow.Author.Needs.{needs}
+use Rattle.checkpoint.proofs.next_word.Statement.{statement}
+use Rattle.checkpoint.proofs.next_word.Tie as tie
+
+mul-i : tie.Need-mul-i
+mul-i c = search needs
+
+next-state-requires : tie.Need-next-state-requires
+next-state-requires c κs = search needs
+
+add-next-state : tie.Need-add-next-state
+add-next-state c = search needs
+
+next-state-requires-2 : tie.Need-next-state-requires-2
+next-state-requires-2 c κs = search needs
+
+add-next-state-2 : tie.Need-add-next-state-2
+add-next-state-2 c = search needs
+
+next-state-requires-3 : tie.Need-next-state-requires-3
+next-state-requires-3 c κs = search needs
+
+add-next-state-3 : tie.Need-add-next-state-3
+add-next-state-3 c = search needs
+
+next-state-requires-4 : tie.Need-next-state-requires-4
+next-state-requires-4 c κs = search needs
+
+add-next-state-4 : tie.Need-add-next-state-4
+add-next-state-4 c = search needs
+
+next-state-requires-5 : tie.Need-next-state-requires-5
+next-state-requires-5 c κs = search needs
+
+add-next-state-5 : tie.Need-add-next-state-5
+add-next-state-5 c = search needs
+
+next-state-requires-6 : tie.Need-next-state-requires-6
+next-state-requires-6 c κs = search needs
+
+add-next-state-6 : tie.Need-add-next-state-6
+add-next-state-6 c = search needs
+
+next-state-requires-7 : tie.Need-next-state-requires-7
+next-state-requires-7 c κs = search needs
+
+add-next-state-7 : tie.Need-add-next-state-7
+add-next-state-7 c = search needs
+
+next-state-requires-8 : tie.Need-next-state-requires-8
+next-state-requires-8 c κs = search needs
+
+join-requires : tie.Need-join-requires
+join-requires c κs = search needs
+
+returns : tie.Need-returns
+returns c =
+    let p₇ = c .before in
+    let p₆ = p₇ .before in
+    let p₅ = p₆ .before in
+    let p₄ = p₅ .before in
+    let p₃ = p₄ .before in
+    let p₂ = p₃ .before in
+    let p₁ = p₂ .before in
+    let p₀ = p₁ .before in
+    (rw (
+      p₀ .next-state .ensures,
+      p₁ .next-state2 .ensures,
+      p₂ .next-state3 .ensures,
+      p₃ .next-state4 .ensures,
+      p₄ .next-state5 .ensures,
+      p₅ .next-state6 .ensures,
+      p₆ .next-state7 .ensures,
+      p₇ .next-state8 .ensures,
+    ) at (c .join .ensures))
+    ∙ word-joined _ _
+
+pub next-word-spec : {M : Type 1} → statement M
+next-word-spec =
+    tie.close
+    (tie.spec
+    mul-i
+    next-state-requires
+    add-next-state
+    next-state-requires-2
+    add-next-state-2
+    next-state-requires-3
+    add-next-state-3
+    next-state-requires-4
+    add-next-state-4
+    next-state-requires-5
+    add-next-state-5
+    next-state-requires-6
+    add-next-state-6
+    next-state-requires-7
+    add-next-state-7
+    next-state-requires-8
+    join-requires
+    returns)
