@@ -2,20 +2,19 @@
 use Prim.Native.Nat.{ℕ, _+_, _-_, _*_, _^_, _≤_, _<_}
 use mathlib.Core.Path.{_≡_, sym, ap, _∙_}
 use mathlib.Core.Logic.{_≢_}
-use mathlib.Core.Bool.{Bool, true, false, not, cond, _&&_}
+use mathlib.Core.Bool.{Bool, true, not}
 use mathlib.Core.List.{[], _∷_, _++_}
 use native.Mathlib.Omega.{arith}
 use native.Mathlib.Nat.{add-sub-cancel-left}
 use lib.Dec.{ltb, eqb}
 use lib.ListN.{length, getD, take, drop, length-append, length-take, length-drop}
-use borrow.Author.Tests.{lt-ltb, ltb-true, ltb-false, eqb-false, not-false}
+use borrow.Author.Tests.{lt-ltb, ltb-true, ltb-false, eqb-false}
 use Rattle.model.specs.declared.Session.{Session}
-use Rattle.model.specs.Range.{allB}
 use Rattle.model.specs.Words.{Image, byteAt, wordOf}
 use Rattle.model.specs.Status.{firstError}
 use Rattle.model.specs.Container.{committedEpoch, activeLine, inactiveLine, activeState, containerErrors}
 use Rattle.model.specs.Session.{bit, dirtyWord, dirtySegment, validSession}
-use Rattle.model.specs.Ops.{clwb, sfence, Ops, Trace, traceShort, stores}
+use Rattle.model.specs.Ops.{clwb, sfence, Trace, traceShort, stores}
 use Rattle.model.specs.Checkpoint.{flushDirty, nextState, nextStates, statesOps, epochOps, checkpointOps, checkpointErrors, checkpointStatus}
 use Rattle.model.proofs.Range.{and-left, and-right, all-at}
 use Rattle.model.proofs.Refusals.{before-refused, served-cons}
@@ -25,7 +24,7 @@ use Rattle.model.proofs.Counts.{length-stores}
 use Rattle.trace.specs.Emit.{emit}
 use Rattle.trace.proofs.EmitLaws.{emitted-then, emitted-cons}
 use Rattle.session.proofs.Laws.{valid-session-part}
-use Rattle.checkpoint.proofs.CallLaws.{sizes-known, code-within}
+use Rattle.trace.proofs.CallLaws.{sizes-known, code-within}
 
 -- ---- operations
 
@@ -36,7 +35,7 @@ unfolding statesOps dirtySegment
 states-written s I from to p q = rw (p, q)
 
 -- 9 operations for the states, 2 for the epoch, 3 fences
-pub length-states : (s : Session) (I : Image) → length (statesOps s I) ≡ 9
+length-states : (s : Session) (I : Image) → length (statesOps s I) ≡ 9
 unfolding statesOps
 length-states s I =
     length-append (stores 8 (inactiveLine I) (λ k. wordOf (nextStates s I) (8 * k))) (clwb (inactiveLine I) ∷ [])

@@ -5,23 +5,16 @@ use mathlib.Core.Logic.{_≢_, ⊎-elim}
 use mathlib.Core.Bool.{true, false}
 use mathlib.Core.List.{_++_, append-nil}
 use native.Mathlib.Omega.{arith}
-use native.Mathlib.Nat.{mul-le-mul}
 use lib.ListN.{length, take, drop, replicate, replicate-append-replicate}
 use lib.Seq.{drop-length}
 use borrow.Author.Tests.{eqb-true, ne-eqb, not-false}
 use Rattle.model.specs.declared.Layout.{Layout}
 use Rattle.model.specs.Words.{Image, bytesOf, storeWord}
-use Rattle.model.specs.Layout.{layoutOf, sizesOk, SizesOk, segmentSize, imageSize}
+use Rattle.model.specs.Layout.{sizesOk, segmentSize, imageSize}
 use Rattle.model.specs.Status.{firstError}
 use Rattle.model.specs.Container.{sizeErrors}
 use Rattle.model.specs.Format.{container, formatted, formatOutcome}
 use Rattle.model.proofs.Refusals.{served-none, format-numbers}
-
--- ---- the size of an image
-
-pub segments-most : (mains backups blocks : ℕ) → SizesOk (layoutOf mains backups blocks) → 256 * blocks * (mains + backups) ≤ 2097152
-segments-most mains backups blocks h =
-    mul-le-mul {n₁ = 256 * blocks} {m₁ = mains + backups} {n₂ = 16384} {m₂ = 128} (omega (arith, h .2)) (omega (arith, h .0, h .1))
 
 -- ---- filling
 

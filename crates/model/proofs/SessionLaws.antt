@@ -11,7 +11,7 @@ use lib.Arith.{bin-ind}
 use lib.Bits.{bitOr, or-shr, or-mod, or-zero-r}
 use lib.Pow.{pow-pos, pow-lt, pow-mono, pow-add, shr-shr}
 use lib.Dec.{ltb, eqb}
-use lib.ListN.{length, getD, replicate, length-set, getD-replicate, List·getD-eq-default}
+use lib.ListN.{length, List·getD-eq-default}
 use lib.Seq.{getD-set-same, getD-set-other}
 use borrow.Author.Tests.{lt-ltb, ltb-true, ltb-false, eqb-true, eqb-false, eq-eqb, ne-eqb, not-true}
 use Rattle.model.specs.declared.Layout.{Layout}
@@ -125,10 +125,6 @@ module _ (s : Session) (i b m : ℕ) where
   pub dirty-block-other : (u : ℕ) → u ≢ i → (f : ℕ) → dirtyBlock (withDirty s i b m) u f ≡ dirtyBlock s u f
   unfolding dirtyBlock
   dirty-block-other u n f = ap (λ (w : ℕ). eqb (bit w f) 1) (dirty-word-other u n)
-
-  pub dirty-length : length (withDirty s i b m .«dirty_blocks») ≡ length (s .«dirty_blocks»)
-  unfolding withDirty
-  dirty-length = length-set (s .«dirty_blocks») i (setBit m b)
 
 -- a word without bits
 no-bit : (f : ℕ) → eqb (bit 0 f) 1 ≡ false

@@ -12,7 +12,7 @@ use borrow.Author.Tests.{lt-ltb, eq-eqb}
 use Rattle.model.specs.Range.{cat}
 use Rattle.model.specs.Words.{Image}
 use Rattle.model.specs.Layout.{wordSize, lineSize}
-use Rattle.model.specs.Status.{firstError, served}
+use Rattle.model.specs.Status.{firstError}
 use Rattle.model.specs.Ops.{Op, store, clwb, sfence, Ops, Trace, triple, encode, opOf, decode, written, replay}
 use Rattle.model.specs.Replay.{wellFormed, allWellFormed, replayCount, replayedOps, replayStatus, replayOutcome}
 use Rattle.model.specs.History.{reported, playedOps, replayedImage}
@@ -191,11 +191,3 @@ module _ (I : Image) (O : Ops) (t : Trace) (p : ℕ) (whole : length I % lineSiz
 pub played-none : (I : Image) (t : Trace) (p : ℕ) → playedOps I [] t p ≡ []
 unfolding playedOps replayedOps encode decode
 played-none I t p = rw (reported-is [] t, take-nil {A = ℕ} (3 * replayOutcome I (encode []) p .played))
-
-pub replayed-none : (I : Image) (t : Trace) (p : ℕ) → replayedImage I [] t p ≡ I
-unfolding replayedImage replayOutcome replayedOps encode decode replay
-replayed-none I t p = rw (reported-is [] t, take-nil {A = ℕ} (3 * replayCount [] p)) (go (served (replayStatus I [] p)))
-  where
-    go : (b : Bool) → cond b I I ≡ I
-    go true = refl
-    go false = refl

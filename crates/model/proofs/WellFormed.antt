@@ -15,7 +15,7 @@ use Rattle.model.specs.Layout.{wordSize, lineSize, blockSize, metadataSi
 use Rattle.model.specs.Status.{served}
 use Rattle.model.specs.Container.{committedEpoch, activeLine, inactiveLine, segState, backupToMain, isPaired, pairedBackup, byState}
 use Rattle.model.specs.Session.{dirtyBlock}
-use Rattle.model.specs.Ops.{traceShort, clwb, sfence, Ops, Trace, stores, clwbs, putBlock, persistCopy, persistZero, storeByte}
+use Rattle.model.specs.Ops.{clwb, sfence, Ops, Trace, stores, clwbs, putBlock, persistCopy, persistZero, storeByte}
 use Rattle.model.specs.Open.{recoveryAction, copySegment, zeroSegment, actionOps, recoverSegment, recoveryOps, openStatus, openOutcome}
 use Rattle.model.specs.Write.{WriteArgs, needsCopy, needsBackup, pairOps, copyDirty, backupOps, stateOps, copyOnWriteOps, spanOps, writeOps, spanBad, writeStatus, writeOutcome, Chosen}
 use Rattle.model.specs.Checkpoint.{flushDirty, nextStates, statesOps, epochOps, checkpointOps, checkpointStatus, checkpointOutcome}
@@ -214,31 +214,6 @@ pub call-ok : (s : State) (c : Call) → Permitted s c → AllOk (length (s .ima
 call-ok s (callOpen l t) h = open-ok l (s .image) t
 call-ok s (callWrite w t j) h = write-outcome-ok (s .session) (s .image) w t j (h .1)
 call-ok s (callCheckpoint t) h = checkpoint-outcome-ok (s .session) (s .image) t
-
--- ---- the operations of a call fit its trace
-
-fits : (e : ℕ) (O : Ops) (t : Trace) → (e ≡ 0 → traceShort O t ≡ false) → 3 * length (cond (served e) O []) ≤ length t
-unfolding traceShort
-fits e O t h = go (served e) refl
-  where
-    go : (b : Bool) → served e ≡ b → 3 * length (cond b O []) ≤ length t
-    go true q = ltb-false (length t) (3 * length O) (h (eqb-true e 0 q))
-    go false q = omega arith
-
-pub open-fits : (l : Layout) (I : Image) (t : Trace) → 3 * length (openOutcome l I t .ops) ≤ length t
-unfolding openOutcome openStatus
-open-fits l I t =
-    fits (openStatus l I t) (recoveryOps l I (activeLine I)) t (λ h. served-none ((11, traceShort (recoveryOps l I (activeLine I)) t) ∷ []) (omega arith) (container-then l I _ h .1) .0)
-
-pub write-fits : (s : Session) (I : Image) (w : WriteArgs) (j : ℕ) (t : Trace) → 3 * length (writeOutcome s I w j t .ops) ≤ length t
-unfolding writeOutcome writeStatus
-write-fits s I w j t =
-    fits (writeStatus s I w j t) (writeOps s I w j) t (λ h. served-none _ (omega arith) (container-then (s .layout) I _ h .1) .1 .1 .1 .1 .1 .0)
-
-pub checkpoint-fits : (s : Session) (I : Image) (t : Trace) → 3 * length (checkpointOutcome s I t .ops) ≤ length t
-unfolding checkpointOutcome checkpointStatus
-checkpoint-fits s I t =
-    fits (checkpointStatus s I t) (checkpointOps s I) t (λ h. served-none _ (omega arith) (container-then (s .layout) I _ h .1) .1 .1 .0)
 
 pub replay-serves-all : ReplayServesAll
 replay-serves-all s c whole permitted p = (replay-serves _ _ _ p whole (call-ok s c permitted), played-ops _ _ _ p whole (call-ok s c permitted))

@@ -22,7 +22,7 @@ use Rattle.model.specs.Open.{recoveryAction, copySegment, zeroSegment, actionOp
 use Rattle.model.proofs.Refusals.{before-refused, served-cons}
 use Rattle.model.proofs.Metadata.{container-ok, container-passes, container-then}
 use Rattle.model.proofs.Counts.{sumTo, acts, treated, sum-ext}
-use Rattle.open.proofs.CallLaws.{code-within}
+use Rattle.trace.proofs.CallLaws.{code-within}
 
 -- ---- the table
 

@@ -102,7 +102,7 @@ low-cleared m n h k =
     let split : 18446744073709551615 ≡ (2 ^ n - 1) * 2 ^ (64 - n) + (2 ^ (64 - n) - 1) = ap (λ (w : ℕ). 2 ^ w - 1) (sym e) ∙ ones-split n (64 - n) in
     let low : 18446744073709551615 / 2 ^ (64 - n) ≡ 2 ^ n - 1 = ap (λ (w : ℕ). w / 2 ^ (64 - n)) split ∙ high (2 ^ n - 1) (64 - n) (ones-lt (64 - n)) in
     let mask : 18446744073709551615 - 18446744073709551615 / 2 ^ (64 - n) ≡ 2 ^ (64 - n + n) - 2 ^ n =
-      ap (λ (w : ℕ). 18446744073709551615 - w) low ∙ omega (arith, pow-pos n, ap (λ (w : ℕ). 2 ^ w) d) in
+    ap (λ (w : ℕ). 18446744073709551615 - w) low ∙ omega (arith, pow-pos n, ap (λ (w : ℕ). 2 ^ w) d) in
     ap (bitAnd m) mask ∙ and-high m (64 - n) n ∙ ap (λ (w : ℕ). w % 2 ^ (64 - n) * 2 ^ n) (div-eq-of-lt k) ∙ zero-of n
   where
     zero-of : (n : ℕ) → 0 % 2 ^ (64 - n) * 2 ^ n ≡ 0

@@ -4,13 +4,13 @@ use mathlib.Core.Bool.{not}
 use native.Mathlib.Omega.{arith}
 use lib.ListN.{length}
 use borrow.Author.Tests.{lt-ltb, le-ltb, eq-eqb, ne-eqb, not-false}
+use borrow.Author.Needs.{needs}
 use Rattle.model.specs.Ops.{traceShort}
 use Rattle.model.specs.Checkpoint.{checkpointOps}
 use Rattle.model.proofs.Counts.{length-checkpoint-ops}
 use Rattle.metadata.proofs.Laws.{first-holds, first-fails, first-of-none}
-use Rattle.checkpoint.proofs.CallLaws.{sizes-known}
+use Rattle.trace.proofs.CallLaws.{sizes-known}
 use Rattle.checkpoint.proofs.Laws.{length-line, valid-tested, words-within, refused-early, refused-later}
-use borrow.Author.Needs.{needs}
 use Rattle.checkpoint.proofs.checkpoint_status.Statement.{statement}
 use Rattle.checkpoint.proofs.checkpoint_status.Tie as tie
 

@@ -1,9 +1,9 @@
 use mathlib.Core.Path.{refl, sym, _∙_}
 use native.Mathlib.Omega.{arith}
-use Rattle.model.specs.Checkpoint.{checkpointOutcome}
-use Rattle.checkpoint.proofs.CallLaws.{gives-refused, gives-served}
-use Rattle.checkpoint.proofs.Laws.{length-all, status-within, ready}
 use borrow.Author.Needs.{needs}
+use Rattle.model.specs.Checkpoint.{checkpointOutcome}
+use Rattle.trace.proofs.CallLaws.{gives-refused, gives-served}
+use Rattle.checkpoint.proofs.Laws.{length-all, status-within, ready}
 use Rattle.checkpoint.proofs.crpm_checkpoint.Statement.{statement}
 use Rattle.checkpoint.proofs.crpm_checkpoint.Tie as tie
 

@@ -3,6 +3,7 @@ use mathlib.Core.Path.{_≡_}
 use mathlib.Core.List.{List}
 use native.Mathlib.Omega.{arith}
 use lib.ListN.{length, getD}
+use borrow.Author.Needs.{needs}
 use Rattle.model.specs.declared.Layout.{Layout}
 use Rattle.model.specs.Range.{cat}
 use Rattle.model.specs.Layout.{mainAt}
@@ -14,8 +15,7 @@ use Rattle.trace.specs.Emit.{emit}
 use Rattle.trace.proofs.EmitLaws.{emitted-none, emitted-more}
 use Rattle.blocks.specs.Dirty.{dirtyBlocks, eachDirty}
 use Rattle.blocks.proofs.DirtyLaws.{length-each}
-use Rattle.checkpoint.proofs.CallLaws.{length-none, length-more, room-more}
-use borrow.Author.Needs.{needs}
+use Rattle.trace.proofs.CallLaws.{length-none, length-more, room-more}
 use Rattle.checkpoint.proofs.flush_dirty.Statement.{statement}
 use Rattle.checkpoint.proofs.flush_dirty.Tie as tie
 

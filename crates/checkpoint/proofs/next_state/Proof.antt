@@ -1,6 +1,6 @@
 use mathlib.Core.Path.{sym, _∙_}
-use Rattle.model.specs.Checkpoint.{nextState}
 use borrow.Author.Needs.{needs}
+use Rattle.model.specs.Checkpoint.{nextState}
 use Rattle.checkpoint.proofs.next_state.Statement.{statement}
 use Rattle.checkpoint.proofs.next_state.Tie as tie
 

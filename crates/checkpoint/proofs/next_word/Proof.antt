@@ -1,8 +1,14 @@
-use mathlib.Core.Path.{_∙_}
-use Rattle.words.proofs.Joined.{word-joined}
+use Prim.Native.Nat.{ℕ, _+_}
+use mathlib.Core.Path.{_≡_, _∙_}
+use mathlib.Core.List.{[], _∷_}
 use borrow.Author.Needs.{needs}
+use Rattle.model.specs.Words.{wordOf, wordAt}
+use Rattle.words.proofs.Joined.{word-joined}
 use Rattle.checkpoint.proofs.next_word.Statement.{statement}
 use Rattle.checkpoint.proofs.next_word.Tie as tie
+
+by-joined : (f : ℕ → ℕ) (p w : ℕ) → w ≡ wordAt (f p ∷ f (p + 1) ∷ f (p + 2) ∷ f (p + 3) ∷ f (p + 4) ∷ f (p + 5) ∷ f (p + 6) ∷ f (p + 7) ∷ []) 0 → w ≡ wordOf f p
+by-joined f p w e = e ∙ word-joined f p
 
 mul-i : tie.Need-mul-i
 mul-i c = search needs
@@ -65,7 +71,7 @@ returns c =
     let p₂ = p₃ .before in
     let p₁ = p₂ .before in
     let p₀ = p₁ .before in
-    (rw (
+    by-joined _ _ _ (rw (
       p₀ .next-state .ensures,
       p₁ .next-state2 .ensures,
       p₂ .next-state3 .ensures,
@@ -75,7 +81,6 @@ returns c =
       p₆ .next-state7 .ensures,
       p₇ .next-state8 .ensures,
     ) at (c .join .ensures))
-    ∙ word-joined _ _
 
 pub next-word-spec : {M : Type 1} → statement M
 next-word-spec =

@@ -1,5 +1,5 @@
-use Rattle.checkpoint.proofs.Laws.{checkpoint-written}
 use borrow.Author.Needs.{needs}
+use Rattle.checkpoint.proofs.Laws.{checkpoint-written}
 use Rattle.checkpoint.proofs.put_checkpoint.Statement.{statement}
 use Rattle.checkpoint.proofs.put_checkpoint.Tie as tie
 

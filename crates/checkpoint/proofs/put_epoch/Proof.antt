@@ -1,9 +1,9 @@
 use Prim.Native.Nat.{_+_}
 use native.Mathlib.Omega.{arith}
 use native.Mathlib.Numerals.{add-one}
+use borrow.Author.Needs.{needs}
 use Rattle.model.specs.Checkpoint.{epochOps}
 use Rattle.trace.proofs.EmitLaws.{emitted-cons}
-use borrow.Author.Needs.{needs}
 use Rattle.checkpoint.proofs.put_epoch.Statement.{statement}
 use Rattle.checkpoint.proofs.put_epoch.Tie as tie
 

@@ -1,8 +1,9 @@
 use Prim.Native.Nat.{ℕ, _+_, _-_, _*_, _≤_}
-use mathlib.Core.Path.{_≡_, ap, _∙_}
+use mathlib.Core.Path.{_≡_, sym}
 use native.Mathlib.Omega.{arith}
 use lib.Dec.{eqb}
 use lib.ListN.{length}
+use borrow.Author.Needs.{needs}
 use Rattle.model.specs.Words.{Image, byteAt, wordOf}
 use Rattle.model.specs.Session.{bit}
 use Rattle.model.specs.Ops.{stores}
@@ -10,8 +11,8 @@ use Rattle.model.specs.Checkpoint.{nextState}
 use Rattle.model.proofs.Counts.{length-stores}
 use Rattle.trace.specs.Emit.{emit}
 use Rattle.trace.proofs.EmitLaws.{emitted-none, emitted-more, emitted-then}
+use Rattle.trace.proofs.CallLaws.{emitted-as}
 use Rattle.checkpoint.proofs.Laws.{states-written}
-use borrow.Author.Needs.{needs}
 use Rattle.checkpoint.proofs.put_states.Statement.{statement}
 use Rattle.checkpoint.proofs.put_states.Tie as tie
 
@@ -89,8 +90,9 @@ returns c =
     let g = b .before .before .before .before .before .args in
     let w = nextWord (g .image .now) (a .result) (g .session .«dirty_segments») in
     let e : b .loop .k ≡ 8 = omega arith in
-    emitted-then _ _ _ _ _ _ (g .n + 8) (rw e at (b .loop .inv .2)) (c .before .before .put-clwb .ensures) (omega (arith, length-stores 8 (i .result) w))
-    ∙ ap (emit (g .trace .now) (g .n)) (states-written (g .session) (g .image .now) (a .result) (i .result) (a .ensures .0) (i .ensures .0))
+    emitted-as _ _ _ _ _
+    (emitted-then _ _ _ _ _ _ (g .n + 8) (rw e at (b .loop .inv .2)) (c .before .before .put-clwb .ensures) (omega (arith, length-stores 8 (i .result) w)))
+    (sym (states-written (g .session) (g .image .now) (a .result) (i .result) (a .ensures .0) (i .ensures .0)))
 
 pub put-states-spec : {M : Type 1} → statement M
 put-states-spec =

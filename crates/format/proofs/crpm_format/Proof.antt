@@ -1,8 +1,13 @@
-use mathlib.Core.Path.{sym, _∙_}
+use mathlib.Core.Path.{sym, ap, _∙_}
 use borrow.Author.Needs.{needs}
+use Rattle.model.specs.declared.Layout.{Layout}
+use Rattle.model.specs.Format.{formatOutcome}
 use Rattle.format.proofs.Laws.{status-most, refused, served-sizes, served-image}
 use Rattle.format.proofs.crpm_format.Statement.{statement}
 use Rattle.format.proofs.crpm_format.Tie as tie
+
+new-requires : tie.Need-new-requires
+new-requires c κs = search needs
 
 format-status-requires : tie.Need-format-status-requires
 format-status-requires c κs = search needs
@@ -16,7 +21,11 @@ same-length c = search needs
 returns : tie.Need-returns
 returns c =
     let s = c .before .before .format-status .ensures in
-    (c .of .ensures ∙ s, refused _ _ (λ e. c .before .if1 .taken (s ∙ e)))
+    let n = c .before .before .before .before in
+    let I = n .before .before .args .image .now in (
+      c .of .ensures ∙ s ∙ ap (λ (l : Layout). formatOutcome l I .status) (n .new .ensures),
+      refused (n .new .result) I (λ e. c .before .if1 .taken (s ∙ e)) ∙ ap (λ (l : Layout). formatOutcome l I .image) (n .new .ensures),
+    )
 
 write-formatted-requires : tie.Need-write-formatted-requires
 write-formatted-requires c κs = served-sizes _ _ (sym (c .before .before .format-status .ensures) ∙ c .before .if1 .left)
@@ -28,12 +37,18 @@ returns-2 : tie.Need-returns-2
 returns-2 c =
     let b = c .before .before .before .before in
     let s = b .before .format-status .ensures in
-    (sym (b .if1 .left) ∙ s, c .before .before .write-formatted .ensures ∙ served-image _ _ (sym s ∙ b .if1 .left))
+    let n = b .before .before .before in
+    let I = n .before .before .args .image .now in (
+      sym (b .if1 .left) ∙ s ∙ ap (λ (l : Layout). formatOutcome l I .status) (n .new .ensures),
+      c .before .before .write-formatted .ensures ∙ served-image (n .new .result) I (sym s ∙ b .if1 .left)
+          ∙ ap (λ (l : Layout). formatOutcome l I .image) (n .new .ensures),
+    )
 
 pub crpm-format-spec : {M : Type 1} → statement M
 crpm-format-spec =
     tie.close
     (tie.spec
+    new-requires
     format-status-requires
     of-requires
     same-length

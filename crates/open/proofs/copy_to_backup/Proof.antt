@@ -1,3 +1,4 @@
+use Prim.Native.Nat.{_+_}
 use native.Mathlib.Omega.{arith}
 use borrow.Author.Needs.{needs}
 use Rattle.model.specs.Container.{backupToMain}
@@ -27,7 +28,9 @@ copy-segment-requires c κs =
     let I = g .args .image .now in
     let p = paired-at l (backupToMain I) (g .args .i) (g .pre .1 .0 .1) in
     let j = c .before .before .find-paired-backup .ensures .0 in
-    (omega arith, (omega (arith, segment-in-image l (g .args .i) (omega arith)), (omega arith, omega arith)))
+    let m = segment-in-image l (g .args .i) (omega arith) in
+    let b = segment-in-image l (l .mains + c .before .before .find-paired-backup .result) (omega (arith, j, p .0)) in
+    (omega arith, (omega arith, (omega arith, omega arith)))
 
 mul-result : tie.Need-mul-result
 mul-result c = search needs

@@ -3,7 +3,7 @@ use native.Mathlib.Omega.{arith}
 use borrow.Author.Needs.{needs}
 use Rattle.model.specs.Session.{freshSession, zeroSession}
 use Rattle.model.specs.Open.{openOutcome}
-use Rattle.open.proofs.CallLaws.{gives-refused, gives-served}
+use Rattle.trace.proofs.CallLaws.{gives-refused, gives-served}
 use Rattle.open.proofs.Laws.{status-within, ready}
 use Rattle.open.proofs.crpm_open.Statement.{statement}
 use Rattle.open.proofs.crpm_open.Tie as tie

@@ -10,7 +10,7 @@ use Rattle.model.specs.Open.{recoveryOps}
 use Rattle.model.proofs.Metadata.{container-ok}
 use Rattle.model.proofs.Counts.{length-recovery}
 use Rattle.metadata.proofs.Laws.{first-holds, first-fails, first-of-none}
-use Rattle.open.proofs.CallLaws.{sizes-known}
+use Rattle.trace.proofs.CallLaws.{sizes-known}
 use Rattle.open.proofs.Laws.{refused-early, refused-later}
 use Rattle.open.proofs.open_status.Statement.{statement}
 use Rattle.open.proofs.open_status.Tie as tie

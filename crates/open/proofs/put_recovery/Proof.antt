@@ -12,7 +12,7 @@ use Rattle.model.specs.Open.{recoverSegment, recoveryOps}
 use Rattle.model.proofs.Places.{metadata-inside}
 use Rattle.trace.specs.Emit.{emit}
 use Rattle.trace.proofs.EmitLaws.{emitted-none, emitted-more, emitted-then}
-use Rattle.open.proofs.CallLaws.{length-none, length-more, room-more}
+use Rattle.trace.proofs.CallLaws.{length-none, length-more, room-more}
 use Rattle.open.proofs.Laws.{length-recovered}
 use Rattle.open.proofs.put_recovery.Statement.{statement}
 use Rattle.open.proofs.put_recovery.Tie as tie

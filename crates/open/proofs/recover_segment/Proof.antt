@@ -7,7 +7,7 @@ use Rattle.model.specs.Container.{backupToMain, pairedBackup}
 use Rattle.model.specs.Open.{copySegment}
 use Rattle.model.proofs.Counts.{length-copy-segment, length-zero-segment}
 use Rattle.trace.proofs.EmitLaws.{emit-nil}
-use Rattle.open.proofs.CallLaws.{emitted-as}
+use Rattle.trace.proofs.CallLaws.{emitted-as}
 use Rattle.open.proofs.Laws.{copies, recovers-nothing, recovers-zeros, recovers-backup, recovers-main, paired-copied}
 use Rattle.open.proofs.recover_segment.Statement.{statement}
 use Rattle.open.proofs.recover_segment.Tie as tie

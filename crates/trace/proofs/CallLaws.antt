@@ -35,7 +35,7 @@ pub length-more : (i : ℕ) (f : ℕ → Ops) → length (cat (i + 1) f) ≡ len
 unfolding cat
 length-more i f = rw add-one (length-append (cat i f) (f i))
 
--- what all turns need is room for the next turn
+-- room for all turns is room for the next one
 pub room-more : (i n : ℕ) (f : ℕ → Ops) → i < n → length (cat i f) + length (f i) ≤ length (cat n f)
 unfolding cat
 room-more i zero f h = omega arith
@@ -44,6 +44,10 @@ room-more i (suc n) f h =
       | yes l ↦ omega (arith, length-append (cat n f) (f n), room-more i n f l)
       | no l ↦ (let e : i ≡ n = omega arith in rw e (omega (arith, length-append (cat n f) (f n))))
     ]
+
+-- operations in another form
+pub emitted-as : (t after : Trace) (n : ℕ) (O E : Ops) → after ≡ emit t n O → E ≡ O → after ≡ emit t n E
+emitted-as t after n O E p e = p ∙ ap (emit t n) (sym e)
 
 -- ---- refusals 1 to 4 do not apply
 

@@ -1,0 +1,33 @@
+use native.Mathlib.Omega.{arith}
+use borrow.Author.Needs.{needs}
+use Rattle.model.specs.Checkpoint.{checkpointOutcome}
+use Rattle.driver.proofs.Laws.{part-inside, stepped-checkpoint}
+use Rattle.driver.proofs.step_checkpoint.Statement.{statement}
+use Rattle.driver.proofs.step_checkpoint.Tie as tie
+
+crpm-checkpoint-requires : tie.Need-crpm-checkpoint-requires
+crpm-checkpoint-requires c κs = search needs
+
+play-reported-requires : tie.Need-play-reported-requires
+play-reported-requires c κs =
+    let r = c .before .before .before .before in
+    let a = r .before .before .before .before .before .args in
+    omega (arith, part-inside (checkpointOutcome (a .session) (a .image .now) (a .trace .now)) (a .trace .now) (r .crpm-checkpoint .result) _ (r .crpm-checkpoint .ensures))
+
+same-length : tie.Need-same-length
+same-length c = search needs
+
+same-length-2 : tie.Need-same-length-2
+same-length-2 c = search needs
+
+returns : tie.Need-returns
+returns c =
+    let p = c .before .before in
+    let r = p .before .before .before .before .before in
+    let a = r .before .before .before .before .before .args in
+    stepped-checkpoint (a .image .now) (a .session) (a .trace .now) (r .crpm-checkpoint .result) _ _ (p .play-reported .ensures) (r .crpm-checkpoint .ensures)
+
+pub step-checkpoint-spec : {M : Type 1} → statement M
+step-checkpoint-spec =
+    tie.close
+    (tie.spec crpm-checkpoint-requires play-reported-requires same-length same-length-2 returns)

@@ -1,0 +1,63 @@
+// One call of a history: the call, then the replay of the operations that it reports. Its contracts are the history's step,
+// of which crash safety is proved.
+use model::Answer;
+use model::Session;
+ghost use mathlib.Core.Path.{_≡_};
+ghost use Prim.Native.Nat.{ℕ, _*_, _≤_};
+ghost use lib.ListN.{length, take};
+ghost use Rattle.model.specs.declared.Session.{Session};
+ghost use Rattle.model.specs.Layout.{layoutOf};
+ghost use Rattle.model.specs.Replay.{replayOutcome};
+ghost use Rattle.model.specs.History.{callOpen, callWrite, callCheckpoint};
+ghost use Rattle.write.specs.Steps.{writeArgsOf};
+ghost use Rattle.driver.specs.Stepped.{Stepped};
+
+// Replays the first `ops` operations of a trace: all that a call reports.
+pub fn play_reported(image: &mut [u8], trace: &[u64], ops: u64)
+    requires { ⌜ 3 * ops ≤ length (now trace) ⌝ }
+    ensures { λ _. ⌜ now (image .exit) ≡ replayOutcome (now (image .entry)) (take (3 * ops) (now (trace .entry))) ops .image ⌝ }
+{
+    let end = 3 * ops as usize;
+    replay::crpm_replay(image, &trace[..end], ops);
+}
+
+// An opening, replayed whole.
+pub fn step_open(
+    image: &mut [u8],
+    mains: u64,
+    backups: u64,
+    blocks: u64,
+    trace: &mut [u64],
+) -> Answer
+    ensures { λ r. ⌜ ((s : Session) → Stepped (now (image .entry)) s (callOpen (layoutOf mains backups blocks) (now (trace .entry))) r (now (trace .exit)) (now (image .exit))) ⌝ }
+{
+    let opened = open::crpm_open(image, mains, backups, blocks, trace);
+    play_reported(image, trace, opened.ops);
+    opened
+}
+
+// A write, replayed whole.
+pub fn step_write(
+    image: &mut [u8],
+    session: Session,
+    main: u64,
+    block: u64,
+    offset: u64,
+    bytes: &[u8],
+    trace: &mut [u64],
+) -> Answer
+    ensures { λ r. ⌜ ((j : ℕ) × Stepped (now (image .entry)) session (callWrite (writeArgsOf main block offset (now (bytes .entry))) (now (trace .entry)) j) r (now (trace .exit)) (now (image .exit))) ⌝ }
+{
+    let written = write::crpm_write(image, session, main, block, offset, bytes, trace);
+    play_reported(image, trace, written.ops);
+    written
+}
+
+// A checkpoint, replayed whole.
+pub fn step_checkpoint(image: &mut [u8], session: Session, trace: &mut [u64]) -> Answer
+    ensures { λ r. ⌜ Stepped (now (image .entry)) session (callCheckpoint (now (trace .entry))) r (now (trace .exit)) (now (image .exit)) ⌝ }
+{
+    let checkpointed = checkpoint::crpm_checkpoint(image, session, trace);
+    play_reported(image, trace, checkpointed.ops);
+    checkpointed
+}

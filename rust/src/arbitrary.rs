@@ -1,0 +1,328 @@
+//! Images, cards, tapes and calls of every kind, made from a fixed seed.
+//!
+//! Written from document 01 alone. Sound images have any states, pairs and
+//! epochs and rubbish in every byte that is not named; damage of each kind of
+//! refusal is put on top. Nothing here calls an implementation.
+
+use crate::book::{saved_bytes, Call, Deed};
+use crate::calls::*;
+use crate::prng::Rng;
+
+/// States of the levels and pairs of the spares of a sound image.
+#[derive(Clone, PartialEq, Eq, Debug)]
+pub struct Metadata {
+    pub states: Vec<u8>,
+    pub pairs: Vec<u8>,
+}
+
+/// Every sound choice of states and pairs.
+pub fn all_sound(sizes: Sizes) -> Vec<Metadata> {
+    let mut found = vec![Metadata { states: vec![], pairs: vec![] }];
+    for _ in 0..sizes.spares {
+        found = found.iter().flat_map(|m| with_one_more_pair(m, sizes.levels as u8)).collect();
+    }
+    for level in 0..sizes.levels as u8 {
+        let with_state = |m: &Metadata| {
+            let states: &[u8] = if m.pairs.contains(&level) { &[1, 2] } else { &[0, 1] };
+            states.iter().map(|s| add_state(m, *s)).collect::<Vec<_>>()
+        };
+        found = found.iter().flat_map(with_state).collect();
+    }
+    found
+}
+
+fn with_one_more_pair(metadata: &Metadata, levels: u8) -> Vec<Metadata> {
+    let open = (0..levels).filter(|level| !metadata.pairs.contains(level));
+    let pair = |byte| {
+        let mut next = metadata.clone();
+        next.pairs.push(byte);
+        next
+    };
+    open.chain([UNPAIRED]).map(pair).collect()
+}
+
+fn add_state(metadata: &Metadata, state: u8) -> Metadata {
+    let mut next = metadata.clone();
+    next.states.push(state);
+    next
+}
+
+/// An image of these metadata, the idle line filled with one byte, the rest
+/// laid out with zeros and the given level and spare bytes.
+pub fn image_of(sizes: Sizes, epoch: u64, metadata: &Metadata, idle: u8, data: &[u8]) -> Vec<u8> {
+    let mut image = vec![0; sizes.image_length()];
+    image[DATA..].copy_from_slice(data);
+    set_metadata(&mut image, sizes, epoch, metadata);
+    let line = if epoch.is_multiple_of(2) { ODD_STATES } else { EVEN_STATES };
+    image[line..line + LINE].fill(idle);
+    image
+}
+
+fn set_metadata(image: &mut [u8], sizes: Sizes, epoch: u64, metadata: &Metadata) {
+    put_word(image, EPOCH, epoch);
+    for (i, size) in [sizes.levels, sizes.spares, sizes.frames].into_iter().enumerate() {
+        put_word(image, HEADER + WORD * i, size);
+    }
+    let line = if epoch.is_multiple_of(2) { EVEN_STATES } else { ODD_STATES };
+    image[line..line + LINE].fill(0);
+    image[line..line + metadata.states.len()].copy_from_slice(&metadata.states);
+    image[PAIRS..PAIRS + LINE].fill(UNPAIRED);
+    image[PAIRS..PAIRS + metadata.pairs.len()].copy_from_slice(&metadata.pairs);
+}
+
+/// Level and spare bytes with every word different and none zero.
+pub fn distinct_data(sizes: Sizes) -> Vec<u8> {
+    let words = (sizes.image_length() - DATA) / WORD;
+    (1..=words as u64).flat_map(|i| (i * 0x0101_0101).to_le_bytes()).collect()
+}
+
+/// Level and spare bytes that are zero but for words 0, 7, 9 and 31 of a
+/// level's frame and 0 and 9 of a spare's: few stages, in three lines.
+pub fn sparse_data(sizes: Sizes) -> Vec<u8> {
+    let mut data = vec![0; sizes.image_length() - DATA];
+    let in_levels = sizes.page_length() / FRAME;
+    for (i, frame) in data.chunks_mut(FRAME).enumerate() {
+        let words: &[usize] = if i < in_levels { &[0, 7, 9, 31] } else { &[0, 9] };
+        for word in words {
+            frame[word * WORD] = (16 * i + word + 1) as u8;
+        }
+    }
+    data
+}
+
+pub fn sizes(rng: &mut Rng, most: usize) -> Sizes {
+    let mut one = || rng.range(1, most) as u64;
+    Sizes::new(one(), one(), one())
+}
+
+/// Sizes at the edges of the words and of the range.
+pub fn edge_sizes(rng: &mut Rng) -> Sizes {
+    let mut one = || rng.pick(&[1, 1, 2, 7, 8, 9, 63, 64]);
+    Sizes::new(one(), one(), one())
+}
+
+pub fn metadata(rng: &mut Rng, sizes: Sizes) -> Metadata {
+    let levels = sizes.levels as usize;
+    let mut open: Vec<u8> = (0..levels as u8).collect();
+    let often = rng.range(1, 4);
+    let pairs: Vec<u8> = (0..sizes.spares)
+        .map(|_| match open.is_empty() || rng.once_in(often) {
+            true => UNPAIRED,
+            false => open.swap_remove(rng.below(open.len())),
+        })
+        .collect();
+    let state = |level: usize| {
+        let paired = pairs.contains(&(level as u8));
+        if paired {
+            rng.pick(&[1, 2])
+        } else {
+            rng.pick(&[0, 1])
+        }
+    };
+    let states = (0..levels).map(state).collect();
+    Metadata { states, pairs }
+}
+
+pub fn epoch(rng: &mut Rng) -> u64 {
+    let any = rng.word();
+    rng.pick(&[0, 1, 2, 3, any, any, u64::MAX - 2, u64::MAX - 1, u64::MAX])
+}
+
+/// Any image that opening serves, with rubbish wherever nothing is named.
+pub fn sound_image(rng: &mut Rng, sizes: Sizes) -> Vec<u8> {
+    let mut image = rng.bytes(sizes.image_length());
+    let metadata = metadata(rng, sizes);
+    set_metadata(&mut image, sizes, epoch(rng), &metadata);
+    if rng.once_in(2) {
+        like_spares_and_levels(rng, &mut image, sizes, &metadata);
+    }
+    if rng.once_in(2) {
+        let line = if image[EPOCH].is_multiple_of(2) { ODD_STATES } else { EVEN_STATES };
+        image[line..line + LINE].iter_mut().for_each(|state| *state %= 3);
+    }
+    image
+}
+
+/// Another image with the same saved bytes as this sound one: other states
+/// and pairs, the rest rubbish.
+pub fn alike(rng: &mut Rng, image: &[u8], sizes: Sizes) -> Vec<u8> {
+    let mut other = rng.bytes(sizes.image_length());
+    let mut metadata = metadata(rng, sizes);
+    let length = FRAME * sizes.frames as usize;
+    for (level, saved) in saved_bytes(image, sizes).chunks(length).enumerate() {
+        let state = &mut metadata.states[level];
+        if *state == 0 && saved.iter().any(|byte| *byte != 0) {
+            *state = 1;
+        }
+        let start = match metadata.pairs.iter().position(|paired| *paired as usize == level) {
+            Some(spare) if *state == 2 => sizes.in_spare(spare, 0),
+            _ => sizes.in_level(level, 0),
+        };
+        if *state != 0 {
+            other[start..start + length].copy_from_slice(saved);
+        }
+    }
+    set_metadata(&mut other, sizes, epoch(rng), &metadata);
+    other
+}
+
+/// Makes some paired spares equal to their levels, and some empty levels zero.
+fn like_spares_and_levels(rng: &mut Rng, image: &mut [u8], sizes: Sizes, metadata: &Metadata) {
+    let length = FRAME * sizes.frames as usize;
+    for (spare, &level) in metadata.pairs.iter().enumerate() {
+        if level != UNPAIRED && rng.once_in(2) {
+            let from = sizes.in_level(level as usize, 0);
+            image.copy_within(from..from + length, sizes.in_spare(spare, 0));
+        }
+    }
+    for (level, state) in metadata.states.iter().enumerate() {
+        if *state == 0 && rng.once_in(2) {
+            image[sizes.in_level(level, 0)..][..length].fill(0);
+        }
+    }
+}
+
+/// Damages an image in one of every kind of way; the length may change too.
+pub fn damage(rng: &mut Rng, image: &mut Vec<u8>, sizes: Sizes) {
+    if image.len() < DATA + FRAME {
+        return;
+    }
+    let (levels, spares) = (sizes.levels as usize, sizes.spares as usize);
+    let byte = rng.word() as u8;
+    let state = rng.pick(&[0, 1, 2, 3, 254, 255]);
+    let any_level = rng.below(levels) as u8;
+    let pair = rng.pick(&[0, any_level, levels as u8, 64, 254, 255]);
+    match rng.below(10) {
+        0 => image[rng.range(HEADER, HEADER + 23)] = byte,
+        1 => put_word(image, HEADER + WORD * rng.below(3), rng.pick(&[0, 1, 64, 65, u64::MAX])),
+        2 => image[rng.pick(&[EVEN_STATES, ODD_STATES]) + rng.below(levels)] = state,
+        3 => image[rng.pick(&[EVEN_STATES, ODD_STATES]) + rng.below(LINE)] = state,
+        4 => image[PAIRS + rng.below(spares)] = pair,
+        5 => image[PAIRS + rng.below(LINE)] = pair,
+        6 => image[EPOCH] ^= 1,
+        7 => image.truncate(image.len() - rng.pick(&[1, 63, 64, 256])),
+        8 => image.resize(image.len() + rng.pick(&[1, 63, 64, 256]), byte),
+        _ => image.truncate(rng.pick(&[0, 1, 7, 8, 63, 64, 87, 88, 191, 319, 320, 511, 512, 576])),
+    }
+}
+
+/// A card for an image of these sizes: true, or untrue in one of every way.
+pub fn card(rng: &mut Rng, image: &[u8], sizes: Sizes) -> Card {
+    let mut card = Card::fresh(sizes);
+    let line = if image.first().is_some_and(|b| b % 2 == 1) { ODD_STATES } else { EVEN_STATES };
+    let levels = sizes.levels.min(MOST) as usize;
+    let frames = sizes.frames.min(MOST);
+    let below = |end: u64| if end == 64 { u64::MAX } else { (1 << end) - 1 };
+    for level in 0..levels {
+        if image.get(line + level) != Some(&1) && rng.once_in(2) {
+            card.touched |= 1 << level;
+        }
+        card.marks[level] = match rng.below(4) {
+            0 => 0,
+            1 => below(frames),
+            _ => rng.word() & rng.word() & below(frames),
+        };
+    }
+    if rng.once_in(4) {
+        spoil_card(rng, &mut card);
+    }
+    card
+}
+
+fn spoil_card(rng: &mut Rng, card: &mut Card) {
+    let bit = 1 << rng.below(64);
+    match rng.below(6) {
+        0 => card.touched |= bit,
+        1 => card.marks[rng.below(64)] |= bit,
+        2 => card.marks[rng.below(card.sizes.levels.clamp(1, 64) as usize)] |= bit,
+        3 => card.sizes = odd_sizes(rng, card.sizes),
+        4 => card.touched = rng.word(),
+        _ => *card = Card::zeros(),
+    }
+}
+
+/// Sizes that differ from these in one or two, in or out of range.
+pub fn odd_sizes(rng: &mut Rng, sizes: Sizes) -> Sizes {
+    let other = rng.pick(&[0, 1, 2, 3, 64, 65, 1 << 32, 1 << 56, u64::MAX]);
+    match rng.below(4) {
+        0 => Sizes { levels: other, ..sizes },
+        1 => Sizes { spares: other, ..sizes },
+        2 => Sizes { frames: other, ..sizes },
+        _ => Sizes { levels: sizes.spares, spares: sizes.levels, ..sizes },
+    }
+}
+
+/// A write's target and bytes: mostly good, sometimes out of range.
+pub fn writing(rng: &mut Rng, sizes: Sizes) -> (Target, Vec<u8>) {
+    let offset = match rng.below(4) {
+        0 => 0,
+        1 => FRAME - 1,
+        _ => rng.below(FRAME),
+    };
+    let most = FRAME - offset;
+    let length = match rng.below(6) {
+        0 => 1,
+        1 => most,
+        2 => most.min(8),
+        _ => rng.range(1, most),
+    };
+    let mut target = Target {
+        level: rng.below(sizes.levels.clamp(1, 64) as usize) as u64,
+        frame: rng.below(sizes.frames.clamp(1, 64) as usize) as u64,
+        offset: offset as u64,
+    };
+    let mut bytes = rng.bytes(length);
+    match rng.below(24) {
+        0 => target.level = rng.pick(&[sizes.levels, sizes.levels + 1, 64, 1 << 32, u64::MAX]),
+        1 => target.frame = rng.pick(&[sizes.frames, sizes.frames + 1, 64, 1 << 32, u64::MAX]),
+        2 => target.offset = rng.pick(&[256, 257, 1 << 32, u64::MAX - 255, u64::MAX]),
+        3 => bytes.clear(),
+        4 => bytes = rng.bytes(FRAME + 1 - offset),
+        _ => {}
+    }
+    (target, bytes)
+}
+
+/// Any call of a history: good ones mostly, refused ones of each kind too.
+pub fn call(rng: &mut Rng, sizes: Sizes) -> Call {
+    let deed = match rng.below(20) {
+        0..=12 => {
+            let (target, bytes) = writing(rng, sizes);
+            Deed::Write(target, bytes)
+        }
+        13..=17 => Deed::Save,
+        18 if rng.once_in(2) => Deed::Open(odd_sizes(rng, sizes)),
+        _ => Deed::Open(sizes),
+    };
+    let room = sizes.room();
+    let tape = match rng.below(12) {
+        0 => rng.below(room + 1),
+        1 => rng.below(64),
+        _ => room + rng.below(3),
+    };
+    Call { deed, tape }
+}
+
+/// A tape for the player, well formed for an image of this length or not.
+pub fn player_tape(rng: &mut Rng, length: usize) -> Vec<u64> {
+    let orders = rng.below(12);
+    let mut tape: Vec<u64> = (0..orders).flat_map(|_| good_order(rng, length)).collect();
+    if !tape.is_empty() && rng.once_in(3) {
+        let at = rng.below(tape.len());
+        let near = length as u64;
+        tape[at] = rng.pick(&[0, 1, 2, 3, 4, 7, 8, 63, 64, near, near - near.min(8), u64::MAX, u64::MAX - 7]);
+    }
+    if rng.once_in(8) {
+        tape.push(rng.word());
+    }
+    tape
+}
+
+fn good_order(rng: &mut Rng, length: usize) -> [u64; 3] {
+    let at = |rng: &mut Rng, step: usize| (rng.below((length / step).max(1)) * step) as u64;
+    match rng.below(5) {
+        0 => [3, 0, 0],
+        1 => [2, at(rng, LINE), 0],
+        _ => [1, at(rng, WORD), rng.word()],
+    }
+}

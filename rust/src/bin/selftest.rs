@@ -1,0 +1,107 @@
+//! The explorer over the reference alone; needs no library.
+//!
+//! Checked against document 01: the bench cases, the cut model, demand 3 over
+//! every permitted image of single calls and short histories and over random
+//! histories, for another choice of free spares too; each of the four faults
+//! must be caught; the corner sheets print what document 01 says. One line a
+//! group; exit status 1 on any failure.
+
+use crpm_tests::calls::Sizes;
+use crpm_tests::compared::Compared;
+use crpm_tests::explore::{Images, Plan};
+use crpm_tests::fast::Fast;
+use crpm_tests::groups::{self, Random};
+use crpm_tests::reference::{Choice, Fault, Reference};
+use crpm_tests::{arbitrary, corners, sheet};
+use std::process::ExitCode;
+use std::time::Instant;
+
+const SMALL: Sizes = Sizes::new(1, 1, 1);
+const TWO: Sizes = Sizes::new(2, 1, 1);
+const FOUR: Sizes = Sizes::new(2, 2, 1);
+
+fn main() -> ExitCode {
+    let good = Reference::good();
+    let other = Reference::choosing(Choice::Highest);
+    let mut failures = 0;
+    let mut group = |name: &str, run: &dyn Fn() -> Result<String, String>| {
+        let start = Instant::now();
+        let (verdict, text) = match run() {
+            Ok(text) => ("ok", text),
+            Err(text) => ("FAILED", text),
+        };
+        failures += u32::from(verdict != "ok");
+        println!("{verdict} {name}: {text} ({:.1} s)", start.elapsed().as_secs_f64());
+    };
+    group("cut model", &|| groups::crash_model(4000));
+    group("bench cases", &|| groups::bench_cases(&good));
+    group("waiting lines", &|| groups::waiting_lines(&good));
+    group("single calls 1,1,1", &|| groups::single_calls(&good));
+    group("histories up to 5 at 1,1,1", &|| groups::short_histories(&good, SMALL, 5));
+    group("histories up to 4 at 2,1,1", &|| groups::short_histories(&good, TWO, 4));
+    group("histories up to 2 at 2,2,1", &|| groups::short_histories(&good, FOUR, 2));
+    group("other spares, histories up to 2 at 2,2,1", &|| groups::short_histories(&other, FOUR, 2));
+    group("random histories", &|| groups::random_histories(&good, random(21, 40)));
+    group("other spares, random histories", &|| groups::random_histories(&other, random(22, 20)));
+    for fault in FAULTS {
+        group(&format!("fault {fault:?}"), &|| caught(fault));
+    }
+    group("forms of the benchmark", &|| forms_agree(&good));
+    group("corner sheets", &corner_sheets);
+    match failures {
+        0 => ExitCode::SUCCESS,
+        _ => ExitCode::FAILURE,
+    }
+}
+
+const FAULTS: [Fault; 4] = [
+    Fault::StateBeforeFence,
+    Fault::MarksClearedAtSave,
+    Fault::OpeningSkipsLevelToSpare,
+    Fault::FreeByIdleLine,
+];
+
+fn random(seed: u64, histories: usize) -> Random {
+    let plan = Plan { images: Images::Some { samples: 2 }, every_cut_up_to: 300 };
+    Random { seed, histories, calls: 12, most: 3, plan }
+}
+
+/// The explorer must find a wrong page or a refused opening; the shortest
+/// histories are tried first.
+fn caught(fault: Fault) -> Result<String, String> {
+    let faulty = Reference::faulty(fault);
+    for depth in 1..=3 {
+        for sizes in [SMALL, TWO] {
+            if let Err(witness) = groups::short_histories(&faulty, sizes, depth) {
+                return Ok(format!("caught: {witness}"));
+            }
+        }
+    }
+    Err("not caught".to_string())
+}
+
+/// The Rust forms that the benchmark measures give what the reference gives.
+fn forms_agree(good: &Reference) -> Result<String, String> {
+    let mut calls = 0;
+    for form in Fast::FORMS {
+        let compared = Compared::new(good, &form);
+        groups::any_contents(&compared, 31, 300, |rng| arbitrary::sizes(rng, 4));
+        groups::any_contents(&compared, 32, 2, arbitrary::edge_sizes);
+        groups::bench_cases(&compared)?;
+        compared.verdict()?;
+        calls += compared.calls();
+    }
+    Ok(format!("{calls} calls as the reference"))
+}
+
+fn corner_sheets() -> Result<String, String> {
+    let corners = corners::all();
+    for corner in &corners {
+        let printed = sheet::printed(&corner.input);
+        if printed != corner.output.as_bytes() {
+            let printed = String::from_utf8_lossy(&printed).into_owned();
+            return Err(format!("{}: {printed:?}, due {:?}", corner.name, corner.output));
+        }
+    }
+    Ok(format!("{} sheets print as document 01 says", corners.len()))
+}

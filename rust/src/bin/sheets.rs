@@ -1,0 +1,190 @@
+//! The sheet program against `sheet`: corner sheets, random good sheets and
+//! damaged ones go to its standard input, and its standard output is compared.
+//!
+//! Usage: sheets [PROGRAM], by default `../target/bin/sheet` beside this
+//! folder. Seeds are fixed. Exit status 1 on any difference, 2 without a
+//! program.
+
+use crpm_tests::prng::Rng;
+use crpm_tests::{corners, sheet};
+use std::io::{self, Write};
+use std::path::{Path, PathBuf};
+use std::process::{ChildStdin, Command, ExitCode, Stdio};
+use std::thread::sleep;
+use std::time::{Duration, Instant};
+
+const RANDOM_SHEETS: usize = 6000;
+const IN_PIECES: usize = 60;
+const TIME_LIMIT: Duration = Duration::from_secs(60);
+const LONGEST: usize = 4096;
+
+fn main() -> ExitCode {
+    let default = Path::new(env!("CARGO_MANIFEST_DIR")).join("../target/bin/sheet");
+    let program = std::env::args().nth(1).map_or(default, PathBuf::from);
+    if !program.is_file() {
+        println!("no sheet program at {}", program.display());
+        return ExitCode::from(2);
+    }
+    match run_all(&program) {
+        Ok(()) => ExitCode::SUCCESS,
+        Err(text) => {
+            println!("FAILED {text}");
+            ExitCode::FAILURE
+        }
+    }
+}
+
+fn run_all(program: &Path) -> Result<(), String> {
+    let start = Instant::now();
+    let corners = corners::all();
+    for corner in &corners {
+        check(program, &corner.input, corner.output.as_bytes(), 1)?;
+    }
+    println!("ok corner sheets: {} ({:.1} s)", corners.len(), start.elapsed().as_secs_f64());
+    let start = Instant::now();
+    let mut rng = Rng::new(61);
+    let (mut good, mut bad) = (0, 0);
+    for number in 0..RANDOM_SHEETS {
+        let input = random_sheet(&mut rng);
+        let due = sheet::printed(&input);
+        let pieces = if number < IN_PIECES { rng.range(2, 4) } else { 1 };
+        check(program, &input, &due, pieces)?;
+        match due.starts_with(b"sheet=") {
+            true => bad += 1,
+            false => good += 1,
+        }
+        if start.elapsed() > TIME_LIMIT {
+            println!("stopped at the time limit");
+            break;
+        }
+    }
+    println!("ok random sheets: {good} good, {bad} bad ({:.1} s)", start.elapsed().as_secs_f64());
+    Ok(())
+}
+
+/// Feeds the input, in pieces with pauses between them, and compares.
+fn check(program: &Path, input: &[u8], due: &[u8], pieces: usize) -> Result<(), String> {
+    let mut child = Command::new(program)
+        .stdin(Stdio::piped())
+        .stdout(Stdio::piped())
+        .spawn()
+        .map_err(|error| format!("{}: {error}", program.display()))?;
+    let stdin = child.stdin.take().ok_or("no pipe")?;
+    feed(stdin, input, pieces).map_err(|error| error.to_string())?;
+    let output = child.wait_with_output().map_err(|error| error.to_string())?;
+    match output.stdout == due && output.status.code().is_some() {
+        true => Ok(()),
+        false => Err(format!(
+            "sheet {:?}\nprints {:?}\ndue {:?}",
+            String::from_utf8_lossy(input),
+            String::from_utf8_lossy(&output.stdout),
+            String::from_utf8_lossy(due)
+        )),
+    }
+}
+
+/// A program that ends before it has read everything is no error here.
+fn feed(mut stdin: ChildStdin, input: &[u8], pieces: usize) -> io::Result<()> {
+    for (i, piece) in input.chunks((input.len() / pieces).max(1)).enumerate() {
+        if i > 0 && pieces > 1 {
+            sleep(Duration::from_millis(5));
+        }
+        match stdin.write_all(piece) {
+            Err(error) if error.kind() == io::ErrorKind::BrokenPipe => return Ok(()),
+            result => result?,
+        }
+    }
+    Ok(())
+}
+
+fn random_sheet(rng: &mut Rng) -> Vec<u8> {
+    let mut lines = random_lines(rng);
+    if rng.once_in(3) {
+        damage_lines(rng, &mut lines);
+    }
+    let mut bytes = lines.concat().into_bytes();
+    if rng.once_in(6) {
+        damage_bytes(rng, &mut bytes);
+    }
+    bytes
+}
+
+/// The lines of a good sheet; the groups may be refused by the calls.
+fn random_lines(rng: &mut Rng) -> Vec<String> {
+    let (mains, spares, frames) = (rng.range(1, 4), rng.range(1, 4), rng.range(1, 4));
+    let mut lines = vec![format!("mains={mains}\n")];
+    if !rng.once_in(3) {
+        lines.push(format!("spares={spares}\n"));
+    }
+    lines.push(format!("frames={frames}\n"));
+    let groups = rng.pick(&[0, 1, 3, 8, 20, 60, 120]);
+    let mut length: usize = lines.iter().map(String::len).sum();
+    for _ in 0..rng.range(groups / 2, groups) {
+        let group = random_group(rng, mains, frames);
+        length += group.iter().map(String::len).sum::<usize>();
+        if length > LONGEST && !rng.once_in(20) {
+            break;
+        }
+        lines.extend(group);
+    }
+    lines
+}
+
+fn random_group(rng: &mut Rng, mains: usize, frames: usize) -> [String; 5] {
+    let near = |rng: &mut Rng, end: usize| match rng.below(16) {
+        0 => rng.range(end, 999),
+        1 => end,
+        _ => rng.below(end),
+    };
+    let (level, frame, at) = (near(rng, mains), near(rng, frames), near(rng, 256));
+    let count = match rng.below(8) {
+        0 => 0,
+        1 => rng.below(257),
+        _ => rng.range(1, 12),
+    };
+    let bytes: String = rng.bytes(count).iter().map(|byte| format!("{byte:02x}")).collect();
+    let save = usize::from(rng.once_in(3));
+    [
+        format!("level={level}\n"),
+        format!("frame={frame}\n"),
+        format!("at={at}\n"),
+        format!("bytes={bytes}\n"),
+        format!("save={save}\n"),
+    ]
+}
+
+fn damage_lines(rng: &mut Rng, lines: &mut Vec<String>) {
+    let at = rng.below(lines.len());
+    let other = rng.below(lines.len());
+    match rng.below(6) {
+        0 => drop(lines.remove(at)),
+        1 => lines.insert(at, lines[other].clone()),
+        2 => lines.swap(at, other),
+        3 => lines.insert(at, "\n".to_string()),
+        4 => lines.truncate(at),
+        _ => lines[at] = bad_value(rng, &lines[at]),
+    }
+}
+
+fn bad_value(rng: &mut Rng, line: &str) -> String {
+    let key = line.split('=').next().unwrap_or("");
+    let values =
+        ["", "0", "00", "01", "4", "5", "99", "999", "1000", "-1", " 1", "1 ", "1\r", "A0", "a", "0g"];
+    format!("{key}={}\n", rng.pick(&values))
+}
+
+fn damage_bytes(rng: &mut Rng, bytes: &mut Vec<u8>) {
+    if bytes.is_empty() {
+        return;
+    }
+    let at = rng.below(bytes.len());
+    let byte = rng.word() as u8;
+    match rng.below(6) {
+        0 => bytes[at] = byte,
+        1 => bytes[at] ^= 1 << rng.below(8),
+        2 => drop(bytes.remove(at)),
+        3 => bytes.insert(at, rng.pick(b"\n\r =0aA9\0")),
+        4 => bytes.truncate(at),
+        _ => bytes.resize(rng.range(4090, 4100), byte),
+    }
+}

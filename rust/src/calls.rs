@@ -1,0 +1,213 @@
+//! The calls of document 01 as an interface, with the layout, the card and the
+//! orders that they speak of.
+//!
+//! Written from document 01 alone. `Reference`, `Fast` and, through the C
+//! interface, the proved library all stand behind `Calls`, so that the same
+//! explorer and the same comparisons run over each of them.
+
+use std::fmt;
+
+pub const WORD: usize = 8;
+pub const LINE: usize = 64;
+pub const FRAME: usize = 256;
+pub const EPOCH: usize = 0;
+pub const HEADER: usize = 64;
+pub const EVEN_STATES: usize = 128;
+pub const ODD_STATES: usize = 192;
+pub const PAIRS: usize = 256;
+pub const DATA: usize = 512;
+pub const MOST: u64 = 64;
+pub const UNPAIRED: u8 = 255;
+
+/// M, S and B.
+#[derive(Clone, Copy, PartialEq, Eq, Debug)]
+pub struct Sizes {
+    pub levels: u64,
+    pub spares: u64,
+    pub frames: u64,
+}
+
+impl Sizes {
+    pub const fn new(levels: u64, spares: u64, frames: u64) -> Sizes {
+        Sizes { levels, spares, frames }
+    }
+
+    pub fn in_range(self) -> bool {
+        [self.levels, self.spares, self.frames].iter().all(|n| (1..=MOST).contains(n))
+    }
+
+    /// Image length. The sizes are in range.
+    pub fn image_length(self) -> usize {
+        DATA + FRAME * (self.frames * (self.levels + self.spares)) as usize
+    }
+
+    /// First byte of a frame of a level.
+    pub fn in_level(self, level: usize, frame: usize) -> usize {
+        DATA + FRAME * (level * self.frames as usize + frame)
+    }
+
+    /// First byte of a frame of a spare.
+    pub fn in_spare(self, spare: usize, frame: usize) -> usize {
+        self.in_level(self.levels as usize + spare, frame)
+    }
+
+    /// Bytes of one page of the book.
+    pub fn page_length(self) -> usize {
+        FRAME * (self.levels * self.frames) as usize
+    }
+
+    /// A tape of this many numbers is long enough for every opening.
+    pub fn opening_room(self) -> usize {
+        3 * (36 * (self.levels * self.frames) as usize + 1)
+    }
+
+    /// A tape of this many numbers is long enough for every call.
+    pub fn room(self) -> usize {
+        let write = 36 * self.frames as usize + 6 + 32;
+        let save = 4 * (self.levels * self.frames) as usize + 14;
+        self.opening_room().max(3 * write).max(3 * save)
+    }
+}
+
+impl fmt::Display for Sizes {
+    fn fmt(&self, f: &mut fmt::Formatter) -> fmt::Result {
+        write!(f, "{},{},{}", self.levels, self.spares, self.frames)
+    }
+}
+
+/// The session card.
+#[derive(Clone, PartialEq, Eq, Debug)]
+pub struct Card {
+    pub sizes: Sizes,
+    pub touched: u64,
+    pub marks: [u64; 64],
+}
+
+pub const CARD_WORDS: usize = 68;
+
+impl Card {
+    /// A card of these sizes with no bits set; of sizes 0, the card of zeros.
+    pub const fn fresh(sizes: Sizes) -> Card {
+        Card { sizes, touched: 0, marks: [0; 64] }
+    }
+
+    pub const fn zeros() -> Card {
+        Card::fresh(Sizes::new(0, 0, 0))
+    }
+
+    pub fn to_words(&self) -> [u64; CARD_WORDS] {
+        let mut words = [0; CARD_WORDS];
+        let Sizes { levels, spares, frames } = self.sizes;
+        words[..4].copy_from_slice(&[levels, spares, frames, self.touched]);
+        words[4..].copy_from_slice(&self.marks);
+        words
+    }
+
+    pub fn from_words(words: &[u64; CARD_WORDS]) -> Card {
+        let mut marks = [0; 64];
+        marks.copy_from_slice(&words[4..]);
+        Card { sizes: Sizes::new(words[0], words[1], words[2]), touched: words[3], marks }
+    }
+}
+
+/// Where a write goes.
+#[derive(Clone, Copy, PartialEq, Eq, Debug)]
+pub struct Target {
+    pub level: u64,
+    pub frame: u64,
+    pub offset: u64,
+}
+
+/// One order of a tape.
+#[derive(Clone, Copy, PartialEq, Eq, Debug)]
+pub enum Order {
+    Store { place: usize, word: u64 },
+    Flush { place: usize },
+    Fence,
+}
+
+impl Order {
+    pub fn numbers(self) -> [u64; 3] {
+        match self {
+            Order::Store { place, word } => [1, place as u64, word],
+            Order::Flush { place } => [2, place as u64, 0],
+            Order::Fence => [3, 0, 0],
+        }
+    }
+
+    /// The order that three numbers stand for in an image of this length, or
+    /// none if they are ill formed.
+    pub fn from_numbers(numbers: &[u64], length: usize) -> Option<Order> {
+        let [kind, place, word] = *numbers else { return None };
+        if place >= length as u64 {
+            return None;
+        }
+        let at = place as usize;
+        match kind {
+            1 if at.is_multiple_of(WORD) => Some(Order::Store { place: at, word }),
+            2 if at.is_multiple_of(LINE) && word == 0 => Some(Order::Flush { place: at }),
+            3 if at == 0 && word == 0 => Some(Order::Fence),
+            _ => None,
+        }
+    }
+}
+
+/// The orders on a tape that holds only well-formed ones.
+pub fn orders_of(tape: &[u64], length: usize) -> Option<Vec<Order>> {
+    tape.chunks(3).map(|numbers| Order::from_numbers(numbers, length)).collect()
+}
+
+/// A number of document 01's list (0 served) and the orders, written or played.
+#[derive(Clone, Copy, PartialEq, Eq, Debug)]
+pub struct Answer {
+    pub number: u64,
+    pub orders: u64,
+}
+
+impl Answer {
+    pub fn served(self) -> bool {
+        self.number == 0
+    }
+}
+
+/// A read's number and its part of the image; length 0 is no part.
+#[derive(Clone, Copy, PartialEq, Eq, Debug)]
+pub struct Part {
+    pub number: u64,
+    pub start: u64,
+    pub length: u64,
+}
+
+impl Part {
+    pub fn of(self, image: &[u8]) -> Option<&[u8]> {
+        let start = usize::try_from(self.start).ok()?;
+        let length = usize::try_from(self.length).ok()?;
+        image.get(start..start.checked_add(length)?)
+    }
+}
+
+/// Which page a read shows.
+#[derive(Clone, Copy, PartialEq, Eq, Debug)]
+pub enum Page {
+    Working,
+    Saved,
+}
+
+/// The calls of document 01.
+pub trait Calls {
+    fn lay_out(&self, image: &mut [u8], sizes: Sizes) -> u64;
+    fn open(&self, image: &[u8], sizes: Sizes, card: &mut Card, tape: &mut [u64]) -> Answer;
+    fn write(&self, image: &[u8], card: &mut Card, target: Target, bytes: &[u8], tape: &mut [u64]) -> Answer;
+    fn save(&self, image: &[u8], card: &mut Card, tape: &mut [u64]) -> Answer;
+    fn play(&self, image: &mut [u8], tape: &[u64], n: u64) -> Answer;
+    fn read(&self, page: Page, image: &[u8], sizes: Sizes, level: u64, frame: u64) -> Part;
+    fn like(&self, first: &[u8], second: &[u8], sizes: Sizes) -> (u64, bool);
+}
+
+pub fn word_at(image: &[u8], place: usize) -> u64 {
+    u64::from_le_bytes(image[place..place + WORD].try_into().expect("eight bytes"))
+}
+
+pub fn put_word(image: &mut [u8], place: usize, word: u64) {
+    image[place..place + WORD].copy_from_slice(&word.to_le_bytes());
+}

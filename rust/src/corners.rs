@@ -1,0 +1,197 @@
+//! Corner sheets with the output that document 01 and the recorded decisions
+//! ask for, written by hand.
+//!
+//! `selftest` holds `sheet` against them, `sheets` the sheet program.
+
+pub struct Corner {
+    pub name: String,
+    pub input: Vec<u8>,
+    pub output: String,
+}
+
+const HEAD: &str = "mains=2\nspares=1\nframes=1\n";
+const GROUP: &str = "level=0\nframe=0\nat=6\nbytes=a1b2c3d4\nsave=1\n";
+const OPEN: &str = "open=0 orders=73\n";
+
+pub fn all() -> Vec<Corner> {
+    let mut corners = whole_outputs();
+    corners.extend(bad_lines());
+    corners.extend(bad_values());
+    corners.extend(broken_off());
+    corners.extend(lengths());
+    corners
+}
+
+fn corner(input: impl AsRef<[u8]>, output: impl Into<String>) -> Corner {
+    let input = input.as_ref().to_vec();
+    let shown = &input[..input.len().min(60)];
+    Corner { name: String::from_utf8_lossy(shown).escape_debug().to_string(), input, output: output.into() }
+}
+
+fn bad(input: impl AsRef<[u8]>, line: usize) -> Corner {
+    corner(input, format!("sheet={line}\n"))
+}
+
+fn group(level: &str, frame: &str, at: &str, bytes: &str, save: &str) -> String {
+    format!("level={level}\nframe={frame}\nat={at}\nbytes={bytes}\nsave={save}\n")
+}
+
+/// Good sheets: the paper's own, refused calls, spares left out.
+fn whole_outputs() -> Vec<Corner> {
+    let word = "0102030405060708";
+    let step = |n: u32, rest: &str| format!("step={n} {rest}\n");
+    let one = |rest: &str| format!("{OPEN}step=1 {rest}\n");
+    let sheet = |groups: &str| format!("{HEAD}{groups}");
+    let four = [("0", "0"), ("1", "1"), ("0", "0"), ("1", "0")]
+        .map(|(level, save)| group(level, "0", "0", word, save))
+        .concat();
+    let first_three = [
+        step(1, "write=0 orders=1 save=- orders=0 epoch=0"),
+        step(2, "write=0 orders=1 save=0 orders=22 epoch=1"),
+        step(3, "write=0 orders=43 save=- orders=0 epoch=1"),
+    ]
+    .concat();
+    let fourth = |rest: &str| format!("{OPEN}{first_three}step=4 {rest} save=- orders=0 epoch=1\n");
+    vec![
+        corner(sheet(GROUP), one("write=0 orders=2 save=0 orders=18 epoch=1")),
+        corner(HEAD, OPEN),
+        corner("mains=1\nspares=1\nframes=1\n", "open=0 orders=37\n"),
+        corner("mains=4\nframes=4\n", "open=0 orders=577\n"),
+        corner(sheet(&group("0", "0", "0", "00", "0")), one("write=0 orders=1 save=- orders=0 epoch=0")),
+        corner(sheet(&group("2", "0", "0", "00", "0")), one("write=6 orders=0 save=- orders=0 epoch=0")),
+        corner(sheet(&group("999", "0", "0", "00", "1")), one("write=6 orders=0 save=0 orders=14 epoch=1")),
+        corner(sheet(&group("0", "1", "0", "00", "1")), one("write=7 orders=0 save=0 orders=14 epoch=1")),
+        corner(sheet(&group("0", "999", "0", "", "0")), one("write=7 orders=0 save=- orders=0 epoch=0")),
+        corner(sheet(&group("0", "0", "0", "", "0")), one("write=8 orders=0 save=- orders=0 epoch=0")),
+        corner(sheet(&group("0", "0", "256", "00", "0")), one("write=8 orders=0 save=- orders=0 epoch=0")),
+        corner(sheet(&group("0", "0", "999", "00", "0")), one("write=8 orders=0 save=- orders=0 epoch=0")),
+        corner(sheet(&group("0", "0", "255", "00", "0")), one("write=0 orders=1 save=- orders=0 epoch=0")),
+        corner(
+            sheet(&group("1", "0", "0", &"ff".repeat(256), "1")),
+            one("write=0 orders=32 save=0 orders=18 epoch=1"),
+        ),
+        corner(
+            sheet(&group("1", "0", "1", &"ff".repeat(256), "0")),
+            one("write=8 orders=0 save=- orders=0 epoch=0"),
+        ),
+        corner(format!("mains=2\nframes=1\n{four}"), fourth("write=0 orders=43")),
+        corner(format!("{HEAD}{four}"), fourth("write=9 orders=0")),
+    ]
+}
+
+/// Lines out of order, unknown, repeated, blank, with strange bytes.
+fn bad_lines() -> Vec<Corner> {
+    let with = |line: &str| format!("{HEAD}{line}");
+    vec![
+        bad("", 1),
+        bad("\n", 1),
+        bad("\n\n", 1),
+        bad("spares=1\n", 1),
+        bad("frames=1\n", 1),
+        bad("Mains=1\nframes=1\n", 1),
+        bad("main=1\nframes=1\n", 1),
+        bad("mainss=1\nframes=1\n", 1),
+        bad("mains\nframes=1\n", 1),
+        bad("mains:1\nframes=1\n", 1),
+        bad("mains =1\nframes=1\n", 1),
+        bad("mains= 1\nframes=1\n", 1),
+        bad(" mains=1\nframes=1\n", 1),
+        bad("mains=1 \nframes=1\n", 1),
+        bad("mains=1\r\nframes=1\r\n", 1),
+        bad("mains=1\0\nframes=1\n", 1),
+        bad("\u{feff}mains=1\nframes=1\n", 1),
+        bad("mains=1\n\nframes=1\n", 2),
+        bad("mains=1\nmains=1\nframes=1\n", 2),
+        bad("mains=1\nspares=1\nspares=1\nframes=1\n", 3),
+        bad("mains=1\nframes=1\nspares=1\n", 3),
+        bad("mains=1\nframes=1\nframes=1\n", 3),
+        bad("mains=1\nlevel=0\n", 2),
+        bad("mains=1\nframes=1\n\n", 3),
+        bad(with("\n"), 4),
+        bad(with("frame=0\n"), 4),
+        bad(with("save=0\n"), 4),
+        bad(with("level=0\nlevel=0\n"), 5),
+        bad(with("level=0\nframe=0\nframe=0\n"), 6),
+        bad(with("level=0\nframe=0\nat=0\nsave=0\n"), 7),
+        bad(with("level=0\nframe=0\nat=0\nbytes=00\nlevel=0\n"), 8),
+        bad(with(&format!("{GROUP}\n")), 9),
+        bad(with(&format!("{GROUP}mains=1\n")), 9),
+        bad(with(&format!("{GROUP}{GROUP}x\n")), 14),
+        bad(format!("mains=2\nframes=1\n{GROUP}x\n"), 8),
+    ]
+}
+
+/// Values out of form or range, each key at its own line.
+fn bad_values() -> Vec<Corner> {
+    let mut corners = Vec::new();
+    for value in ["", "00", "01", "007", "0001", "1000", "+1", "-1", "1a", "a", "1.", "0x1", "1=1", "\u{663}"]
+    {
+        corners.push(bad(format!("mains={value}\nspares=1\nframes=1\n"), 1));
+        corners.push(bad(format!("mains=1\nspares={value}\nframes=1\n"), 2));
+        corners.push(bad(format!("mains=1\nspares=1\nframes={value}\n"), 3));
+        corners.push(bad(format!("{HEAD}{}", group(value, "0", "0", "", "0")), 4));
+        corners.push(bad(format!("{HEAD}{}", group("0", value, "0", "", "0")), 5));
+        corners.push(bad(format!("{HEAD}{}", group("0", "0", value, "", "0")), 6));
+        corners.push(bad(format!("{HEAD}{}", group("0", "0", "0", "", value)), 8));
+    }
+    for value in ["0", "5", "10", "999"] {
+        corners.push(bad(format!("mains={value}\nspares=1\nframes=1\n"), 1));
+        corners.push(bad(format!("mains=1\nspares={value}\nframes=1\n"), 2));
+        corners.push(bad(format!("mains=1\nframes={value}\n"), 2));
+    }
+    for value in ["2", "-", "10", "yes"] {
+        corners.push(bad(format!("{HEAD}{}", group("0", "0", "0", "", value)), 8));
+    }
+    let long = "00".repeat(257);
+    for value in ["0", "0a0", "0A", "A0", "0g", " 00", "00 ", "0x", &long, &long[..513]] {
+        corners.push(bad(format!("{HEAD}{}", group("0", "0", "0", value, "0")), 7));
+    }
+    corners
+}
+
+/// Sheets that end too soon: after each line, and inside each line.
+fn broken_off() -> Vec<Corner> {
+    let whole = format!("{HEAD}{GROUP}");
+    let mut corners = Vec::new();
+    for end in 0..whole.len() {
+        let part = &whole[..end];
+        let present = part.matches('\n').count();
+        match part == HEAD {
+            true => corners.push(corner(part, OPEN)),
+            false => corners.push(bad(part, present + 1)),
+        }
+    }
+    corners
+}
+
+/// Sheets of 4,096 and more bytes, and the most groups.
+fn lengths() -> Vec<Corner> {
+    let head = "mains=1\nspares=1\nframes=1\n";
+    let full = group("0", "0", "0", &"5a".repeat(256), "0").repeat(7);
+    let last = group("0", "0", "0", &"5a".repeat(103), "0");
+    let exact = format!("{head}{full}{last}");
+    assert_eq!(exact.len(), 4096);
+    let mut output = "open=0 orders=37\n".to_string();
+    for step in 1..=8 {
+        let orders = if step < 8 { 32 } else { 13 };
+        output += &format!("step={step} write=0 orders={orders} save=- orders=0 epoch=0\n");
+    }
+    let most = format!("mains=1\nframes=1\n{}", group("0", "0", "0", "", "1").repeat(116));
+    let mut saves = "open=0 orders=37\n".to_string();
+    for step in 1..=116 {
+        saves += &format!("step={step} write=8 orders=0 save=0 orders=14 epoch={step}\n");
+    }
+    vec![
+        corner(&exact, output),
+        bad(format!("{exact}\n"), 0),
+        bad(format!("{exact}{GROUP}"), 0),
+        bad(format!("{}x", &exact[..4095]), 43),
+        bad(format!("x{}", &exact[1..]), 1),
+        bad(format!("x{exact}"), 0),
+        bad("x".repeat(4096), 1),
+        bad("x".repeat(4097), 0),
+        bad("\n".repeat(4097), 0),
+        bad("mains=1\n".repeat(100_000), 0),
+        corner(most, saves),
+    ]
+}

@@ -1,0 +1,382 @@
+//! The explorer: demand 3 over a history, for every cut in it.
+//!
+//! Written from document 01 alone. It runs over any implementation of the
+//! calls. A history threads one image, one card, one book and the module
+//! behind its cache; at a cut every permitted image (or the extreme ones and
+//! samples) is opened again, also after openings that were themselves cut, and
+//! the first opening that finishes must be served and show a permitted page.
+//! The faults of document 01 are caught by it (`selftest`).
+//!
+//! With `Images::All` chains of cut openings of any length are covered: every
+//! image that stands after a cut opening is explored in its turn, until no new
+//! one is found. All of them must show the same page, which is a little more
+//! than document 01 asks while either page may be shown.
+
+use crate::book::*;
+use crate::calls::*;
+use crate::crash::Module;
+use crate::prng::Rng;
+use std::collections::{BTreeSet, HashMap};
+use std::hash::{BuildHasherDefault, Hasher};
+
+/// Which images of a cut are looked at.
+#[derive(Clone, Copy, PartialEq, Eq, Debug)]
+pub enum Images {
+    /// Every permitted one; more than the cap is an error.
+    All { cap: u128 },
+    /// Both extremes and so many samples, each after a random chain of up to
+    /// three cut openings.
+    Some { samples: usize },
+}
+
+/// Which cuts and images the explorer looks at in one call.
+#[derive(Clone, Copy, PartialEq, Eq, Debug)]
+pub struct Plan {
+    pub images: Images,
+    /// With more orders than this, only cuts near a fence and a few others.
+    pub every_cut_up_to: usize,
+}
+
+impl Plan {
+    pub const ALL: Plan = Plan { images: Images::All { cap: 1 << 20 }, every_cut_up_to: usize::MAX };
+}
+
+#[derive(Clone, Copy, Default, Debug)]
+pub struct Counts {
+    pub calls: u64,
+    pub cuts: u64,
+    /// Images looked at, cut by cut.
+    pub images: u64,
+    /// Openings that finished, each checked by both reads.
+    pub openings: u64,
+}
+
+/// A history in progress: what stands, the card last answered, the book.
+#[derive(Clone)]
+pub struct History {
+    pub module: Module,
+    pub card: Card,
+    pub book: Book,
+}
+
+/// A served or refused call of a history.
+pub struct Step {
+    pub answer: Answer,
+    pub orders: Vec<Order>,
+    /// The pages that the images of each cut showed (with `Images::All`).
+    pub shown: Vec<BTreeSet<usize>>,
+}
+
+pub struct Explorer<'a, C: Calls> {
+    calls: &'a C,
+    sizes: Sizes,
+    rng: Rng,
+    /// The page that an image shows, by the image's hash of 128 bits.
+    known: HashMap<u128, usize, BuildHasherDefault<AlreadyHashed>>,
+    pages: Vec<Vec<u8>>,
+    tape: Vec<u64>,
+    pub counts: Counts,
+}
+
+/// The keys are hashes already.
+#[derive(Default)]
+struct AlreadyHashed(u64);
+
+impl Hasher for AlreadyHashed {
+    fn write(&mut self, bytes: &[u8]) {
+        self.0 = bytes.iter().fold(self.0, |sum, byte| sum.rotate_left(8) ^ *byte as u64);
+    }
+
+    fn write_u128(&mut self, hash: u128) {
+        self.0 = hash as u64;
+    }
+
+    fn finish(&self) -> u64 {
+        self.0
+    }
+}
+
+/// Fills the tapes before a call, to see which numbers it leaves alone.
+const RUBBISH: u64 = 0xa5a5_5a5a_dead_beef;
+
+impl<'a, C: Calls> Explorer<'a, C> {
+    /// An explorer of histories with these sizes.
+    pub fn new(calls: &'a C, sizes: Sizes, seed: u64) -> Explorer<'a, C> {
+        Explorer {
+            calls,
+            sizes,
+            rng: Rng::new(seed),
+            known: HashMap::default(),
+            pages: Vec::new(),
+            tape: vec![RUBBISH; sizes.opening_room()],
+            counts: Counts::default(),
+        }
+    }
+
+    /// Distinct images opened again so far (with `Images::All`).
+    pub fn distinct(&self) -> usize {
+        self.known.len()
+    }
+
+    /// The number under which this page is known.
+    pub fn page_number(&mut self, page: &[u8]) -> usize {
+        let known = self.pages.iter().position(|p| p == page);
+        known.unwrap_or_else(|| {
+            self.pages.push(page.to_vec());
+            self.pages.len() - 1
+        })
+    }
+
+    /// Starts a history at an image that opening must serve. Cuts in the
+    /// starting opening itself are looked at too.
+    pub fn start(&mut self, image: &[u8], plan: Plan) -> Result<History, String> {
+        let book = Book::start(image, self.sizes);
+        let saved = self.page_number(&book.saved);
+        self.look_at(&Module::held(image), plan, &[saved])?;
+        let orders = self.opening(image)?;
+        let mut module = Module::held(image);
+        orders.iter().for_each(|order| module.play(*order));
+        if module.cut().count() != 1 {
+            return Err("a finished opening leaves something waiting".to_string());
+        }
+        let history = History { module, card: Card::fresh(self.sizes), book };
+        self.check_reads(&history)?;
+        Ok(history)
+    }
+
+    /// Runs one call of a history, looks at its cuts and plays it.
+    pub fn step(&mut self, history: &mut History, call: &Call, plan: Plan) -> Result<Step, String> {
+        self.counts.calls += 1;
+        let image = history.module.image().to_vec();
+        let mut tape = vec![RUBBISH; call.tape];
+        let answer = self.call(&image, &mut history.card, &call.deed, &mut tape)?;
+        let orders = written(&tape, answer, image.len())?;
+        let before = history.book.clone();
+        history.book.feed(&call.deed, answer.served());
+        let epoch_store = orders.iter().position(is_epoch_store).filter(|_| call.deed == Deed::Save);
+        let mut shown = Vec::new();
+        for p in 0..=orders.len() {
+            if p > 0 {
+                history.module.play(orders[p - 1]);
+            }
+            if !self.wanted(plan, &orders, p) {
+                continue;
+            }
+            let finished = if p == orders.len() { &history.book } else { &before };
+            let mut allowed = vec![self.page_number(&finished.saved)];
+            if epoch_store.is_some_and(|at| at < p) && p < orders.len() {
+                allowed.push(self.page_number(&before.working));
+            }
+            self.check_player(&image, &tape[..3 * orders.len()], p, history.module.image())?;
+            let told = |what| format!("{call}, cut after {p} of {} orders: {what}", orders.len());
+            shown.push(self.look_at(&history.module, plan, &allowed).map_err(told)?);
+        }
+        self.check_reads(history)?;
+        Ok(Step { answer, orders, shown })
+    }
+
+    fn call(
+        &mut self,
+        image: &[u8],
+        card: &mut Card,
+        deed: &Deed,
+        tape: &mut [u64],
+    ) -> Result<Answer, String> {
+        let mut unchanged = card.clone();
+        let answer = match deed {
+            Deed::Open(sizes) => {
+                unchanged = Card::zeros();
+                self.calls.open(image, *sizes, card, tape)
+            }
+            Deed::Write(target, bytes) => self.calls.write(image, card, *target, bytes, tape),
+            Deed::Save => self.calls.save(image, card, tape),
+        };
+        match answer.served() || (*card == unchanged && answer.orders == 0) {
+            true => Ok(answer),
+            false => Err("a refused call changes the card or reports orders".to_string()),
+        }
+    }
+
+    /// Is this cut looked at?
+    fn wanted(&mut self, plan: Plan, orders: &[Order], p: usize) -> bool {
+        let near_fence = || orders[p.saturating_sub(2)..orders.len().min(p + 1)].contains(&Order::Fence);
+        let all = orders.len() <= plan.every_cut_up_to;
+        let at_an_end = p <= 2 || p == orders.len();
+        all || at_an_end || near_fence() || self.rng.once_in(orders.len() / 8)
+    }
+
+    /// The player gets the orders' part of the tape and plays `p` of them.
+    fn check_player(&self, image: &[u8], part: &[u64], p: usize, due: &[u8]) -> Result<(), String> {
+        let mut played = image.to_vec();
+        let answer = self.calls.play(&mut played, part, p as u64);
+        match answer == (Answer { number: 0, orders: p as u64 }) && played == due {
+            true => Ok(()),
+            false => Err(format!("the player answers {answer:?} to {p} orders, or plays them wrongly")),
+        }
+    }
+
+    /// Both reads give both pages of the book.
+    fn check_reads(&self, history: &History) -> Result<(), String> {
+        let [working, saved] = pages_read(self.calls, history.module.image(), self.sizes)?;
+        match working == history.book.working && saved == history.book.saved {
+            true => Ok(()),
+            false => Err("the reads do not give the book's pages".to_string()),
+        }
+    }
+
+    /// Looks at what may stand after a cut now: each image looked at must show
+    /// one of the allowed pages. Gives the pages shown.
+    fn look_at(&mut self, module: &Module, plan: Plan, allowed: &[usize]) -> Result<BTreeSet<usize>, String> {
+        self.counts.cuts += 1;
+        match plan.images {
+            Images::All { cap } => self.look_at_all(module, cap, allowed),
+            Images::Some { samples } => self.look_at_some(module, samples, allowed),
+        }
+    }
+
+    fn look_at_all(
+        &mut self,
+        module: &Module,
+        cap: u128,
+        allowed: &[usize],
+    ) -> Result<BTreeSet<usize>, String> {
+        let cut = module.cut();
+        if cut.count() > cap {
+            return Err(format!("{} images are more than the cap", cut.count()));
+        }
+        let mut shown = BTreeSet::new();
+        cut.for_all(|hash, image| {
+            self.counts.images += 1;
+            let page = match self.known.get(&hash) {
+                Some(page) => *page,
+                None => self.explore_openings(hash, image())?,
+            };
+            shown.insert(page);
+            self.is_allowed(page, allowed)
+        })?;
+        Ok(shown)
+    }
+
+    fn look_at_some(
+        &mut self,
+        module: &Module,
+        samples: usize,
+        allowed: &[usize],
+    ) -> Result<BTreeSet<usize>, String> {
+        let cut = module.cut();
+        let mut images = vec![cut.all_oldest(), cut.all_newest()];
+        images.extend((0..samples).map(|_| cut.sample(&mut self.rng)));
+        let mut shown = BTreeSet::new();
+        for image in images {
+            self.counts.images += 1;
+            let chain = self.rng.below(4);
+            let stands = self.after_cut_openings(image, chain)?;
+            let page = self.finish(&stands)?;
+            shown.insert(page);
+            self.is_allowed(page, allowed)?;
+        }
+        Ok(shown)
+    }
+
+    fn is_allowed(&self, page: usize, allowed: &[usize]) -> Result<(), String> {
+        match allowed.contains(&page) {
+            true => Ok(()),
+            false => Err("opening again shows a page that is not permitted".to_string()),
+        }
+    }
+
+    /// What stands after a chain of openings, each cut at random.
+    fn after_cut_openings(&mut self, image: Vec<u8>, chain: usize) -> Result<Vec<u8>, String> {
+        let mut stands = image;
+        for _ in 0..chain {
+            let orders = self.opening(&stands)?;
+            let mut module = Module::held(&stands);
+            let p = self.rng.range(0, orders.len());
+            orders[..p].iter().for_each(|order| module.play(*order));
+            stands = module.cut().sample(&mut self.rng);
+        }
+        Ok(stands)
+    }
+
+    /// The page that an image shows, with every image that any chain of cut
+    /// openings can leave of it showing the same. A store permits new images,
+    /// those with its line at the newest stage; a flush or a fence permits none.
+    fn explore_openings(&mut self, hash: u128, image: Vec<u8>) -> Result<usize, String> {
+        let page = self.finish(&image)?;
+        self.known.insert(hash, page);
+        let mut unexplored = vec![image];
+        while let Some(image) = unexplored.pop() {
+            let orders = self.opening(&image)?;
+            let mut module = Module::held(&image);
+            for order in orders {
+                module.play(order);
+                self.counts.cuts += 1;
+                let Order::Store { place, .. } = order else { continue };
+                module.cut().with_newest(place / LINE).for_all(|hash, stands| {
+                    self.counts.images += 1;
+                    if !self.known.contains_key(&hash) {
+                        let stands = stands();
+                        let other = self.finish(&stands)?;
+                        self.known.insert(hash, other);
+                        unexplored.push(stands);
+                    }
+                    match self.known[&hash] == page {
+                        true => Ok(()),
+                        false => Err("a cut opening changes the page shown".to_string()),
+                    }
+                })?;
+            }
+        }
+        Ok(page)
+    }
+
+    /// The orders of opening this image, which must be served.
+    fn opening(&mut self, image: &[u8]) -> Result<Vec<Order>, String> {
+        let n = open_again(self.calls, image, self.sizes, &mut self.tape)?;
+        let orders = self.tape.get(..n.saturating_mul(3)).and_then(|part| orders_of(part, image.len()));
+        orders.ok_or("opening's tape is bad".to_string())
+    }
+
+    /// Opens an image again, with a tape that is just long enough, and
+    /// finishes: the page shown by both reads.
+    fn finish(&mut self, image: &[u8]) -> Result<usize, String> {
+        self.counts.openings += 1;
+        let n = self.opening(image)?.len();
+        let exact = &mut self.tape[..3 * n];
+        open_again(self.calls, image, self.sizes, exact)?;
+        let mut played = image.to_vec();
+        let answer = self.calls.play(&mut played, exact, n as u64);
+        if answer != (Answer { number: 0, orders: n as u64 }) {
+            return Err("the player does not play an opening's tape".to_string());
+        }
+        let [working, saved] = pages_read(self.calls, &played, self.sizes)?;
+        match working == saved {
+            true => Ok(self.page_number(&working)),
+            false => Err("after opening again the two reads differ".to_string()),
+        }
+    }
+}
+
+/// Opens an image again; this must be served. Gives the number of orders.
+fn open_again<C: Calls>(calls: &C, image: &[u8], sizes: Sizes, tape: &mut [u64]) -> Result<usize, String> {
+    let mut card = Card::zeros();
+    let answer = calls.open(image, sizes, &mut card, tape);
+    match answer.served() && card == Card::fresh(sizes) {
+        true => Ok(answer.orders as usize),
+        false => Err(format!("opening again answers {}", answer.number)),
+    }
+}
+
+fn is_epoch_store(order: &Order) -> bool {
+    matches!(order, Order::Store { place: EPOCH, .. })
+}
+
+/// The orders that a call wrote; the numbers after them keep their contents.
+fn written(tape: &[u64], answer: Answer, length: usize) -> Result<Vec<Order>, String> {
+    let end = answer.orders.saturating_mul(3) as usize;
+    let part = tape.get(..end).ok_or("more orders are reported than the tape can hold")?;
+    if tape[end..].iter().any(|number| *number != RUBBISH) {
+        return Err("numbers behind the orders are changed".to_string());
+    }
+    orders_of(part, length).ok_or("an order is ill formed".to_string())
+}

@@ -1,0 +1,575 @@
+//! The calls in safe Rust as one would write them for speed, for the
+//! benchmarks: no list of orders, straight onto the tape, with the same
+//! interface of slices as the library (card of 68 words, results of 2 words).
+//!
+//! The calls are not inlined, as the library's are not.
+//!
+//! Written from document 01 alone. The places that write or read many orders
+//! exist in two forms, by index and by chunks; the benchmark takes the better
+//! one of each measurement. Both are checked against the reference
+//! (`selftest`) and against the library (`bench`, before it measures).
+
+use crate::calls::*;
+
+/// How runs of orders are written and played.
+pub trait Form {
+    /// The 36 orders of copying a frame's 256 bytes to a place.
+    fn copy(tape: &mut [u64], to: usize, part: &[u8]);
+    /// The 36 orders of filling the frame at a place with zeros.
+    fn fill(tape: &mut [u64], to: usize);
+    /// Are these orders well formed for an image of this length?
+    fn good(tape: &[u64], length: usize) -> bool;
+    fn play(image: &mut [u8], tape: &[u64]);
+}
+
+pub struct Indexed;
+pub struct Chunked;
+
+const FRAME_NUMBERS: usize = 108;
+
+fn put(tape: &mut [u64], at: usize, order: [u64; 3]) {
+    tape[3 * at..3 * at + 3].copy_from_slice(&order);
+}
+
+fn flushes(tape: &mut [u64], first: usize, to: usize) {
+    for i in 0..4 {
+        put(tape, first + i, [2, (to + LINE * i) as u64, 0]);
+    }
+}
+
+fn good_order(kind: u64, place: u64, word: u64, length: u64) -> bool {
+    place < length
+        && match kind {
+            1 => place.is_multiple_of(8),
+            2 => place.is_multiple_of(64) && word == 0,
+            3 => place == 0 && word == 0,
+            _ => false,
+        }
+}
+
+impl Form for Indexed {
+    fn copy(tape: &mut [u64], to: usize, part: &[u8]) {
+        let (tape, part) = (&mut tape[..FRAME_NUMBERS], &part[..FRAME]);
+        for i in 0..32 {
+            tape[3 * i] = 1;
+            tape[3 * i + 1] = (to + 8 * i) as u64;
+            tape[3 * i + 2] = word_at(part, 8 * i);
+        }
+        flushes(tape, 32, to);
+    }
+
+    fn fill(tape: &mut [u64], to: usize) {
+        let tape = &mut tape[..FRAME_NUMBERS];
+        for i in 0..32 {
+            tape[3 * i] = 1;
+            tape[3 * i + 1] = (to + 8 * i) as u64;
+            tape[3 * i + 2] = 0;
+        }
+        flushes(tape, 32, to);
+    }
+
+    fn good(tape: &[u64], length: usize) -> bool {
+        for i in 0..tape.len() / 3 {
+            if !good_order(tape[3 * i], tape[3 * i + 1], tape[3 * i + 2], length as u64) {
+                return false;
+            }
+        }
+        true
+    }
+
+    fn play(image: &mut [u8], tape: &[u64]) {
+        for i in 0..tape.len() / 3 {
+            if tape[3 * i] == 1 {
+                put_word(image, tape[3 * i + 1] as usize, tape[3 * i + 2]);
+            }
+        }
+    }
+}
+
+impl Form for Chunked {
+    fn copy(tape: &mut [u64], to: usize, part: &[u8]) {
+        let (orders, _) = tape[..FRAME_NUMBERS].as_chunks_mut::<3>();
+        let (words, _) = part[..FRAME].as_chunks::<8>();
+        let (stores, flushes) = orders.split_at_mut(32);
+        for ((order, word), place) in stores.iter_mut().zip(words).zip((to as u64..).step_by(8)) {
+            *order = [1, place, u64::from_le_bytes(*word)];
+        }
+        for (order, place) in flushes.iter_mut().zip((to as u64..).step_by(64)) {
+            *order = [2, place, 0];
+        }
+    }
+
+    fn fill(tape: &mut [u64], to: usize) {
+        let (orders, _) = tape[..FRAME_NUMBERS].as_chunks_mut::<3>();
+        let (stores, flushes) = orders.split_at_mut(32);
+        for (order, place) in stores.iter_mut().zip((to as u64..).step_by(8)) {
+            *order = [1, place, 0];
+        }
+        for (order, place) in flushes.iter_mut().zip((to as u64..).step_by(64)) {
+            *order = [2, place, 0];
+        }
+    }
+
+    fn good(tape: &[u64], length: usize) -> bool {
+        let (orders, _) = tape.as_chunks::<3>();
+        orders.iter().all(|&[kind, place, word]| good_order(kind, place, word, length as u64))
+    }
+
+    fn play(image: &mut [u8], tape: &[u64]) {
+        let (words, _) = image.as_chunks_mut::<8>();
+        let (orders, _) = tape.as_chunks::<3>();
+        for &[kind, place, word] in orders {
+            if let (1, Some(at)) = (kind, words.get_mut(place as usize / 8)) {
+                *at = word.to_le_bytes();
+            }
+        }
+    }
+}
+
+/// What sound metadata say: the epoch, the active state line, and as masks of
+/// levels those in state 1, those in state 2 and those with a spare.
+struct Sound {
+    epoch: u64,
+    active: usize,
+    own: u64,
+    in_spare: u64,
+    paired: u64,
+}
+
+impl Sound {
+    fn of(image: &[u8], sizes: Sizes) -> Result<Sound, u64> {
+        if !sizes.in_range() {
+            return Err(1);
+        }
+        if image.len() != sizes.image_length() {
+            return Err(2);
+        }
+        let named = (word_at(image, 64), word_at(image, 72), word_at(image, 80));
+        if named != (sizes.levels, sizes.spares, sizes.frames) {
+            return Err(3);
+        }
+        let epoch = word_at(image, EPOCH);
+        let active = if epoch.is_multiple_of(2) { EVEN_STATES } else { ODD_STATES };
+        let (levels, spares) = (sizes.levels as usize, sizes.spares as usize);
+        let (states, beyond) = image[active..active + LINE].split_at(levels);
+        let (pairs, behind) = image[PAIRS..PAIRS + LINE].split_at(spares);
+        let all_zero = beyond.iter().fold(0, |all, state| all | state) == 0;
+        let all_unpaired = behind.iter().fold(UNPAIRED, |all, level| all & level) == UNPAIRED;
+        let paired = masked(pairs, levels).ok_or(4u64)?;
+        let (mut own, mut in_spare, mut greatest) = (0, 0, 0);
+        for (level, &state) in states.iter().enumerate() {
+            own |= u64::from(state == 1) << level;
+            in_spare |= u64::from(state == 2) << level;
+            greatest = state.max(greatest);
+        }
+        let states_fit = greatest <= 2 && in_spare & !paired == 0 && paired & !(own | in_spare) == 0;
+        match all_zero && all_unpaired && states_fit {
+            true => Ok(Sound { epoch, active, own, in_spare, paired }),
+            false => Err(4),
+        }
+    }
+
+    fn free_spare(&self, pairs: &[u8]) -> Option<usize> {
+        let unpaired = pairs.iter().position(|level| *level == UNPAIRED);
+        unpaired.or_else(|| pairs.iter().position(|level| self.in_spare >> level & 1 == 0))
+    }
+}
+
+/// The mask of the levels that these pairs name, each below the end and once.
+fn masked(pairs: &[u8], levels: usize) -> Option<u64> {
+    let mut paired = 0;
+    for &level in pairs {
+        if level == UNPAIRED {
+            continue;
+        }
+        if level as usize >= levels || paired >> level & 1 == 1 {
+            return None;
+        }
+        paired |= 1 << level;
+    }
+    Some(paired)
+}
+
+/// The spare of a paired level.
+fn spare_of(image: &[u8], level: usize) -> usize {
+    image[PAIRS..PAIRS + LINE].iter().position(|paired| *paired as usize == level).unwrap_or(0)
+}
+
+fn sizes_of(card: &[u64]) -> Sizes {
+    Sizes::new(card[0], card[1], card[2])
+}
+
+fn card_is_true(own: u64, card: &[u64]) -> bool {
+    let (levels, frames) = (card[0] as usize, card[2]);
+    let (touched, marks) = (card[3], &card[4..]);
+    let over = |bits: u64, size: u64| bits >> (size - 1) >> 1 != 0;
+    !over(touched, card[0])
+        && touched & own == 0
+        && !over(marks[..levels].iter().fold(0, |all, m| all | m), frames)
+        && marks[levels..].iter().fold(0, |all, m| all | m) == 0
+}
+
+#[inline(never)]
+pub fn format(image: &mut [u8], sizes: Sizes) -> u64 {
+    if !sizes.in_range() {
+        return 1;
+    }
+    if image.len() != sizes.image_length() {
+        return 2;
+    }
+    image.fill(0);
+    put_word(image, 64, sizes.levels);
+    put_word(image, 72, sizes.spares);
+    put_word(image, 80, sizes.frames);
+    image[PAIRS..PAIRS + LINE].fill(UNPAIRED);
+    0
+}
+
+/// The number of a finished call; its orders go to the results.
+fn answered(result: Result<usize, u64>, out: &mut [u64]) -> u64 {
+    out[0] = result.unwrap_or(0) as u64;
+    out[1] = 0;
+    result.err().unwrap_or(0)
+}
+
+#[inline(never)]
+pub fn open<F: Form>(image: &[u8], sizes: Sizes, card: &mut [u64], tape: &mut [u64], out: &mut [u64]) -> u64 {
+    card.fill(0);
+    let result = opening::<F>(image, sizes, tape);
+    if result.is_ok() {
+        card[..3].copy_from_slice(&[sizes.levels, sizes.spares, sizes.frames]);
+    }
+    answered(result, out)
+}
+
+fn opening<F: Form>(image: &[u8], sizes: Sizes, tape: &mut [u64]) -> Result<usize, u64> {
+    let sound = Sound::of(image, sizes)?;
+    let (levels, frames) = (sizes.levels as usize, sizes.frames as usize);
+    let untreated = sound.own & !sound.paired;
+    let treated = levels - untreated.count_ones() as usize;
+    let count = 36 * frames * treated + 1;
+    let tape = tape.get_mut(..3 * count).ok_or(11u64)?;
+    let mut level_parts = tape.chunks_exact_mut(FRAME_NUMBERS * frames);
+    for l in (0..levels).filter(|l| untreated >> l & 1 == 0) {
+        let parts = level_parts.next().ok_or(11u64)?.chunks_exact_mut(FRAME_NUMBERS);
+        let own = sizes.in_level(l, 0);
+        let spare = sizes.in_spare(spare_of(image, l), 0);
+        match (sound.own >> l & 1, sound.in_spare >> l & 1) {
+            (1, _) => copy_all::<F>(parts, &image[own..], spare),
+            (_, 1) => copy_all::<F>(parts, &image[spare..], own),
+            _ => parts.enumerate().for_each(|(f, part)| F::fill(part, own + FRAME * f)),
+        }
+    }
+    put(tape, count - 1, [3, 0, 0]);
+    Ok(count)
+}
+
+/// Copies frame after frame from the source's start to the place.
+fn copy_all<'a, F: Form>(parts: impl Iterator<Item = &'a mut [u64]>, source: &[u8], to: usize) {
+    for (f, (part, frame)) in parts.zip(source.chunks_exact(FRAME)).enumerate() {
+        F::copy(part, to + FRAME * f, frame);
+    }
+}
+
+#[inline(never)]
+pub fn write<F: Form>(
+    image: &[u8],
+    card: &mut [u64],
+    target: Target,
+    bytes: &[u8],
+    tape: &mut [u64],
+    out: &mut [u64],
+) -> u64 {
+    answered(writing::<F>(image, card, target, bytes, tape), out)
+}
+
+/// What a write does before its own words.
+enum Before {
+    Nothing,
+    Pair(usize),
+    Marked(usize),
+}
+
+fn writing<F: Form>(
+    image: &[u8],
+    card: &mut [u64],
+    target: Target,
+    bytes: &[u8],
+    tape: &mut [u64],
+) -> Result<usize, u64> {
+    let sizes = sizes_of(card);
+    let sound = Sound::of(image, sizes)?;
+    let length = bytes.len();
+    if !card_is_true(sound.own, card) {
+        return Err(5);
+    }
+    if target.level >= sizes.levels {
+        return Err(6);
+    }
+    if target.frame >= sizes.frames {
+        return Err(7);
+    }
+    if length == 0 || target.offset > 256 || length as u64 > 256 - target.offset {
+        return Err(8);
+    }
+    let (level, frame, offset) = (target.level as usize, target.frame as usize, target.offset as usize);
+    let marks = card[4 + level];
+    let pairs = &image[PAIRS..PAIRS + sizes.spares as usize];
+    let needs_copy = (sound.own & !card[3]) >> level & 1 == 1;
+    let before = match (needs_copy, sound.paired >> level & 1) {
+        (false, _) => Before::Nothing,
+        (true, 0) => Before::Pair(sound.free_spare(pairs).ok_or(9u64)?),
+        (true, _) => Before::Marked(spare_of(image, level)),
+    };
+    let copied = match before {
+        Before::Nothing => 0,
+        Before::Pair(_) => 36 * sizes.frames as usize + 6,
+        Before::Marked(_) => 36 * marks.count_ones() as usize + 4,
+    };
+    let words = (offset + length - 1) / 8 - offset / 8 + 1;
+    let tape = tape.get_mut(..3 * (copied + words)).ok_or(11u64)?;
+    match before {
+        Before::Nothing => {}
+        Before::Pair(spare) => take::<F>(image, sizes, level, spare, tape),
+        Before::Marked(spare) => copy_marked::<F>(image, sizes, level, spare, marks, tape),
+    }
+    if copied > 0 {
+        turn(image, sound.active, level, &mut tape[3 * (copied - 4)..]);
+        card[4 + level] = 0;
+    }
+    let first = sizes.in_level(level, frame) + offset;
+    span(image, first, bytes, &mut tape[3 * copied..]);
+    card[3] |= 1 << level;
+    card[4 + level] |= 1 << frame;
+    Ok(copied + words)
+}
+
+fn byte_in_word(image: &[u8], at: usize, byte: u8) -> [u64; 3] {
+    let (place, shift) = (at & !7, 8 * (at & 7));
+    let word = word_at(image, place) & !(0xff << shift) | (byte as u64) << shift;
+    [1, place as u64, word]
+}
+
+fn take<F: Form>(image: &[u8], sizes: Sizes, level: usize, spare: usize, tape: &mut [u64]) {
+    put(tape, 0, byte_in_word(image, PAIRS + spare, level as u8));
+    put(tape, 1, [2, PAIRS as u64, 0]);
+    let frames = sizes.frames as usize;
+    let parts = tape[6..].chunks_exact_mut(FRAME_NUMBERS).take(frames);
+    copy_all::<F>(parts, &image[sizes.in_level(level, 0)..], sizes.in_spare(spare, 0));
+}
+
+fn copy_marked<F: Form>(
+    image: &[u8],
+    sizes: Sizes,
+    level: usize,
+    spare: usize,
+    mut marks: u64,
+    tape: &mut [u64],
+) {
+    let mut at = 0;
+    while marks != 0 {
+        let f = marks.trailing_zeros() as usize;
+        F::copy(&mut tape[at..], sizes.in_spare(spare, f), &image[sizes.in_level(level, f)..]);
+        at += FRAME_NUMBERS;
+        marks &= marks - 1;
+    }
+}
+
+fn turn(image: &[u8], active: usize, level: usize, tape: &mut [u64]) {
+    put(tape, 0, [3, 0, 0]);
+    put(tape, 1, byte_in_word(image, active + level, 2));
+    put(tape, 2, [2, active as u64, 0]);
+    put(tape, 3, [3, 0, 0]);
+}
+
+fn span(image: &[u8], first: usize, bytes: &[u8], tape: &mut [u64]) {
+    let low = first & !7;
+    let mut buffer = [0; FRAME];
+    let room = &mut buffer[..8 * (tape.len() / 3)];
+    room.copy_from_slice(&image[low..low + room.len()]);
+    room[first - low..first - low + bytes.len()].copy_from_slice(bytes);
+    for (i, word) in room.as_chunks::<8>().0.iter().enumerate() {
+        put(tape, i, [1, (low + 8 * i) as u64, u64::from_le_bytes(*word)]);
+    }
+}
+
+#[inline(never)]
+pub fn save(image: &[u8], card: &mut [u64], tape: &mut [u64], out: &mut [u64]) -> u64 {
+    answered(saving(image, card, tape), out)
+}
+
+fn saving(image: &[u8], card: &mut [u64], tape: &mut [u64]) -> Result<usize, u64> {
+    let sizes = sizes_of(card);
+    let sound = Sound::of(image, sizes)?;
+    if !card_is_true(sound.own, card) {
+        return Err(5);
+    }
+    let epoch = sound.epoch.checked_add(1).ok_or(10u64)?;
+    let levels = sizes.levels as usize;
+    let marked: u32 = card[4..4 + levels].iter().map(|m| m.count_ones()).sum();
+    let count = 4 * marked as usize + 14;
+    let tape = tape.get_mut(..3 * count).ok_or(11u64)?;
+    let mut at = 0;
+    for (l, &word) in card[4..4 + levels].iter().enumerate() {
+        let mut marks = word;
+        while marks != 0 {
+            flushes(tape, at, sizes.in_level(l, marks.trailing_zeros() as usize));
+            at += 4;
+            marks &= marks - 1;
+        }
+    }
+    let idle = EVEN_STATES + ODD_STATES - sound.active;
+    let mut states: [u8; LINE] = image[sound.active..sound.active + LINE].try_into().unwrap_or([0; LINE]);
+    let mut touched = card[3];
+    while touched != 0 {
+        states[touched.trailing_zeros() as usize] = 1;
+        touched &= touched - 1;
+    }
+    put(tape, at, [3, 0, 0]);
+    for (i, word) in states.as_chunks::<8>().0.iter().enumerate() {
+        put(tape, at + 1 + i, [1, (idle + 8 * i) as u64, u64::from_le_bytes(*word)]);
+    }
+    put(tape, at + 9, [2, idle as u64, 0]);
+    put(tape, at + 10, [3, 0, 0]);
+    put(tape, at + 11, [1, 0, epoch]);
+    put(tape, at + 12, [2, 0, 0]);
+    put(tape, at + 13, [3, 0, 0]);
+    card[3] = 0;
+    Ok(count)
+}
+
+#[inline(never)]
+pub fn replay<F: Form>(image: &mut [u8], tape: &[u64], n: u64, out: &mut [u64]) -> u64 {
+    answered(playing::<F>(image, tape, n), out)
+}
+
+fn playing<F: Form>(image: &mut [u8], tape: &[u64], n: u64) -> Result<usize, u64> {
+    if !image.len().is_multiple_of(LINE) {
+        return Err(2);
+    }
+    if !tape.len().is_multiple_of(3) {
+        return Err(12);
+    }
+    let played = n.min(tape.len() as u64 / 3) as usize;
+    let part = &tape[..3 * played];
+    if !F::good(part, image.len()) {
+        return Err(12);
+    }
+    F::play(image, part);
+    Ok(played)
+}
+
+#[inline(never)]
+pub fn read(page: Page, image: &[u8], sizes: Sizes, level: u64, frame: u64, out: &mut [u64]) -> u64 {
+    let found = reading(page, image, sizes, level, frame);
+    let start = found.unwrap_or(None);
+    out[0] = start.unwrap_or(0) as u64;
+    out[1] = start.map_or(0, |_| FRAME as u64);
+    found.err().unwrap_or(0)
+}
+
+fn reading(page: Page, image: &[u8], sizes: Sizes, level: u64, frame: u64) -> Result<Option<usize>, u64> {
+    let sound = Sound::of(image, sizes)?;
+    if level >= sizes.levels {
+        return Err(6);
+    }
+    if frame >= sizes.frames {
+        return Err(7);
+    }
+    let (level, frame) = (level as usize, frame as usize);
+    let state = if page == Page::Working { 1 } else { image[sound.active + level] };
+    Ok(match state {
+        0 => None,
+        1 => Some(sizes.in_level(level, frame)),
+        _ => Some(sizes.in_spare(spare_of(image, level), frame)),
+    })
+}
+
+#[inline(never)]
+pub fn same(first: &[u8], second: &[u8], sizes: Sizes, out: &mut [u64]) -> u64 {
+    let alike = likeness(first, second, sizes);
+    out[0] = u64::from(alike.unwrap_or(false));
+    out[1] = 0;
+    alike.err().unwrap_or(0)
+}
+
+fn likeness(first: &[u8], second: &[u8], sizes: Sizes) -> Result<bool, u64> {
+    let (a, b) = (Sound::of(first, sizes)?, Sound::of(second, sizes)?);
+    let length = FRAME * sizes.frames as usize;
+    let saved = |image: &[u8], state: u8, l: usize| match state {
+        1 => sizes.in_level(l, 0),
+        _ => sizes.in_spare(spare_of(image, l), 0),
+    };
+    let agree = |l: usize| match (first[a.active + l], second[b.active + l]) {
+        (0, 0) => true,
+        (0, s) => second[saved(second, s, l)..][..length].iter().all(|byte| *byte == 0),
+        (s, 0) => first[saved(first, s, l)..][..length].iter().all(|byte| *byte == 0),
+        (s, t) => first[saved(first, s, l)..][..length] == second[saved(second, t, l)..][..length],
+    };
+    Ok((0..sizes.levels as usize).all(agree))
+}
+
+/// The fast calls in one of the forms, behind the common interface.
+#[derive(Clone, Copy, PartialEq, Eq, Debug)]
+pub enum Fast {
+    Indexed,
+    Chunked,
+}
+
+impl Fast {
+    pub const FORMS: [Fast; 2] = [Fast::Indexed, Fast::Chunked];
+}
+
+impl Calls for Fast {
+    fn lay_out(&self, image: &mut [u8], sizes: Sizes) -> u64 {
+        format(image, sizes)
+    }
+
+    fn open(&self, image: &[u8], sizes: Sizes, card: &mut Card, tape: &mut [u64]) -> Answer {
+        let (mut words, mut out) = (card.to_words(), [0; 2]);
+        let number = match self {
+            Fast::Indexed => open::<Indexed>(image, sizes, &mut words, tape, &mut out),
+            Fast::Chunked => open::<Chunked>(image, sizes, &mut words, tape, &mut out),
+        };
+        *card = Card::from_words(&words);
+        Answer { number, orders: out[0] }
+    }
+
+    fn write(&self, image: &[u8], card: &mut Card, target: Target, bytes: &[u8], tape: &mut [u64]) -> Answer {
+        let (mut words, mut out) = (card.to_words(), [0; 2]);
+        let number = match self {
+            Fast::Indexed => write::<Indexed>(image, &mut words, target, bytes, tape, &mut out),
+            Fast::Chunked => write::<Chunked>(image, &mut words, target, bytes, tape, &mut out),
+        };
+        *card = Card::from_words(&words);
+        Answer { number, orders: out[0] }
+    }
+
+    fn save(&self, image: &[u8], card: &mut Card, tape: &mut [u64]) -> Answer {
+        let (mut words, mut out) = (card.to_words(), [0; 2]);
+        let number = save(image, &mut words, tape, &mut out);
+        *card = Card::from_words(&words);
+        Answer { number, orders: out[0] }
+    }
+
+    fn play(&self, image: &mut [u8], tape: &[u64], n: u64) -> Answer {
+        let mut out = [0; 2];
+        let number = match self {
+            Fast::Indexed => replay::<Indexed>(image, tape, n, &mut out),
+            Fast::Chunked => replay::<Chunked>(image, tape, n, &mut out),
+        };
+        Answer { number, orders: out[0] }
+    }
+
+    fn read(&self, page: Page, image: &[u8], sizes: Sizes, level: u64, frame: u64) -> Part {
+        let mut out = [0; 2];
+        let number = read(page, image, sizes, level, frame, &mut out);
+        Part { number, start: out[0], length: out[1] }
+    }
+
+    fn like(&self, first: &[u8], second: &[u8], sizes: Sizes) -> (u64, bool) {
+        let mut out = [0; 2];
+        let number = same(first, second, sizes, &mut out);
+        (number, out[0] == 1)
+    }
+}

@@ -1,0 +1,448 @@
+//! Groups of checks that run over any implementation of the calls: the bench
+//! cases, every permitted image of single calls and short histories, random
+//! histories, and calls with any contents.
+//!
+//! Written from document 01 alone. `selftest` runs them over the reference,
+//! `differential` over the library. Each gives a line of counts or the first
+//! failure.
+
+use crate::arbitrary::{self, Metadata};
+use crate::book::{Call, Deed};
+use crate::calls::*;
+use crate::crash::{permitted, Module};
+use crate::explore::*;
+use crate::prng::Rng;
+
+type Outcome = Result<String, String>;
+
+fn due<T: PartialEq + std::fmt::Debug>(what: &str, got: T, expected: T) -> Result<(), String> {
+    match got == expected {
+        true => Ok(()),
+        false => Err(format!("{what}: {got:?}, due {expected:?}")),
+    }
+}
+
+/// A write of bytes that name their place in the history.
+fn write_call(sizes: Sizes, level: u64, offset: u64, length: usize, value: u8) -> Call {
+    let target = Target { level, frame: 0, offset };
+    let bytes = (0..length).map(|i| value.wrapping_add(i as u8)).collect();
+    Call { deed: Deed::Write(target, bytes), tape: sizes.room() }
+}
+
+fn plain(deed: Deed, sizes: Sizes) -> Call {
+    Call { deed, tape: sizes.room() }
+}
+
+fn laid_out<C: Calls>(calls: &C, sizes: Sizes) -> Result<Vec<u8>, String> {
+    let mut image = vec![0xee; sizes.image_length()];
+    due("laying-out", calls.lay_out(&mut image, sizes), 0)?;
+    Ok(image)
+}
+
+/// P1 to P10 and the cut line of P4.
+pub fn bench_cases<C: Calls>(calls: &C) -> Outcome {
+    let sizes = Sizes::new(2, 1, 1);
+    due("P1 length", sizes.image_length(), 1280)?;
+    due("P1 greatest", Sizes::new(64, 64, 64).image_length(), 2_097_664)?;
+    due("P1 M=65", calls.lay_out(&mut [0; 1280], Sizes::new(65, 1, 1)), 1)?;
+    let image = laid_out(calls, sizes)?;
+    let mut card = Card::zeros();
+    due("P2 218", calls.open(&image, sizes, &mut card, &mut [0; 218]).number, 11)?;
+    let served = calls.open(&image, sizes, &mut card, &mut [0; 219]);
+    due("P2 219", served, Answer { number: 0, orders: 73 })?;
+
+    let mut explorer = Explorer::new(calls, sizes, 1);
+    let mut history = explorer.start(&image, Plan::ALL)?;
+    let mut step = |call: Call| -> Result<(Step, Vec<u8>), String> {
+        let step = explorer.step(&mut history, &call, Plan::ALL)?;
+        Ok((step, history.module.image().to_vec()))
+    };
+    let (p3, _) = step(write_call(sizes, 0, 6, 4, 0xa1))?;
+    let places: Vec<u64> = p3.orders.iter().map(|o| o.numbers()[1]).collect();
+    due("P3 stores", places, vec![512, 520])?;
+    let (p4, image) = step(plain(Deed::Save, sizes))?;
+    due("P4 orders", p4.answer.orders, 18)?;
+    due("P4 states", &image[ODD_STATES..ODD_STATES + 2], &[1, 0])?;
+    cut_line_of_p4(&p4)?;
+    let (p5, _) = step(write_call(sizes, 0, 0, 8, 0x50))?;
+    due("P5 orders", p5.answer.orders, 43)?;
+    due("P5 first", p5.orders.first(), Some(&pair_store(0)))?;
+    let (p6, image) = step(write_call(sizes, 0, 16, 8, 0x60))?;
+    due("P6 orders", p6.answer.orders, 1)?;
+    let saved = calls.read(Page::Saved, &image, sizes, 0, 0);
+    due("P6 saved frame", saved, Part { number: 0, start: 1024, length: 256 })?;
+    let (p7, image) = step(write_call(sizes, 1, 0, 8, 0x70))?;
+    due("P7 orders", p7.answer.orders, 1)?;
+    let saved = calls.read(Page::Saved, &image, sizes, 1, 0);
+    due("P7 saved read", saved, Part { number: 0, start: 0, length: 0 })?;
+    due("P8 orders", step(plain(Deed::Save, sizes))?.0.answer.orders, 22)?;
+    let (p8, _) = step(write_call(sizes, 1, 0, 8, 0x80))?;
+    due("P8 spare", p8.orders.first(), Some(&pair_store(1)))?;
+    let mut number = |call: Call| Ok::<u64, String>(step(call)?.0.answer.number);
+    due("P8 level 0", number(write_call(sizes, 0, 0, 8, 0x81))?, 9)?;
+    due("P9 255,1", number(write_call(sizes, 1, 255, 1, 0x90))?, 0)?;
+    due("P9 256,1", number(write_call(sizes, 1, 256, 1, 0x91))?, 8)?;
+    due("P9 length 0", number(write_call(sizes, 1, 0, 0, 0x92))?, 8)?;
+    due("P10 orders", p10(calls)?, 41)?;
+    Ok("P1 to P10 and the cut line of P4".to_string())
+}
+
+/// The store that pairs spare 0, of one, with a level.
+fn pair_store(level: u64) -> Order {
+    Order::Store { place: 256, word: 0xffff_ffff_ffff_ff00 + level }
+}
+
+/// Zeros up to 15 orders, either at 16 and 17, the new bytes at 18.
+fn cut_line_of_p4(save: &Step) -> Result<(), String> {
+    let [zeros, .., new] = &save.shown[..] else { return Err("P4 has no cuts".to_string()) };
+    let both = zeros | new;
+    due("P4 cut, pages", (zeros.len(), new.len(), both.len()), (1, 1, 2))?;
+    for (p, shown) in save.shown.iter().enumerate() {
+        let expected = match p {
+            0..=15 => zeros,
+            16 | 17 => &both,
+            _ => new,
+        };
+        due(&format!("P4 cut after {p}"), shown, expected)?;
+    }
+    Ok(())
+}
+
+/// M=1, S=1, B=4, paired, state 1, untouched, one mark: a one-word write.
+fn p10<C: Calls>(calls: &C) -> Result<u64, String> {
+    let sizes = Sizes::new(1, 1, 4);
+    let paired = Metadata { states: vec![1], pairs: vec![0] };
+    let image = arbitrary::image_of(sizes, 0, &paired, 0, &arbitrary::distinct_data(sizes));
+    let mut card = Card::fresh(sizes);
+    card.marks[0] = 0b0100;
+    let target = Target { level: 0, frame: 1, offset: 8 };
+    let answer = calls.write(&image, &mut card, target, &[7; 8], &mut [0; 3 * 41]);
+    due("P10 number", answer.number, 0)?;
+    due("P10 marks", (card.touched, card.marks[0]), (1, 0b0010))?;
+    Ok(answer.orders)
+}
+
+/// Ten lines with one waiting store each give 1,024 images, each of which
+/// opens again and shows the saved page.
+pub fn waiting_lines<C: Calls>(calls: &C) -> Outcome {
+    let sizes = Sizes::new(3, 1, 1);
+    let mut explorer = Explorer::new(calls, sizes, 2);
+    let image = laid_out(calls, sizes)?;
+    let mut history = explorer.start(&image, Plan::ALL)?;
+    for line in 0..10 {
+        let call = write_call(sizes, line / 4, 64 * (line % 4) + 8, 8, 1 + line as u8);
+        explorer.step(&mut history, &call, Plan::ALL)?;
+        due("images", history.module.cut().count(), 2 << line)?;
+    }
+    let before = explorer.distinct();
+    Ok(format!(
+        "ten waiting lines give {} images, {before} distinct opened again",
+        history.module.cut().count()
+    ))
+}
+
+/// The module fed order by order permits what document 01's sentence says of
+/// the whole list, for random orders on few lines.
+pub fn crash_model(lists: usize) -> Outcome {
+    let mut rng = Rng::new(3);
+    let (mut cuts, mut stages) = (0, 0);
+    for _ in 0..lists {
+        let held = rng.bytes(3 * LINE);
+        let mut module = Module::held(&held);
+        let mut orders = Vec::new();
+        for _ in 0..rng.range(1, 24) {
+            let order = match rng.below(8) {
+                0 => Order::Fence,
+                1 | 2 => Order::Flush { place: LINE * rng.below(3) },
+                _ => Order::Store { place: WORD * rng.below(24), word: rng.below(3) as u64 },
+            };
+            module.play(order);
+            orders.push(order);
+            cuts += 1;
+            stages += check_stages(&held, &orders, &module)?;
+        }
+    }
+    Ok(format!("{cuts} cuts, {stages} permitted line contents as the sentence says"))
+}
+
+fn check_stages(held: &[u8], orders: &[Order], module: &Module) -> Result<usize, String> {
+    let lines: Vec<_> = (0..held.len() / LINE).map(|line| permitted(held, orders, line)).collect();
+    let expected: usize = lines.iter().map(Vec::len).product();
+    let cut = module.cut();
+    due("permitted images", cut.count(), expected as u128)?;
+    let mut seen = std::collections::BTreeSet::new();
+    let is_permitted = |image: &[u8]| {
+        image.chunks(LINE).zip(&lines).all(|(bytes, line)| line.iter().any(|permitted| permitted == bytes))
+    };
+    cut.for_all(|hash, image| {
+        seen.insert(hash);
+        due("an image is permitted", is_permitted(&image()), true)
+    })?;
+    due("distinct images", seen.len(), expected)?;
+    due("extremes are permitted", is_permitted(&cut.all_oldest()) && is_permitted(&cut.all_newest()), true)?;
+    Ok(lines.iter().map(Vec::len).sum())
+}
+
+/// The start images of the exhaustive groups: every sound choice of states
+/// and pairs, both parities, the idle line all 1 or all 2.
+fn starts(sizes: Sizes, data: &[u8]) -> Vec<Vec<u8>> {
+    let mut images = Vec::new();
+    for metadata in arbitrary::all_sound(sizes) {
+        for (epoch, idle) in [(6, 1), (7, 2)] {
+            images.push(arbitrary::image_of(sizes, epoch, &metadata, idle, data));
+        }
+    }
+    images
+}
+
+fn counted<C: Calls>(explorer: &Explorer<C>, total: &mut Counts) -> usize {
+    total.calls += explorer.counts.calls;
+    total.cuts += explorer.counts.cuts;
+    total.images += explorer.counts.images;
+    total.openings += explorer.counts.openings;
+    explorer.distinct()
+}
+
+fn told(counts: Counts, distinct: usize) -> String {
+    let Counts { calls, cuts, images, openings } = counts;
+    format!("{calls} calls, {cuts} cuts, {images} images ({distinct} distinct), {openings} finished openings")
+}
+
+/// Every permitted image of single calls with one frame a level, all words of
+/// levels and spares different: each call alone, and a save after each write.
+pub fn single_calls<C: Calls>(calls: &C) -> Outcome {
+    let sizes = Sizes::new(1, 1, 1);
+    let (mut total, mut distinct) = (Counts::default(), 0);
+    for image in starts(sizes, &arbitrary::distinct_data(sizes)) {
+        let mut explorer = Explorer::new(calls, sizes, 4);
+        let start = explorer.start(&image, Plan::ALL)?;
+        explorer.step(&mut start.clone(), &plain(Deed::Open(sizes), sizes), Plan::ALL)?;
+        explorer.step(&mut start.clone(), &plain(Deed::Save, sizes), Plan::ALL)?;
+        for (offset, length) in [(0, 8), (60, 8), (0, 64), (32, 64)] {
+            let mut history = start.clone();
+            explorer.step(&mut history, &write_call(sizes, 0, offset, length, 0x90), Plan::ALL)?;
+            explorer.step(&mut history, &plain(Deed::Save, sizes), Plan::ALL)?;
+        }
+        distinct += counted(&explorer, &mut total);
+    }
+    Ok(told(total, distinct))
+}
+
+/// The calls of short histories: openings (one refused), writes to one and to
+/// two lines of each level, a save. The bytes name the depth.
+fn alphabet(sizes: Sizes, depth: usize) -> Vec<Call> {
+    let value = 0x40 + 0x10 * depth as u8;
+    let mut calls = vec![
+        plain(Deed::Save, sizes),
+        plain(Deed::Open(sizes), sizes),
+        plain(Deed::Open(Sizes { frames: 2, ..sizes }), sizes),
+    ];
+    for level in 0..sizes.levels {
+        calls.push(write_call(sizes, level, 0, 8, value));
+    }
+    calls.push(write_call(sizes, 0, 60, 8, value));
+    calls
+}
+
+fn descend<C: Calls>(
+    explorer: &mut Explorer<C>,
+    sizes: Sizes,
+    history: &History,
+    path: &mut Vec<Call>,
+    depth: usize,
+) -> Result<(), String> {
+    if path.len() == depth {
+        return Ok(());
+    }
+    for call in alphabet(sizes, path.len()) {
+        let mut next = history.clone();
+        let step = explorer.step(&mut next, &call, Plan::ALL);
+        path.push(call);
+        step.map_err(|what| told_after(&path[..path.len() - 1], what))?;
+        descend(explorer, sizes, &next, path, depth)?;
+        path.pop();
+    }
+    Ok(())
+}
+
+fn told_after(path: &[Call], what: String) -> String {
+    path.iter().map(|call| format!("{call}; ")).chain([what]).collect()
+}
+
+/// Every history of up to `depth` calls from the alphabet, from every start
+/// image, at every cut, over every permitted image.
+pub fn short_histories<C: Calls>(calls: &C, sizes: Sizes, depth: usize) -> Outcome {
+    let (mut total, mut distinct) = (Counts::default(), 0);
+    for image in starts(sizes, &arbitrary::sparse_data(sizes)) {
+        let mut explorer = Explorer::new(calls, sizes, 5);
+        let tell = |what| format!("sizes {sizes}, {}: {what}", metadata_of(&image, sizes));
+        let start = explorer.start(&image, Plan::ALL).map_err(tell)?;
+        descend(&mut explorer, sizes, &start, &mut Vec::new(), depth).map_err(tell)?;
+        distinct += counted(&explorer, &mut total);
+    }
+    Ok(told(total, distinct))
+}
+
+fn metadata_of(image: &[u8], sizes: Sizes) -> String {
+    let line = if image[EPOCH].is_multiple_of(2) { EVEN_STATES } else { ODD_STATES };
+    let states = &image[line..][..sizes.levels as usize];
+    let pairs = &image[PAIRS..][..sizes.spares as usize];
+    format!("epoch {} states {states:?} pairs {pairs:?}", image[EPOCH])
+}
+
+/// How random histories are made.
+#[derive(Clone, Copy)]
+pub struct Random {
+    pub seed: u64,
+    pub histories: usize,
+    pub calls: usize,
+    pub most: usize,
+    pub plan: Plan,
+}
+
+/// Random histories from laid-out and from arbitrary sound images, with any
+/// arguments and tapes, cut and opened again.
+pub fn random_histories<C: Calls>(calls: &C, random: Random) -> Outcome {
+    let mut rng = Rng::new(random.seed);
+    let mut total = Counts::default();
+    for number in 0..random.histories {
+        let sizes = arbitrary::sizes(&mut rng, random.most);
+        let image = match rng.once_in(4) {
+            true => laid_out(calls, sizes)?,
+            false => arbitrary::sound_image(&mut rng, sizes),
+        };
+        let mut explorer = Explorer::new(calls, sizes, rng.word());
+        let tell = |what| format!("history {number}, sizes {sizes}: {what}");
+        let mut history = explorer.start(&image, random.plan).map_err(tell)?;
+        for _ in 0..random.calls {
+            let call = arbitrary::call(&mut rng, sizes);
+            explorer.step(&mut history, &call, random.plan).map_err(tell)?;
+        }
+        counted(&explorer, &mut total);
+    }
+    let Counts { calls, cuts, images, openings } = total;
+    Ok(format!(
+        "{} histories, {calls} calls, {cuts} cuts, {images} images, {openings} finished openings",
+        random.histories
+    ))
+}
+
+/// Every call with any contents: images sound and damaged, cards true and
+/// untrue, arguments in and out of range, tapes short, exact, long. What is
+/// answered is judged by `Compared`.
+pub fn any_contents<C: Calls>(calls: &C, seed: u64, rounds: usize, sizes: fn(&mut Rng) -> Sizes) {
+    let mut rng = Rng::new(seed);
+    for _ in 0..rounds {
+        let sizes = sizes(&mut rng);
+        let mut image = arbitrary::sound_image(&mut rng, sizes);
+        like_its_twin(calls, &mut rng, &image, sizes);
+        if rng.once_in(3) {
+            (0..rng.range(1, 2)).for_each(|_| arbitrary::damage(&mut rng, &mut image, sizes));
+        }
+        let named = if rng.once_in(8) { arbitrary::odd_sizes(&mut rng, sizes) } else { sizes };
+        lay_out_and_read(calls, &mut rng, &image, named);
+        like_others(calls, &mut rng, &image, sizes, named);
+        open_any(calls, &mut rng, &image, named);
+        write_any(calls, &mut rng, &image, sizes);
+        save_any(calls, &mut rng, &image, sizes);
+        play_any(calls, &mut rng, &image);
+    }
+}
+
+fn lay_out_and_read<C: Calls>(calls: &C, rng: &mut Rng, image: &[u8], sizes: Sizes) {
+    calls.lay_out(&mut image.to_vec(), sizes);
+    let mut near = |end: u64| {
+        let any = rng.word();
+        rng.pick(&[0, end / 2, end.wrapping_sub(1), end, end.wrapping_add(1), 255, any, u64::MAX])
+    };
+    for _ in 0..4 {
+        let (level, frame) = (near(sizes.levels), near(sizes.frames));
+        calls.read(Page::Working, image, sizes, level, frame);
+        calls.read(Page::Saved, image, sizes, level, frame);
+    }
+    let all = sizes.levels.min(4);
+    for level in 0..all {
+        calls.read(Page::Saved, image, sizes, level, 0);
+    }
+}
+
+/// Likeness of a sound image with one of the same saved bytes, then with one
+/// bit of the levels and spares changed.
+fn like_its_twin<C: Calls>(calls: &C, rng: &mut Rng, image: &[u8], sizes: Sizes) {
+    let mut twin = arbitrary::alike(rng, image, sizes);
+    for _ in 0..2 {
+        calls.like(image, &twin, sizes);
+        calls.like(&twin, image, sizes);
+        let at = rng.range(DATA, twin.len() - 1);
+        twin[at] ^= 1 << rng.below(8);
+    }
+}
+
+/// Likeness with itself, with a recovered copy, a changed one, another one.
+fn like_others<C: Calls>(calls: &C, rng: &mut Rng, image: &[u8], sizes: Sizes, named: Sizes) {
+    calls.like(image, image, named);
+    let mut other = image.to_vec();
+    if !other.is_empty() {
+        let at = rng.below(other.len());
+        other[at] ^= 1 << rng.below(8);
+    }
+    calls.like(image, &other, named);
+    let mut tape = vec![0; sizes.opening_room()];
+    let opened = calls.open(image, sizes, &mut Card::zeros(), &mut tape);
+    let mut recovered = image.to_vec();
+    calls.play(&mut recovered, &tape[..3 * opened.orders as usize], u64::MAX);
+    calls.like(image, &recovered, named);
+    let unlike = arbitrary::sound_image(rng, sizes);
+    calls.like(&unlike, image, named);
+    calls.like(image, &unlike, named);
+}
+
+/// Runs a call with a long tape, then with exact and short ones, each full of
+/// rubbish.
+fn with_tapes(rng: &mut Rng, room: usize, mut call: impl FnMut(&mut [u64]) -> Answer) {
+    let exact = 3 * call(&mut rng.words(room)).orders as usize;
+    let mut lengths = vec![exact, exact + 1, rng.below(room + 1)];
+    lengths.extend((1..=3).map(|by| exact.saturating_sub(by)));
+    for length in lengths {
+        call(&mut rng.words(length));
+    }
+}
+
+fn open_any<C: Calls>(calls: &C, rng: &mut Rng, image: &[u8], sizes: Sizes) {
+    let room = if sizes.in_range() { sizes.room() } else { 64 };
+    let mut card = Card::fresh(sizes);
+    card.touched = rng.word();
+    card.marks[rng.below(64)] = rng.word();
+    with_tapes(rng, room, |tape| calls.open(image, sizes, &mut card.clone(), tape));
+}
+
+fn write_any<C: Calls>(calls: &C, rng: &mut Rng, image: &[u8], sizes: Sizes) {
+    for _ in 0..4 {
+        let card = arbitrary::card(rng, image, sizes);
+        let (target, bytes) = arbitrary::writing(rng, sizes);
+        let room = 3 * (36 * sizes.frames as usize + 40);
+        with_tapes(rng, room, |tape| calls.write(image, &mut card.clone(), target, &bytes, tape));
+    }
+}
+
+fn save_any<C: Calls>(calls: &C, rng: &mut Rng, image: &[u8], sizes: Sizes) {
+    for _ in 0..2 {
+        let card = arbitrary::card(rng, image, sizes);
+        with_tapes(rng, sizes.room(), |tape| calls.save(image, &mut card.clone(), tape));
+    }
+}
+
+fn play_any<C: Calls>(calls: &C, rng: &mut Rng, image: &[u8]) {
+    for _ in 0..8 {
+        let length = match rng.below(4) {
+            0 => rng.pick(&[0, 1, 63, 64, 65, 128, 511, 512]),
+            _ => image.len(),
+        };
+        let mut played = image.to_vec();
+        played.resize(length, 0);
+        let tape = arbitrary::player_tape(rng, length);
+        let orders = tape.len() as u64 / 3;
+        let n = rng.pick(&[0, 1, orders / 2, orders, orders + 1, u64::MAX / 3 + 1, u64::MAX]);
+        calls.play(&mut played, &tape, n);
+    }
+}

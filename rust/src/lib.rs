@@ -1,0 +1,23 @@
+//! Independent second program for the checkpoint library.
+//!
+//! Everything here is written from document 01 alone (and the recorded
+//! decisions on its silent spots), not from the library. The words are
+//! document 01's own: level (main segment), spare (backup segment), frame
+//! (block), card (session), tape (trace), save (checkpoint), cut (crash),
+//! book (reference model), player (replay), likeness (same checkpoint).
+//! Only the C interface in `ffi` uses the library's names.
+
+pub mod arbitrary;
+pub mod book;
+pub mod calls;
+pub mod compared;
+pub mod corners;
+pub mod crash;
+pub mod explore;
+pub mod fast;
+#[cfg(crpm_library)]
+pub mod ffi;
+pub mod groups;
+pub mod prng;
+pub mod reference;
+pub mod sheet;

@@ -1,0 +1,482 @@
+//! Reference implementation of every call of document 01 over plain slices.
+//!
+//! Written from document 01 alone. The metadata are read into a `Board` whose
+//! levels are an enum, so that an unsound image cannot be represented; a call
+//! first makes its whole list of orders and the next card, and only then
+//! touches the tape, so that a refusal changes nothing. Checked against the
+//! bench cases P1 to P10 (`groups`) and, by the explorer, against demand 3;
+//! the library is checked against it.
+
+use crate::calls::*;
+use std::collections::BTreeMap;
+
+/// Document 01's refusals by number.
+#[derive(Clone, Copy, PartialEq, Eq, Debug)]
+pub enum Refusal {
+    Size = 1,
+    Length = 2,
+    Foreign = 3,
+    Unsound = 4,
+    Card = 5,
+    Level = 6,
+    Frame = 7,
+    Span = 8,
+    Spares = 9,
+    Epoch = 10,
+    TapeShort = 11,
+    TapeBad = 12,
+}
+
+/// Document 01's faults that a reader could mistake for good work.
+#[derive(Clone, Copy, PartialEq, Eq, Debug)]
+pub enum Fault {
+    StateBeforeFence,
+    MarksClearedAtSave,
+    OpeningSkipsLevelToSpare,
+    FreeByIdleLine,
+}
+
+/// Which free spare a write takes; document 01 leaves it open.
+#[derive(Clone, Copy, PartialEq, Eq, Debug)]
+pub enum Choice {
+    LowestUnpairedElseLowest,
+    Highest,
+}
+
+pub struct Reference {
+    pub fault: Option<Fault>,
+    pub choice: Choice,
+}
+
+impl Reference {
+    pub const fn good() -> Reference {
+        Reference { fault: None, choice: Choice::LowestUnpairedElseLowest }
+    }
+
+    pub const fn faulty(fault: Fault) -> Reference {
+        Reference { fault: Some(fault), choice: Choice::LowestUnpairedElseLowest }
+    }
+
+    pub const fn choosing(choice: Choice) -> Reference {
+        Reference { fault: None, choice }
+    }
+
+    fn has(&self, fault: Fault) -> bool {
+        self.fault == Some(fault)
+    }
+}
+
+/// A level as sound metadata tell it: states 0, 1 and 2 with their spares.
+#[derive(Clone, Copy, PartialEq, Eq, Debug)]
+enum Level {
+    Empty,
+    Own { spare: Option<usize> },
+    InSpare { spare: usize },
+}
+
+impl Level {
+    fn state(self) -> u8 {
+        match self {
+            Level::Empty => 0,
+            Level::Own { .. } => 1,
+            Level::InSpare { .. } => 2,
+        }
+    }
+}
+
+/// What the metadata of a sound image say.
+struct Board {
+    sizes: Sizes,
+    epoch: u64,
+    levels: Vec<Level>,
+    /// The level of each spare.
+    owners: Vec<Option<usize>>,
+}
+
+impl Board {
+    /// The board of an image, or the lowest of the refusals 1 to 4.
+    fn of(image: &[u8], sizes: Sizes) -> Result<Board, Refusal> {
+        if !sizes.in_range() {
+            return Err(Refusal::Size);
+        }
+        if image.len() != sizes.image_length() {
+            return Err(Refusal::Length);
+        }
+        let named = [sizes.levels, sizes.spares, sizes.frames];
+        if (0..3).any(|i| word_at(image, HEADER + WORD * i) != named[i]) {
+            return Err(Refusal::Foreign);
+        }
+        Board::sound(image, sizes).ok_or(Refusal::Unsound)
+    }
+
+    fn sound(image: &[u8], sizes: Sizes) -> Option<Board> {
+        let (levels, spares) = (sizes.levels as usize, sizes.spares as usize);
+        let epoch = word_at(image, EPOCH);
+        let states = &image[active_line(epoch)..][..LINE];
+        let pairs = &image[PAIRS..][..LINE];
+        if states[levels..].iter().any(|s| *s != 0) || pairs[spares..].iter().any(|p| *p != UNPAIRED) {
+            return None;
+        }
+        let mut spare_of = BTreeMap::new();
+        let mut owners = vec![None; spares];
+        for (spare, &level) in pairs[..spares].iter().enumerate() {
+            if level == UNPAIRED {
+                continue;
+            }
+            let level = level as usize;
+            if level >= levels || spare_of.insert(level, spare).is_some() {
+                return None;
+            }
+            owners[spare] = Some(level);
+        }
+        let read = |level| match (states[level], spare_of.get(&level).copied()) {
+            (0, None) => Some(Level::Empty),
+            (1, spare) => Some(Level::Own { spare }),
+            (2, Some(spare)) => Some(Level::InSpare { spare }),
+            _ => None,
+        };
+        let levels = (0..levels).map(read).collect::<Option<Vec<_>>>()?;
+        Some(Board { sizes, epoch, levels, owners })
+    }
+
+    fn frames(&self) -> std::ops::Range<usize> {
+        0..self.sizes.frames as usize
+    }
+
+    /// Where a frame's saved bytes stand; nowhere in an empty level.
+    fn saved_start(&self, level: usize, frame: usize) -> Option<usize> {
+        match self.levels[level] {
+            Level::Empty => None,
+            Level::Own { .. } => Some(self.sizes.in_level(level, frame)),
+            Level::InSpare { spare } => Some(self.sizes.in_spare(spare, frame)),
+        }
+    }
+
+    fn card_is_true(&self, card: &Card) -> bool {
+        let levels = self.levels.len();
+        let beyond = |bits: u64, end: u64| end < 64 && bits >> end != 0;
+        let touched = |level: usize| card.touched >> level & 1 == 1;
+        !beyond(card.touched, self.sizes.levels)
+            && card.marks[levels..].iter().all(|marks| *marks == 0)
+            && card.marks.iter().all(|marks| !beyond(*marks, self.sizes.frames))
+            && !(0..levels).any(|l| touched(l) && self.levels[l].state() == 1)
+    }
+}
+
+fn active_line(epoch: u64) -> usize {
+    if epoch.is_multiple_of(2) {
+        EVEN_STATES
+    } else {
+        ODD_STATES
+    }
+}
+
+fn idle_line(epoch: u64) -> usize {
+    active_line(epoch ^ 1)
+}
+
+/// The orders of copying the frame at `from` to `to`.
+fn copy(orders: &mut Vec<Order>, image: &[u8], from: usize, to: usize) {
+    let words: Vec<u64> = (0..FRAME / WORD).map(|i| word_at(image, from + WORD * i)).collect();
+    store_frame(orders, to, &words);
+}
+
+/// The orders of filling the frame at `to` with zeros.
+fn fill(orders: &mut Vec<Order>, to: usize) {
+    store_frame(orders, to, &[0; FRAME / WORD]);
+}
+
+fn store_frame(orders: &mut Vec<Order>, to: usize, words: &[u64]) {
+    orders.extend(words.iter().enumerate().map(|(i, &word)| Order::Store { place: to + WORD * i, word }));
+    flush_frame(orders, to);
+}
+
+fn flush_frame(orders: &mut Vec<Order>, at: usize) {
+    orders.extend((0..FRAME / LINE).map(|i| Order::Flush { place: at + LINE * i }));
+}
+
+/// The store that changes one byte of the image, in its word.
+fn store_byte(image: &[u8], at: usize, byte: u8) -> Order {
+    let place = at / WORD * WORD;
+    let mut bytes = word_at(image, place).to_le_bytes();
+    bytes[at % WORD] = byte;
+    Order::Store { place, word: u64::from_le_bytes(bytes) }
+}
+
+fn marked(marks: u64) -> impl Iterator<Item = usize> {
+    (0..64).filter(move |frame| marks >> frame & 1 == 1)
+}
+
+/// Puts the orders at the tape's start, or refuses a tape that is too short.
+fn put_on(tape: &mut [u64], orders: &[Order]) -> Result<Answer, Refusal> {
+    let room = tape.get_mut(..3 * orders.len()).ok_or(Refusal::TapeShort)?;
+    for (numbers, order) in room.chunks_mut(3).zip(orders) {
+        numbers.copy_from_slice(&order.numbers());
+    }
+    Ok(Answer { number: 0, orders: orders.len() as u64 })
+}
+
+fn refused(refusal: Refusal) -> Answer {
+    Answer { number: refusal as u64, orders: 0 }
+}
+
+impl Reference {
+    fn opening(&self, image: &[u8], sizes: Sizes) -> Result<Vec<Order>, Refusal> {
+        let board = Board::of(image, sizes)?;
+        let mut orders = Vec::new();
+        for (l, level) in board.levels.iter().enumerate() {
+            for f in board.frames() {
+                let own = sizes.in_level(l, f);
+                match *level {
+                    Level::Empty => fill(&mut orders, own),
+                    Level::Own { spare: Some(spare) } if !self.has(Fault::OpeningSkipsLevelToSpare) => {
+                        copy(&mut orders, image, own, sizes.in_spare(spare, f))
+                    }
+                    Level::Own { .. } => {}
+                    Level::InSpare { spare } => copy(&mut orders, image, sizes.in_spare(spare, f), own),
+                }
+            }
+        }
+        orders.push(Order::Fence);
+        Ok(orders)
+    }
+
+    fn writing(
+        &self,
+        image: &[u8],
+        card: &Card,
+        target: Target,
+        bytes: &[u8],
+    ) -> Result<(Vec<Order>, Card), Refusal> {
+        let board = Board::of(image, card.sizes)?;
+        if !board.card_is_true(card) {
+            return Err(Refusal::Card);
+        }
+        if target.level >= card.sizes.levels {
+            return Err(Refusal::Level);
+        }
+        if target.frame >= card.sizes.frames {
+            return Err(Refusal::Frame);
+        }
+        if bytes.is_empty() || target.offset as u128 + bytes.len() as u128 > FRAME as u128 {
+            return Err(Refusal::Span);
+        }
+        let (level, frame) = (target.level as usize, target.frame as usize);
+        let mut next = card.clone();
+        let mut orders = Vec::new();
+        if let (Level::Own { spare }, 0) = (board.levels[level], card.touched >> level & 1) {
+            match spare {
+                None => self.take_spare(&mut orders, &board, image, level)?,
+                Some(spare) => {
+                    for f in marked(card.marks[level]) {
+                        let from = board.sizes.in_level(level, f);
+                        copy(&mut orders, image, from, board.sizes.in_spare(spare, f));
+                    }
+                }
+            }
+            self.turn_to_spare(&mut orders, &board, image, level);
+            next.marks[level] = 0;
+        }
+        let first = board.sizes.in_level(level, frame) + target.offset as usize;
+        store_span(&mut orders, image, first, bytes);
+        next.touched |= 1 << level;
+        next.marks[level] |= 1 << frame;
+        Ok((orders, next))
+    }
+
+    /// Pairs the level with a free spare and copies all its frames there.
+    fn take_spare(
+        &self,
+        orders: &mut Vec<Order>,
+        board: &Board,
+        image: &[u8],
+        level: usize,
+    ) -> Result<(), Refusal> {
+        let spare = self.free_spare(board, image).ok_or(Refusal::Spares)?;
+        orders.push(store_byte(image, PAIRS + spare, level as u8));
+        orders.push(Order::Flush { place: PAIRS });
+        for f in board.frames() {
+            copy(orders, image, board.sizes.in_level(level, f), board.sizes.in_spare(spare, f));
+        }
+        Ok(())
+    }
+
+    fn free_spare(&self, board: &Board, image: &[u8]) -> Option<usize> {
+        let in_use = |level: usize| {
+            if self.has(Fault::FreeByIdleLine) {
+                image[idle_line(board.epoch) + level] == 2
+            } else {
+                matches!(board.levels[level], Level::InSpare { .. })
+            }
+        };
+        let free = |spare: &usize| board.owners[*spare].is_none_or(|level| !in_use(level));
+        let mut spares = 0..board.owners.len();
+        match self.choice {
+            Choice::LowestUnpairedElseLowest => {
+                spares.clone().find(|spare| board.owners[*spare].is_none()).or_else(|| spares.find(free))
+            }
+            Choice::Highest => spares.rev().find(free),
+        }
+    }
+
+    /// The fence after the copy and the durable turn of the level to state 2.
+    fn turn_to_spare(&self, orders: &mut Vec<Order>, board: &Board, image: &[u8], level: usize) {
+        let line = active_line(board.epoch);
+        let store = store_byte(image, line + level, 2);
+        let (first, second) = match self.has(Fault::StateBeforeFence) {
+            false => (Order::Fence, store),
+            true => (store, Order::Fence),
+        };
+        orders.extend([first, second, Order::Flush { place: line }, Order::Fence]);
+    }
+
+    fn saving(&self, image: &[u8], card: &Card) -> Result<(Vec<Order>, Card), Refusal> {
+        let board = Board::of(image, card.sizes)?;
+        if !board.card_is_true(card) {
+            return Err(Refusal::Card);
+        }
+        let epoch = board.epoch.checked_add(1).ok_or(Refusal::Epoch)?;
+        let mut orders = Vec::new();
+        for (l, marks) in card.marks.iter().enumerate() {
+            for f in marked(*marks) {
+                flush_frame(&mut orders, board.sizes.in_level(l, f));
+            }
+        }
+        orders.push(Order::Fence);
+        let mut states = [0; LINE];
+        for (l, level) in board.levels.iter().enumerate() {
+            states[l] = if card.touched >> l & 1 == 1 { 1 } else { level.state() };
+        }
+        let idle = idle_line(board.epoch);
+        orders.extend(
+            (0..LINE).step_by(WORD).map(|i| Order::Store { place: idle + i, word: word_at(&states, i) }),
+        );
+        orders.extend([Order::Flush { place: idle }, Order::Fence]);
+        orders.push(Order::Store { place: EPOCH, word: epoch });
+        orders.extend([Order::Flush { place: EPOCH }, Order::Fence]);
+        let mut next = card.clone();
+        next.touched = 0;
+        if self.has(Fault::MarksClearedAtSave) {
+            next.marks = [0; 64];
+        }
+        Ok((orders, next))
+    }
+}
+
+/// The unflushed stores of the words that a span meets.
+fn store_span(orders: &mut Vec<Order>, image: &[u8], first: usize, bytes: &[u8]) {
+    let (low, high) = (first / WORD * WORD, (first + bytes.len()).div_ceil(WORD) * WORD);
+    let mut part = image[low..high].to_vec();
+    part[first - low..][..bytes.len()].copy_from_slice(bytes);
+    orders.extend(
+        (0..part.len()).step_by(WORD).map(|i| Order::Store { place: low + i, word: word_at(&part, i) }),
+    );
+}
+
+/// The orders that the player is to play.
+fn playing(image: &[u8], tape: &[u64], n: u64) -> Result<Vec<Order>, Refusal> {
+    if !image.len().is_multiple_of(LINE) {
+        return Err(Refusal::Length);
+    }
+    if !tape.len().is_multiple_of(3) {
+        return Err(Refusal::TapeBad);
+    }
+    let played = n.min(tape.len() as u64 / 3) as usize;
+    orders_of(&tape[..3 * played], image.len()).ok_or(Refusal::TapeBad)
+}
+
+fn reading(page: Page, image: &[u8], sizes: Sizes, level: u64, frame: u64) -> Result<Part, Refusal> {
+    let board = Board::of(image, sizes)?;
+    if level >= sizes.levels {
+        return Err(Refusal::Level);
+    }
+    if frame >= sizes.frames {
+        return Err(Refusal::Frame);
+    }
+    let (level, frame) = (level as usize, frame as usize);
+    let start = match page {
+        Page::Working => Some(sizes.in_level(level, frame)),
+        Page::Saved => board.saved_start(level, frame),
+    };
+    Ok(match start {
+        Some(start) => Part { number: 0, start: start as u64, length: FRAME as u64 },
+        None => Part { number: 0, start: 0, length: 0 },
+    })
+}
+
+fn likeness(first: &[u8], second: &[u8], sizes: Sizes) -> Result<bool, Refusal> {
+    let (a, b) = (Board::of(first, sizes)?, Board::of(second, sizes)?);
+    let saved = |image: &[u8], board: &Board, l, f| match board.saved_start(l, f) {
+        Some(start) => image[start..start + FRAME].to_vec(),
+        None => vec![0; FRAME],
+    };
+    let agree = |l, f| saved(first, &a, l, f) == saved(second, &b, l, f);
+    Ok((0..a.levels.len()).all(|l| a.frames().all(|f| agree(l, f))))
+}
+
+impl Calls for Reference {
+    fn lay_out(&self, image: &mut [u8], sizes: Sizes) -> u64 {
+        if !sizes.in_range() {
+            return Refusal::Size as u64;
+        }
+        if image.len() != sizes.image_length() {
+            return Refusal::Length as u64;
+        }
+        image.fill(0);
+        for (i, size) in [sizes.levels, sizes.spares, sizes.frames].into_iter().enumerate() {
+            put_word(image, HEADER + WORD * i, size);
+        }
+        image[PAIRS..PAIRS + LINE].fill(UNPAIRED);
+        0
+    }
+
+    fn open(&self, image: &[u8], sizes: Sizes, card: &mut Card, tape: &mut [u64]) -> Answer {
+        let answer = self.opening(image, sizes).and_then(|orders| put_on(tape, &orders));
+        *card = if answer.is_ok() { Card::fresh(sizes) } else { Card::zeros() };
+        answer.unwrap_or_else(refused)
+    }
+
+    fn write(&self, image: &[u8], card: &mut Card, target: Target, bytes: &[u8], tape: &mut [u64]) -> Answer {
+        let answer = self.writing(image, card, target, bytes).and_then(|(orders, next)| {
+            let answer = put_on(tape, &orders)?;
+            *card = next;
+            Ok(answer)
+        });
+        answer.unwrap_or_else(refused)
+    }
+
+    fn save(&self, image: &[u8], card: &mut Card, tape: &mut [u64]) -> Answer {
+        let answer = self.saving(image, card).and_then(|(orders, next)| {
+            let answer = put_on(tape, &orders)?;
+            *card = next;
+            Ok(answer)
+        });
+        answer.unwrap_or_else(refused)
+    }
+
+    fn play(&self, image: &mut [u8], tape: &[u64], n: u64) -> Answer {
+        match playing(image, tape, n) {
+            Err(refusal) => refused(refusal),
+            Ok(orders) => {
+                for order in &orders {
+                    if let Order::Store { place, word } = *order {
+                        put_word(image, place, word);
+                    }
+                }
+                Answer { number: 0, orders: orders.len() as u64 }
+            }
+        }
+    }
+
+    fn read(&self, page: Page, image: &[u8], sizes: Sizes, level: u64, frame: u64) -> Part {
+        let none = |refusal| Part { number: refusal as u64, start: 0, length: 0 };
+        reading(page, image, sizes, level, frame).unwrap_or_else(none)
+    }
+
+    fn like(&self, first: &[u8], second: &[u8], sizes: Sizes) -> (u64, bool) {
+        match likeness(first, second, sizes) {
+            Ok(yes) => (0, yes),
+            Err(refusal) => (refusal as u64, false),
+        }
+    }
+}
