@@ -1,1 +1,2 @@
 pub mod Stepped
+pub mod Driven
