@@ -38,4 +38,4 @@ DrivenSafety =
     → (t′ : Trace) → openStatus l H′ t′ ≢ 11
     -- the history stands where the code does, and a permitted page is recovered
     → (run (start l I T) cs .image ≡ I₂) × (run (start l I T) cs .session ≡ s₂)
-      × ((Q : Page) × MayShow (run (start l I T) cs) m Q × Recovers l H′ t′ Q)
+    × ((Q : Page) × MayShow (run (start l I T) cs) m Q × Recovers l H′ t′ Q)

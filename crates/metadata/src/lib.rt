@@ -13,6 +13,17 @@ ghost use Rattle.model.specs.Layout.{inRange, sizesOk, imageSize, segmentAt, ma
 ghost use Rattle.model.specs.Container.{activeLine, inactiveLine, segState, backupToMain, validMetadata, headerOk, containerErrors, pairedBackup};
 ghost use Rattle.metadata.specs.Scan.{stateFits, Scanned, Choice};
 
+// The most main segments or backup segments, the byte of an unpaired backup segment, and the states, as the code compares them.
+const MOST: usize = Layout::MOST as usize;
+
+const UNPAIRED: u8 = Layout::UNPAIRED as u8;
+
+const SS_INITIAL: u8 = Layout::SS_INITIAL as u8;
+
+const SS_MAIN: u8 = Layout::SS_MAIN as u8;
+
+const SS_BACKUP: u8 = Layout::SS_BACKUP as u8;
+
 // ---- places
 
 // Where segment k starts: the main segments come first, then the backup segments.
@@ -75,7 +86,7 @@ pub fn rest_is(image: &[u8], line: usize, n: usize, value: u8) -> bool
 {
     let mut ok = true;
     let mut i = n;
-    while i < 64 {
+    while i < MOST {
         ok = ok & (image[line + i] == value);
         i += 1;
     }
@@ -100,7 +111,7 @@ pub fn wide(byte: u8) -> u64
 pub fn pair_fits(pair: u8, mains: u64, taken: bool) -> bool
     ensures { λ r. ⌜ r ≡ ((ltb pair mains || eqb pair 255) && not (ltb pair mains && taken)) ⌝ }
 {
-    ((wide(pair) < mains) | (pair == 255)) & !((wide(pair) < mains) & taken)
+    ((wide(pair) < mains) | (pair == UNPAIRED)) & !((wide(pair) < mains) & taken)
 }
 
 // The place of the mark of the main segment that a pair byte names, or of the last mark.
@@ -111,7 +122,7 @@ pub fn mark_of(pair: u8, mains: u64) -> usize
     if wide(pair) < mains {
         pair as usize
     } else {
-        64
+        MOST
     }
 }
 
@@ -142,9 +153,9 @@ pub fn state_fits(state: u8, paired: bool) -> bool
     ensures { λ r. ⌜ r ≡ stateFits paired state ⌝ }
 {
     if paired {
-        (0 < state) & (state <= 2)
+        (SS_INITIAL < state) & (state <= SS_BACKUP)
     } else {
-        state <= 1
+        state <= SS_MAIN
     }
 }
 
@@ -172,8 +183,9 @@ pub fn metadata_valid(image: &[u8], layout: Layout) -> bool
     let line = active_at(image);
     let scan = scan_pairs(image, layout.mains, backups);
     let paired = scan.paired;
-    let pairs_ok = scan.ok & rest_is(image, Layout::PAIRS_AT as usize, backups, 255);
-    let states_ok = states_fit(image, line, mains, paired) & rest_is(image, line, mains, 0);
+    let pairs_ok = scan.ok & rest_is(image, Layout::PAIRS_AT as usize, backups, UNPAIRED);
+    let states_ok = states_fit(image, line, mains, paired)
+        & rest_is(image, line, mains, SS_INITIAL);
     pairs_ok & states_ok
 }
 
@@ -186,7 +198,7 @@ pub fn in_range(n: u64) -> bool
     (1 <= n) & (n <= Layout::MOST)
 }
 
-// Whether all three sizes are.
+// Whether all three sizes are 1 to 64.
 pub fn sizes_ok(layout: Layout) -> bool
     ensures { λ r. ⌜ r ≡ sizesOk layout ⌝ }
 {
@@ -250,7 +262,7 @@ pub fn paired_state(image: &[u8], line: usize, pair: u8) -> u8
 }
 
 // The lowest backup segment whose main segment is not in state 2, or the number of backup segments where there is none.
-pub fn find_idle_backup(image: &[u8], layout: Layout, line: usize) -> u64
+pub fn find_unused_backup(image: &[u8], layout: Layout, line: usize) -> u64
     requires { ⌜ (layout .backups ≤ 64) × (line ≤ 192) × (448 ≤ length (now image)) ⌝ }
     ensures { λ r. ⌜ r ≡ firstB (layout .backups) (λ j. not (eqb (segState (now (image .entry)) line (backupToMain (now (image .entry)) j)) 2)) ⌝ }
     ensures { λ r. ⌜ r ≤ layout .backups ⌝ }
@@ -258,7 +270,7 @@ pub fn find_idle_backup(image: &[u8], layout: Layout, line: usize) -> u64
     let backups = layout.backups;
     let mut j = 0;
     while j < backups {
-        if paired_state(image, line, image[(Layout::PAIRS_AT + j) as usize]) != 2 {
+        if paired_state(image, line, image[(Layout::PAIRS_AT + j) as usize]) != SS_BACKUP {
             return j;
         }
         j += 1;
@@ -276,5 +288,5 @@ pub fn find_free_backup(image: &[u8], layout: Layout, active: usize) -> u64
     if alone < layout.backups {
         return alone;
     }
-    find_idle_backup(image, layout, active)
+    find_unused_backup(image, layout, active)
 }

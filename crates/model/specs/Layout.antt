@@ -1,4 +1,4 @@
--- Sizes and places of an image (document 01: "The module's image"). Every size is named once, here and as a constant of
+-- Sizes and places of an image (document 01: "The module's image"). Every size is named here, and as a constant of
 -- `Layout` in src/. Assumes nothing.
 use Prim.Native.Nat.{ℕ, _+_, _*_, _%_, _≤_}
 use mathlib.Core.Bool.{Bool, _&&_}

@@ -9,6 +9,11 @@ ghost use Rattle.model.specs.Status.{codeOf};
 ghost use Rattle.model.specs.Reads.{readStatus, workingPart, checkpointPart, workingBlock, checkpointBlock};
 ghost use Rattle.reads.specs.Found.{Found};
 
+// The states of a main segment without a checkpoint of its own bytes, and with one in itself.
+const SS_INITIAL: u8 = Layout::SS_INITIAL as u8;
+
+const SS_MAIN: u8 = Layout::SS_MAIN as u8;
+
 // A part of an image: where it starts and how many bytes it has.
 pub struct Part {
     pub start: u64,
@@ -16,7 +21,7 @@ pub struct Part {
 }
 
 impl Part {
-    // The part of length 0, for a refusal or a segment whose checkpoint is all zero.
+    // The part of length 0, for a refusal or a segment in state 0.
     pub fn nowhere() -> Part
         ensures { λ r. ⌜ (r .start ≡ 0) × (r .size ≡ 0) ⌝ }
     {
@@ -70,10 +75,10 @@ pub fn checkpoint_part(image: &[u8], layout: Layout, main: u64, block: u64) -> P
         return Part::nowhere();
     }
     let state = image[metadata::active_at(image) + main as usize];
-    if state == 0 {
+    if state == SS_INITIAL {
         return Part::nowhere();
     }
-    if state == 1 {
+    if state == SS_MAIN {
         return Part::of_block(metadata::main_at(layout, main), block);
     }
     let backup = metadata::find_paired_backup(image, layout, main);

@@ -19,6 +19,11 @@ pub struct Compared {
     pub same: bool,
 }
 
+// The states of a main segment without a checkpoint of its own bytes, and with one in itself.
+const SS_INITIAL: u8 = Layout::SS_INITIAL as u8;
+
+const SS_MAIN: u8 = Layout::SS_MAIN as u8;
+
 // Bytes of a block, as indexes count them.
 const BLOCK_SIZE: usize = Layout::BLOCK_SIZE as usize;
 
@@ -30,10 +35,10 @@ pub fn checkpoint_at(image: &[u8], layout: Layout, main: u64) -> usize
     ensures { λ r. ⌜ r ≡ checkpointAt layout (now (image .entry)) main ⌝ }
 {
     let state = image[metadata::active_at(image) + main as usize];
-    if state == 0 {
+    if state == SS_INITIAL {
         return 0;
     }
-    if state == 1 {
+    if state == SS_MAIN {
         return metadata::main_at(layout, main);
     }
     let backup = metadata::find_paired_backup(image, layout, main);
@@ -97,7 +102,7 @@ pub fn segment_same(a: &[u8], b: &[u8], layout: Layout, main: u64) -> bool
     segments_equal(a, x, b, y, layout.blocks)
 }
 
-// Whether all main segments have.
+// Whether every main segment has the same checkpoint in both images.
 pub fn same_checkpoint(a: &[u8], b: &[u8], layout: Layout) -> bool
     requires { ⌜ firstError (containerErrors layout (now a)) ≡ 0 ⌝ }
     requires { ⌜ firstError (containerErrors layout (now b)) ≡ 0 ⌝ }

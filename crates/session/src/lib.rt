@@ -12,6 +12,11 @@ ghost use Rattle.model.specs.Range.{allB};
 ghost use Rattle.model.specs.Session.{bit, dirtyWord, withDirty, withCheckpoint, validSession};
 ghost use Rattle.model.proofs.Counts.{dirtyTotal};
 
+// The words of dirty blocks, and the state of a main segment that holds its checkpoint itself, as the code compares them.
+const MOST: usize = Layout::MOST as usize;
+
+const SS_MAIN: u8 = Layout::SS_MAIN as u8;
+
 // Whether bit b of a word of dirty bits is set.
 pub fn is_dirty(word: u64, b: u64) -> bool
     requires { ⌜ b < 64 ⌝ }
@@ -58,7 +63,7 @@ pub fn within(word: u64, n: u64) -> bool
     (word >> (n - 1)) >> 1 == 0
 }
 
-// Whether each of the first words has no bit set from bit `blocks` on.
+// Whether each of the first `mains` words has no bit set from bit `blocks` on.
 pub fn blocks_within(words: [u64; 64], mains: usize, blocks: u64) -> bool
     requires { ⌜ (mains ≤ 64) × (1 ≤ blocks) × (blocks ≤ 64) ⌝ }
     ensures { λ r. ⌜ r ≡ allB mains (λ i. ltb (getD words i 0) (2 ^ blocks)) ⌝ }
@@ -79,7 +84,7 @@ pub fn rest_clear(words: [u64; 64], mains: usize) -> bool
 {
     let mut ok = true;
     let mut i = mains;
-    while i < 64 {
+    while i < MOST {
         ok = ok & (words[i] == 0);
         i += 1;
     }
@@ -91,7 +96,7 @@ pub fn may_stand(segments: u64, i: u64, state: u8) -> bool
     requires { ⌜ i < 64 ⌝ }
     ensures { λ r. ⌜ r ≡ not (eqb (bit segments i) 1 && eqb state 1) ⌝ }
 {
-    !(is_dirty(segments, i) & (state == 1))
+    !(is_dirty(segments, i) & (state == SS_MAIN))
 }
 
 // Whether no dirty segment is in state 1.

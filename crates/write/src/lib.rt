@@ -46,7 +46,7 @@ pub struct Plan {
     pub copy: bool,
     // It has that backup segment already.
     pub paired: bool,
-    // That backup segment, or the number of backup segments where none is free.
+    // That backup segment, or the number of backup segments where none is free; 0 where nothing is copied.
     pub backup: u64,
 }
 
@@ -210,7 +210,7 @@ pub fn copy_count(plan: Plan, blocks: u64, word: u64) -> u64
 
 // ---- the copy
 
-// Gives backup segment `backup` the main segment `main`.
+// Gives backup segment `backup` the main segment `main`: its pair byte is stored in its word and written back.
 pub fn put_pair(image: &[u8], main: u64, backup: u64, trace: &mut [u64], n: usize)
     requires { ⌜ (main < 64) × (backup < 64) × (320 ≤ length (now image)) ⌝ }
     requires { ⌜ 3 * (n + 2) ≤ length (now trace) ⌝ }
@@ -221,7 +221,7 @@ pub fn put_pair(image: &[u8], main: u64, backup: u64, trace: &mut [u64], n: usiz
     trace::put_clwb(trace, n + 1, Layout::PAIRS_AT);
 }
 
-// A fence, then state 2 for a main segment on the active line of states, and a fence.
+// A fence; state 2 for a main segment stored on the active line of states and written back; a fence.
 pub fn put_state(image: &[u8], main: u64, trace: &mut [u64], n: usize)
     requires { ⌜ (main < 64) × (256 ≤ length (now image)) ⌝ }
     requires { ⌜ 3 * (n + 4) ≤ length (now trace) ⌝ }

@@ -19,8 +19,8 @@ returns c =
     let a = b .find-paired-backup .ensures .0 in
     choice l st pr _ (a ∙ sym (free-alone l st pr (subst (λ (n : ℕ). n < l .backups) a (c .if1 .taken))))
 
-find-idle-backup-requires : tie.Need-find-idle-backup-requires
-find-idle-backup-requires c κs = search needs
+find-unused-backup-requires : tie.Need-find-unused-backup-requires
+find-unused-backup-requires c κs = search needs
 
 returns-2 : tie.Need-returns-2
 returns-2 c =
@@ -30,8 +30,8 @@ returns-2 c =
     let st = segState (g .image .now) (g .active) in
     let pr = backupToMain (g .image .now) in
     let a = b .find-paired-backup .ensures .0 in
-    choice l st pr _ (c .find-idle-backup .ensures .0 ∙ sym (free-idle l st pr (subst (λ (n : ℕ). l .backups ≤ n) a (c .before .if1 .left))))
+    choice l st pr _ (c .find-unused-backup .ensures .0 ∙ sym (free-idle l st pr (subst (λ (n : ℕ). l .backups ≤ n) a (c .before .if1 .left))))
 
 pub find-free-backup-spec : {M : Type 1} → statement M
 find-free-backup-spec =
-    tie.close (tie.spec find-paired-backup-requires returns find-idle-backup-requires returns-2)
+    tie.close (tie.spec find-paired-backup-requires returns find-unused-backup-requires returns-2)

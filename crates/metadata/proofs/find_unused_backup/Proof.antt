@@ -9,8 +9,8 @@ use borrow.Author.Needs.{needs}
 use Rattle.model.proofs.Range.{first-none}
 use Rattle.model.specs.Container.{backupToMain, segState}
 use Rattle.metadata.proofs.Laws.{first-found}
-use Rattle.metadata.proofs.find_idle_backup.Statement.{statement}
-use Rattle.metadata.proofs.find_idle_backup.Tie as tie
+use Rattle.metadata.proofs.find_unused_backup.Statement.{statement}
+use Rattle.metadata.proofs.find_unused_backup.Tie as tie
 
 abbrev Inv-loop : tie.InvT-loop
 Inv-loop image line backups j₀ j = (j ≤ backups) × ((k : ℕ) → k < j → not (eqb (segState image line (backupToMain image k)) 2) ≡ false)
@@ -49,8 +49,8 @@ loop-again c =
 returns-2 : tie.Need-returns-2 Inv-loop μ-loop
 returns-2 c = (sym (first-none _ _ (λ k h. c .before .loop .inv .1 k (omega arith))), omega arith)
 
-pub find-idle-backup-spec : {M : Type 1} → statement M
-find-idle-backup-spec =
+pub find-unused-backup-spec : {M : Type 1} → statement M
+find-unused-backup-spec =
     tie.close
     (tie.spec
     Inv-loop
