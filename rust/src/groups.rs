@@ -12,8 +12,7 @@ use crate::calls::*;
 use crate::crash::{permitted, Module};
 use crate::explore::*;
 use crate::prng::Rng;
-
-type Outcome = Result<String, String>;
+use crate::report::Outcome;
 
 fn due<T: PartialEq + std::fmt::Debug>(what: &str, got: T, expected: T) -> Result<(), String> {
     match got == expected {

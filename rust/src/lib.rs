@@ -20,4 +20,5 @@ pub mod ffi;
 pub mod groups;
 pub mod prng;
 pub mod reference;
+pub mod report;
 pub mod sheet;

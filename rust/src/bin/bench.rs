@@ -16,8 +16,7 @@ use std::process::ExitCode;
 
 #[cfg(not(crpm_library))]
 fn main() -> ExitCode {
-    println!("no library was there when this program was built (see build.rs)");
-    ExitCode::from(2)
+    crpm_tests::report::no_library()
 }
 
 #[cfg(crpm_library)]

@@ -9,8 +9,7 @@ use std::process::ExitCode;
 
 #[cfg(not(crpm_library))]
 fn main() -> ExitCode {
-    println!("no library was there when this program was built (see build.rs)");
-    ExitCode::from(2)
+    crpm_tests::report::no_library()
 }
 
 #[cfg(crpm_library)]
@@ -27,10 +26,9 @@ mod with_library {
     use crpm_tests::ffi::{self, Library};
     use crpm_tests::groups::{self, Random};
     use crpm_tests::reference::Reference;
+    use crpm_tests::report::{Outcome, Report};
     use std::process::ExitCode;
-    use std::time::Instant;
 
-    type Outcome = Result<String, String>;
     type Pair<'a> = Compared<'a, Reference, Library>;
 
     const SMALL: Sizes = Sizes::new(1, 1, 1);
@@ -39,16 +37,8 @@ mod with_library {
     const SOME_CUTS: Plan = Plan { images: Images::Some { samples: 1 }, every_cut_up_to: 20 };
 
     pub fn main() -> ExitCode {
-        let mut failures = 0;
-        let mut group = |name: &str, run: &dyn Fn() -> Outcome| {
-            let start = Instant::now();
-            let (verdict, text) = match run() {
-                Ok(text) => ("ok", text),
-                Err(text) => ("FAILED", text),
-            };
-            failures += u32::from(verdict != "ok");
-            println!("{verdict} {name}: {text} ({:.1} s)", start.elapsed().as_secs_f64());
-        };
+        let mut report = Report::default();
+        let mut group = |name: &str, run: &dyn Fn() -> Outcome| report.group(name, run);
         group("misuse of the interface", &misuse);
         group("any contents, sizes 1 to 4", &any_small);
         group("any contents, sizes 1 to 64", &any_large);
@@ -60,10 +50,7 @@ mod with_library {
         group("single calls at 1,1,1", &|| groups::single_calls(&Library));
         group("histories up to 5 at 1,1,1", &|| groups::short_histories(&Library, SMALL, 5));
         group("histories up to 4 at 2,1,1", &|| groups::short_histories(&Library, TWO, 4));
-        match failures {
-            0 => ExitCode::SUCCESS,
-            _ => ExitCode::FAILURE,
-        }
+        report.status()
     }
 
     /// Runs a group over both and adds the verdict of the comparison.

@@ -12,9 +12,9 @@ use crpm_tests::explore::{Images, Plan};
 use crpm_tests::fast::Fast;
 use crpm_tests::groups::{self, Random};
 use crpm_tests::reference::{Choice, Fault, Reference};
+use crpm_tests::report::{Outcome, Report};
 use crpm_tests::{arbitrary, corners, sheet};
 use std::process::ExitCode;
-use std::time::Instant;
 
 const SMALL: Sizes = Sizes::new(1, 1, 1);
 const TWO: Sizes = Sizes::new(2, 1, 1);
@@ -23,16 +23,8 @@ const FOUR: Sizes = Sizes::new(2, 2, 1);
 fn main() -> ExitCode {
     let good = Reference::good();
     let other = Reference::choosing(Choice::Highest);
-    let mut failures = 0;
-    let mut group = |name: &str, run: &dyn Fn() -> Result<String, String>| {
-        let start = Instant::now();
-        let (verdict, text) = match run() {
-            Ok(text) => ("ok", text),
-            Err(text) => ("FAILED", text),
-        };
-        failures += u32::from(verdict != "ok");
-        println!("{verdict} {name}: {text} ({:.1} s)", start.elapsed().as_secs_f64());
-    };
+    let mut report = Report::default();
+    let mut group = |name: &str, run: &dyn Fn() -> Outcome| report.group(name, run);
     group("cut model", &|| groups::crash_model(4000));
     group("bench cases", &|| groups::bench_cases(&good));
     group("waiting lines", &|| groups::waiting_lines(&good));
@@ -48,10 +40,7 @@ fn main() -> ExitCode {
     }
     group("forms of the benchmark", &|| forms_agree(&good));
     group("corner sheets", &corner_sheets);
-    match failures {
-        0 => ExitCode::SUCCESS,
-        _ => ExitCode::FAILURE,
-    }
+    report.status()
 }
 
 const FAULTS: [Fault; 4] = [
@@ -68,7 +57,7 @@ fn random(seed: u64, histories: usize) -> Random {
 
 /// The explorer must find a wrong page or a refused opening; the shortest
 /// histories are tried first.
-fn caught(fault: Fault) -> Result<String, String> {
+fn caught(fault: Fault) -> Outcome {
     let faulty = Reference::faulty(fault);
     for depth in 1..=3 {
         for sizes in [SMALL, TWO] {
@@ -81,7 +70,7 @@ fn caught(fault: Fault) -> Result<String, String> {
 }
 
 /// The Rust forms that the benchmark measures give what the reference gives.
-fn forms_agree(good: &Reference) -> Result<String, String> {
+fn forms_agree(good: &Reference) -> Outcome {
     let mut calls = 0;
     for form in Fast::FORMS {
         let compared = Compared::new(good, &form);
@@ -94,7 +83,7 @@ fn forms_agree(good: &Reference) -> Result<String, String> {
     Ok(format!("{calls} calls as the reference"))
 }
 
-fn corner_sheets() -> Result<String, String> {
+fn corner_sheets() -> Outcome {
     let corners = corners::all();
     for corner in &corners {
         let printed = sheet::printed(&corner.input);
