@@ -10,11 +10,11 @@ use native.Mathlib.Decide.{ℕ-discrete}
 use lib.Bits.{bitAnd, and-mask}
 use lib.ListN.{length}
 use borrow.Author.Tests.{ne-eqb}
-use Rattle.model.specs.Range.{cat}
+use Rattle.model.specs.Range.{cat, sumTo, oneIf}
 use Rattle.model.specs.Session.{bit}
 use Rattle.model.specs.Ops.{Ops, Trace}
 use Rattle.model.proofs.SessionLaws.{bit-zero}
-use Rattle.model.proofs.Counts.{sumTo, oneIf, length-cat-sum}
+use Rattle.model.proofs.Counts.{length-cat-sum}
 use Rattle.trace.specs.Emit.{emit}
 use Rattle.trace.proofs.EmitLaws.{emit-nil, emitted-more}
 use Rattle.blocks.specs.Dirty.{isDirty, dirtyBlocks, eachDirty}

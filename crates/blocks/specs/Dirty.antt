@@ -3,10 +3,9 @@ use Prim.Native.Nat.{ℕ}
 use mathlib.Core.Bool.{Bool, cond}
 use mathlib.Core.List.{[]}
 use lib.Dec.{eqb}
-use Rattle.model.specs.Range.{cat}
+use Rattle.model.specs.Range.{cat, sumTo, oneIf}
 use Rattle.model.specs.Session.{bit}
 use Rattle.model.specs.Ops.{Ops}
-use Rattle.model.proofs.Counts.{sumTo, oneIf}
 
 -- block b is dirty
 abbrev pub isDirty : ℕ → ℕ → Bool

@@ -21,7 +21,7 @@ use Rattle.model.specs.Status.{Errors, firstError}
 use Rattle.model.specs.Container.{activeLine, segState, backupToMain, Valid, isPaired, validMetadata, pairedBackup, Free, isFree, anyFree}
 use Rattle.model.proofs.Range.{both, or-left, or-right, or-else, all-at, all-from, any-at, any-none, first-none, first-some}
 use Rattle.model.proofs.Metadata.{paired-at, unpaired-none, paired-by, valid-means, valid-test}
-use Rattle.session.proofs.Gather.{all-ext, same-test}
+use Rattle.model.proofs.Gather.{all-ext, same-test}
 use Rattle.metadata.specs.declared.PairScan.{PairScan}
 use Rattle.metadata.specs.Scan.{pairFits, stateFits, Scanned, freeBackup, Choice}
 

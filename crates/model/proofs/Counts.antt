@@ -16,7 +16,7 @@ use Rattle.model.specs.declared.Layout.{Layout}
 use Rattle.model.specs.declared.Session.{Session}
 use Rattle.model.specs.declared.Action.{Action}
 use Rattle.model.specs.declared.Action.the-variants.{Nothing, ZeroMain, CopyToBackup, CopyToMain}
-use Rattle.model.specs.Range.{cat}
+use Rattle.model.specs.Range.{cat, sumTo, oneIf}
 use Rattle.model.specs.Words.{Image, wordOf}
 use Rattle.model.specs.Layout.{wordSize, lineSize, blockWords, blockLines, lineWords, epochAt, mainAt, backupAt}
 use Rattle.model.specs.Status.{firstError}
@@ -27,6 +27,7 @@ use Rattle.model.specs.Open.{recoveryAction, copySegment, zeroSegment, a
 use Rattle.model.specs.Write.{WriteArgs, needsCopy, pairOps, copyDirty, backupOps, stateOps, copyOnWriteOps, spanAt, spanWords, spanOps, writeOps, writeStatus}
 use Rattle.model.specs.Checkpoint.{flushDirty, nextStates, statesOps, epochOps, checkpointOps, checkpointStatus, checkpointOutcome}
 use Rattle.model.specs.History.{callCheckpoint, State, calledOps}
+use Rattle.model.specs.Counts.{acts, treated, dirtyCount, dirtyTotal}
 use Rattle.model.specs.CrashSafety.{EpochStored, Window, TraceSuffices}
 use Rattle.model.proofs.Range.{length-cat}
 use Rattle.model.proofs.Places.{image-lines, state-line-low}
@@ -35,15 +36,6 @@ use Rattle.model.proofs.Metadata.{container-then}
 use Rattle.model.proofs.WellFormed.{checkpoint-outcome-ok}
 
 -- ---- sums
-
--- f 0 + f 1 + .. + f (n - 1)
-unfoldable pub sumTo : ℕ → (ℕ → ℕ) → ℕ
-sumTo zero f = 0
-sumTo (suc n) f = sumTo n f + f n
-
--- 1 if a test holds, else 0
-abbrev pub oneIf : Bool → ℕ
-oneIf b = cond b 1 0
 
 pub sum-ext : (n : ℕ) (f g : ℕ → ℕ) → ((i : ℕ) → i < n → f i ≡ g i) → sumTo n f ≡ sumTo n g
 unfolding sumTo
@@ -90,17 +82,6 @@ length-zero-segment l to = length-cat (l .blocks) 36 _ (λ i h. length-put-block
 
 -- ---- recovery
 
--- 1 for an action that treats a segment, 0 for `Nothing`
-unfoldable pub acts : Action → ℕ
-acts Nothing = 0
-acts ZeroMain = 1
-acts CopyToBackup = 1
-acts CopyToMain = 1
-
--- how many main segments recovery treats
-unfoldable pub treated : Layout → Image → ℕ → ℕ
-treated l I line = sumTo (l .mains) (λ i. acts (recoveryAction (segState I line i) (isPaired l (backupToMain I) i)))
-
 length-action : (l : Layout) (I : Image) (i j : ℕ) (a : Action) → length (actionOps l I i j a) ≡ 36 * l .blocks * acts a
 unfolding actionOps acts
 length-action l I i j Nothing = sym (mul-zero (36 * l .blocks))
@@ -143,13 +124,6 @@ trace-suffices l I t h =
     rw (le-ltb (length t) (3 * length (recoveryOps l I (activeLine I))) (omega (arith, recovery-most l I (activeLine I)))) (no-eleven _ _ _ _)
 
 -- ---- dirty blocks
-
--- how many blocks of main segment i are dirty, and of all main segments
-unfoldable pub dirtyCount : Session → ℕ → ℕ
-dirtyCount s i = sumTo (s .layout .blocks) (λ b. oneIf (dirtyBlock s i b))
-
-unfoldable pub dirtyTotal : Session → ℕ
-dirtyTotal s = sumTo (s .layout .mains) (dirtyCount s)
 
 -- operations for each dirty block
 length-dirty : (s : Session) (i k : ℕ) (f : ℕ → Ops) → ((b : ℕ) → length (f b) ≡ k)

@@ -25,11 +25,12 @@ use Rattle.model.specs.Checkpoint.{checkpointStatus, checkpointOutcome}
 use Rattle.model.specs.Reads.{readErrors, readStatus}
 use Rattle.model.specs.Reference.{Page, pageAt, pageBlock, modelStep}
 use Rattle.model.specs.History.{Call, callOpen, callWrite, callCheckpoint, State, playedOps, step, run, Permitted, AllPermitted}
+use Rattle.model.specs.Counts.{dirtyTotal}
 use Rattle.model.specs.CrashSafety.{ReadsBlock, between, during, Window, lastCheckpoint, MayShow, CrashModel, CutOpenings, again}
 use Rattle.model.proofs.Range.{and-left, and-right}
 use Rattle.model.proofs.Metadata.{any-free}
 use Rattle.model.proofs.Agreement.{refused-session}
-use Rattle.model.proofs.Counts.{dirtyTotal, length-checkpoint-ops, window-is}
+use Rattle.model.proofs.Counts.{length-checkpoint-ops, window-is}
 
 -- ---- the pages that may be shown
 

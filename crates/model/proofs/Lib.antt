@@ -1,4 +1,5 @@
 pub mod Range
+pub mod Gather
 pub mod Refusals
 pub mod Metadata
 pub mod SessionLaws

@@ -8,6 +8,7 @@ pub mod Ops
 pub mod Replay
 pub mod Format
 pub mod Open
+pub mod Counts
 pub mod Write
 pub mod Checkpoint
 pub mod Reads

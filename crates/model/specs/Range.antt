@@ -1,5 +1,5 @@
 -- What is said of the numbers 0, 1, .. n - 1, in ascending order. Nothing here knows of containers. Assumes nothing.
-use Prim.Native.Nat.{ℕ, zero, suc}
+use Prim.Native.Nat.{ℕ, zero, suc, _+_}
 use mathlib.Core.Bool.{Bool, true, false, cond, _&&_, _||_}
 use mathlib.Core.List.{List, [], _++_}
 use lib.Dec.{ltb}
@@ -27,3 +27,12 @@ orNext f n b = cond (ltb f n) f (cond b n (suc n))
 unfoldable pub firstB : ℕ → (ℕ → Bool) → ℕ
 firstB zero P = zero
 firstB (suc n) P = orNext (firstB n P) n (P n)
+
+-- f 0 + f 1 + .. + f (n - 1)
+unfoldable pub sumTo : ℕ → (ℕ → ℕ) → ℕ
+sumTo zero f = 0
+sumTo (suc n) f = sumTo n f + f n
+
+-- 1 if a test holds, else 0
+abbrev pub oneIf : Bool → ℕ
+oneIf b = cond b 1 0

@@ -12,7 +12,7 @@ use borrow.Author.Tests.{ltb-false}
 use Rattle.model.specs.declared.Layout.{Layout}
 use Rattle.model.specs.declared.Action.{Action}
 use Rattle.model.specs.declared.Action.the-variants.{Nothing, ZeroMain, CopyToBackup, CopyToMain}
-use Rattle.model.specs.Range.{cat}
+use Rattle.model.specs.Range.{cat, sumTo}
 use Rattle.model.specs.Words.{Image, byteAt}
 use Rattle.model.specs.Layout.{imageSize, mainAt, backupAt}
 use Rattle.model.specs.Status.{firstError}
@@ -21,7 +21,8 @@ use Rattle.model.specs.Ops.{sfence, Trace, traceShort}
 use Rattle.model.specs.Open.{recoveryAction, copySegment, zeroSegment, actionOps, recoverSegment, recoveryOps, openErrors, openStatus}
 use Rattle.model.proofs.Refusals.{before-refused, served-cons}
 use Rattle.model.proofs.Metadata.{container-ok, container-passes, container-then}
-use Rattle.model.proofs.Counts.{sumTo, acts, treated, sum-ext}
+use Rattle.model.specs.Counts.{acts, treated}
+use Rattle.model.proofs.Counts.{sum-ext}
 use Rattle.trace.proofs.CallLaws.{code-within}
 
 -- ---- the table

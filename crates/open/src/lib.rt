@@ -13,7 +13,7 @@ ghost use Rattle.model.specs.Layout.{layoutOf, imageSize, mainAt, backupAt};
 ghost use Rattle.model.specs.Container.{activeLine, activeState, backupToMain, isPaired, pairedBackup};
 ghost use Rattle.model.specs.Ops.{Trace, Gives};
 ghost use Rattle.model.specs.Open.{recoveryAction, copySegment, zeroSegment, recoverSegment, recoveryOps, openStatus, openOutcome};
-ghost use Rattle.model.proofs.Counts.{acts, treated};
+ghost use Rattle.model.specs.Counts.{acts, treated};
 ghost use Rattle.trace.specs.Emit.{emit};
 
 // What recovery does, by 2 * state + 1 where the main segment is paired and 2 * state where it is not; the two cells that

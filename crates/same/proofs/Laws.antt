@@ -22,7 +22,7 @@ use Rattle.model.proofs.Refusals.{after-served, before-refused, same-numbers}
 use Rattle.model.proofs.Places.{metadata-inside, segment-in-image}
 use Rattle.model.proofs.Metadata.{ContainerOk, container-ok, container-then, container-served, paired-at, paired-by}
 use Rattle.model.proofs.Pages.{checkpoint-at, segment-initial, segment-own, segment-backup}
-use Rattle.session.proofs.Gather.{all-ext}
+use Rattle.model.proofs.Gather.{all-ext}
 use Rattle.same.specs.Stands.{checkpointAt}
 
 -- ---- tests in runs of c

@@ -18,7 +18,7 @@ use Rattle.model.specs.Words.{Image}
 use Rattle.model.specs.Container.{segState}
 use Rattle.model.specs.Session.{bit, dirtyWord, dirtySegment, validSession}
 use Rattle.model.proofs.Range.{both, and-left, and-right, all-at, all-from}
-use Rattle.session.proofs.Gather.{all-ext, same-test}
+use Rattle.model.proofs.Gather.{all-ext, same-test}
 
 -- `1 << f`
 pub shifted-one : (f : ℕ) → f < 64 → 1 * 2 ^ f % 18446744073709551616 ≡ 2 ^ f

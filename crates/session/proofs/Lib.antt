@@ -1,2 +1,1 @@
-pub mod Gather
 pub mod Laws

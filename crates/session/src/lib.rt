@@ -10,7 +10,7 @@ ghost use lib.Dec.{eqb, ltb};
 ghost use lib.ListN.{length, getD};
 ghost use Rattle.model.specs.Range.{allB};
 ghost use Rattle.model.specs.Session.{bit, dirtyWord, withDirty, withCheckpoint, validSession};
-ghost use Rattle.model.proofs.Counts.{dirtyTotal};
+ghost use Rattle.model.specs.Counts.{dirtyTotal};
 
 // The words of dirty blocks, and the state of a main segment that holds its checkpoint itself, as the code compares them.
 const MOST: usize = Layout::MOST as usize;

@@ -19,7 +19,8 @@ use Rattle.model.specs.Ops.{sfence}
 use Rattle.model.specs.Open.{copySegment}
 use Rattle.model.specs.Write.{needsCopy, needsBackup, pairOps, copyDirty, backupOps, stateOps, copyOnWriteOps}
 use Rattle.model.proofs.Metadata.{paired-at, any-free}
-use Rattle.model.proofs.Counts.{dirtyCount, length-copy-segment, dirty-ones}
+use Rattle.model.specs.Counts.{dirtyCount}
+use Rattle.model.proofs.Counts.{length-copy-segment, dirty-ones}
 use Rattle.blocks.proofs.PartLaws.{length-copy}
 use Rattle.blocks.proofs.DirtyLaws.{length-each}
 use Rattle.metadata.specs.Scan.{Choice}

@@ -18,7 +18,7 @@ ghost use Rattle.model.specs.Session.{dirtyWord, withDirty, validSession};
 ghost use Rattle.model.specs.Ops.{sfence, storeByte, wordPlace, Gives};
 ghost use Rattle.model.specs.Open.{copySegment};
 ghost use Rattle.model.specs.Write.{pairOps, copyDirty, backupOps, stateOps, spanWords, writeOutcome, Chosen};
-ghost use Rattle.model.proofs.Counts.{dirtyCount};
+ghost use Rattle.model.specs.Counts.{dirtyCount};
 ghost use Rattle.trace.specs.Emit.{emit};
 ghost use Rattle.write.specs.Steps.{writeArgsOf, Writes, earlyErrors, lateErrors, Ready, ReadySpan, Planned, noneFree, copyCount, prepareOps, spanStores};
 

@@ -7,7 +7,7 @@ use lib.Dec.{eqb, ltb}
 use borrow.Author.Tests.{lt-ltb, le-ltb}
 use borrow.Author.Needs.{needs}
 use Rattle.model.proofs.Range.{all-from, or-left}
-use Rattle.session.proofs.Gather.{all-more}
+use Rattle.model.proofs.Gather.{all-more}
 use Rattle.model.specs.Range.{allB}
 use Rattle.metadata.proofs.rest_is.Statement.{statement}
 use Rattle.metadata.proofs.rest_is.Tie as tie

@@ -5,7 +5,7 @@ use native.Mathlib.Omega.{arith}
 use lib.ListN.{length, getD, length-set}
 use lib.Dec.{eqb}
 use borrow.Author.Needs.{needs}
-use Rattle.session.proofs.Gather.{all-none, all-more}
+use Rattle.model.proofs.Gather.{all-none, all-more}
 use Rattle.model.specs.Container.{backupToMain}
 use Rattle.model.specs.Range.{allB, anyB}
 use Rattle.metadata.specs.Scan.{pairFits}

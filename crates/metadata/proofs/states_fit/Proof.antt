@@ -4,7 +4,7 @@ use mathlib.Core.Path.{_≡_}
 use native.Mathlib.Omega.{arith}
 use lib.ListN.{getD}
 use borrow.Author.Needs.{needs}
-use Rattle.session.proofs.Gather.{all-none, all-more}
+use Rattle.model.proofs.Gather.{all-none, all-more}
 use Rattle.model.specs.Range.{allB}
 use Rattle.metadata.specs.Scan.{stateFits}
 use Rattle.metadata.proofs.states_fit.Statement.{statement}

@@ -8,8 +8,9 @@ use borrow.Author.Needs.{needs}
 use Rattle.model.specs.Words.{Image, byteAt}
 use Rattle.model.specs.Container.{isPaired}
 use Rattle.model.specs.Open.{recoveryAction}
-use Rattle.model.proofs.Counts.{sumTo, acts}
-use Rattle.session.proofs.Gather.{sum-none, sum-more}
+use Rattle.model.specs.Range.{sumTo}
+use Rattle.model.specs.Counts.{acts}
+use Rattle.model.proofs.Gather.{sum-none, sum-more}
 use Rattle.open.proofs.Laws.{treated-by}
 use Rattle.open.proofs.count_treated.Statement.{statement}
 use Rattle.open.proofs.count_treated.Tie as tie

@@ -1,7 +1,7 @@
 use mathlib.Core.Path.{refl}
 use native.Mathlib.Omega.{arith}
 use borrow.Author.Needs.{needs}
-use Rattle.model.proofs.Counts.{acts}
+use Rattle.model.specs.Counts.{acts}
 use Rattle.open.proofs.treats.Statement.{statement}
 use Rattle.open.proofs.treats.Tie as tie
 

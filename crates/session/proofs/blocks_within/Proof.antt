@@ -5,7 +5,7 @@ use lib.Dec.{ltb}
 use lib.ListN.{getD}
 use borrow.Author.Needs.{needs}
 use Rattle.model.specs.Range.{allB}
-use Rattle.session.proofs.Gather.{all-none, all-more}
+use Rattle.model.proofs.Gather.{all-none, all-more}
 use Rattle.session.proofs.blocks_within.Statement.{statement}
 use Rattle.session.proofs.blocks_within.Tie as tie
 

@@ -4,8 +4,10 @@ use native.Mathlib.Omega.{arith}
 use lib.ListN.{getD}
 use lib.Count.{ones}
 use borrow.Author.Needs.{needs}
-use Rattle.model.proofs.Counts.{sumTo, dirtyTotal, sum-ext, dirty-ones}
-use Rattle.session.proofs.Gather.{sum-none, sum-more}
+use Rattle.model.specs.Range.{sumTo}
+use Rattle.model.specs.Counts.{dirtyTotal}
+use Rattle.model.proofs.Counts.{sum-ext, dirty-ones}
+use Rattle.model.proofs.Gather.{sum-none, sum-more}
 use Rattle.session.proofs.dirty_total.Statement.{statement}
 use Rattle.session.proofs.dirty_total.Tie as tie
 

@@ -8,7 +8,7 @@ use borrow.Author.Tests.{lt-ltb, le-ltb}
 use borrow.Author.Needs.{needs}
 use Rattle.model.proofs.Range.{all-from, or-left}
 use Rattle.model.specs.Range.{allB}
-use Rattle.session.proofs.Gather.{all-more}
+use Rattle.model.proofs.Gather.{all-more}
 use Rattle.session.proofs.rest_clear.Statement.{statement}
 use Rattle.session.proofs.rest_clear.Tie as tie
 

@@ -1,7 +1,7 @@
 use borrow.Author.Needs.{needs}
 use Rattle.model.specs.Session.{dirtyBlock}
 use Rattle.model.specs.Write.{copyDirty}
-use Rattle.model.proofs.Counts.{dirtyCount}
+use Rattle.model.specs.Counts.{dirtyCount}
 use Rattle.write.proofs.put_dirty.Statement.{statement}
 use Rattle.write.proofs.put_dirty.Tie as tie
 

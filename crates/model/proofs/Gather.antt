@@ -4,8 +4,7 @@ use mathlib.Core.Path.{_≡_, refl, sym, ap₂}
 use mathlib.Core.Bool.{Bool, true, false, _&&_}
 use native.Mathlib.Numerals.{add-one}
 use native.Mathlib.Omega.{arith}
-use Rattle.model.specs.Range.{allB}
-use Rattle.model.proofs.Counts.{sumTo}
+use Rattle.model.specs.Range.{allB, sumTo}
 
 pub all-none : (P : ℕ → Bool) → true ≡ allB 0 P
 unfolding allB
