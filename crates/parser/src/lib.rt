@@ -1,1 +1,131 @@
-// Bytes of a text.
+// The bench sheet read (document 01: "The bench sheet"): its lines and their values, the first bad line, the sizes, and one
+// group after the other. Every function works on the caller's bytes, and a line or a value is a part of them.
+use model::Layout;
+ghost use mathlib.Core.Path.{_≡_};
+ghost use mathlib.Core.Bool.{true};
+ghost use mathlib.Core.List.{[], _∷_};
+ghost use Prim.Native.Nat.{_+_, _-_, _*_, _≤_, min};
+ghost use lib.ListN.{length, take, drop};
+ghost use Rattle.parser.specs.Text.{startsWith, lineLength, linesOf, isDigit, digitOf, numberOf, isHexDigit, hexDigitOf, hexPairs};
+ghost use Rattle.parser.specs.Script.{key, named, valueOf, goodLine, isBytes, keyFor, following, firstBad};
+
+// The byte that ends a line.
+const LINE_END: u8 = 10;
+
+// What a value gives that is no number.
+const NO_NUMBER: u64 = 1000;
+
+// The most hexadecimal digits of a value.
+const MOST_DIGITS: usize = 512;
+
+// The keys by their places: three sizes, then the five lines of a group.
+const MAINS: u64 = 0;
+
+const BACKUPS: u64 = 1;
+
+const BLOCKS: u64 = 2;
+
+const MAIN: u64 = 3;
+
+const BLOCK: u64 = 4;
+
+const OFFSET: u64 = 5;
+
+const BYTES: u64 = 6;
+
+const CHECKPOINT: u64 = 7;
+
+// The end of the line that starts at a place: behind its byte 10, or where the input ends.
+pub fn next_line(input: &[u8], at: usize) -> usize
+    requires { ⌜ at ≤ length (now input) ⌝ }
+    ensures { λ r. ⌜ r ≡ at + lineLength (drop at (now (input .entry))) ⌝ }
+{
+    let mut end = at;
+    while end < input.len() {
+        let byte = input[end];
+        end += 1;
+        if byte == LINE_END {
+            return end;
+        }
+    }
+    end
+}
+
+// Whether a line starts with a name.
+pub fn starts_with(line: &[u8], name: &[u8]) -> bool
+    ensures { λ r. ⌜ r ≡ startsWith (now (name .entry)) (now (line .entry)) ⌝ }
+{
+    if line.len() < name.len() {
+        return false;
+    }
+    let mut i = 0;
+    while i < name.len() {
+        if line[i] != name[i] {
+            return false;
+        }
+        i += 1;
+    }
+    true
+}
+
+// Whether a line starts with key k.
+pub fn is_named(k: u64, line: &[u8]) -> bool
+    ensures { λ r. ⌜ r ≡ named k (now (line .entry)) ⌝ }
+{
+    if k == MAINS {
+        return starts_with(line, b"mains=");
+    }
+    if k == BACKUPS {
+        return starts_with(line, b"spares=");
+    }
+    if k == BLOCKS {
+        return starts_with(line, b"frames=");
+    }
+    if k == MAIN {
+        return starts_with(line, b"level=");
+    }
+    if k == BLOCK {
+        return starts_with(line, b"frame=");
+    }
+    if k == OFFSET {
+        return starts_with(line, b"at=");
+    }
+    if k == BYTES {
+        return starts_with(line, b"bytes=");
+    }
+    if k == CHECKPOINT {
+        return starts_with(line, b"save=");
+    }
+    true
+}
+
+// The bytes of key k, its sign among them.
+pub fn key_size(k: u64) -> usize
+    ensures { λ r. ⌜ (r ≡ length (key k .name)) × (r ≤ 7) ⌝ }
+{
+    if k == MAINS {
+        return 6;
+    }
+    if k == BACKUPS {
+        return 7;
+    }
+    if k == BLOCKS {
+        return 7;
+    }
+    if k == MAIN {
+        return 6;
+    }
+    if k == BLOCK {
+        return 6;
+    }
+    if k == OFFSET {
+        return 3;
+    }
+    if k == BYTES {
+        return 6;
+    }
+    if k == CHECKPOINT {
+        return 5;
+    }
+    0
+}
