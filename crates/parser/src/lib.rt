@@ -129,3 +129,96 @@ pub fn key_size(k: u64) -> usize
     }
     0
 }
+
+// Whether a byte is a decimal digit.
+fn is_digit(b: u8) -> bool
+    ensures { λ r. ⌜ r ≡ isDigit b ⌝ }
+{
+    (b'0' <= b) & (b <= b'9')
+}
+
+// The number of a decimal digit.
+fn digit_of(b: u8) -> u64
+    ensures { λ r. ⌜ (r ≡ digitOf b) × (r ≤ 207) ⌝ }
+{
+    if b < b'0' {
+        return 0;
+    }
+    (b - b'0') as u64
+}
+
+// The numbers that one, two and three bytes give.
+fn one_digit(a: u8) -> u64
+    ensures { λ r. ⌜ r ≡ numberOf (a ∷ []) ⌝ }
+{
+    if !is_digit(a) {
+        return NO_NUMBER;
+    }
+    digit_of(a)
+}
+
+fn two_digits(a: u8, b: u8) -> u64
+    ensures { λ r. ⌜ r ≡ numberOf (a ∷ b ∷ []) ⌝ }
+{
+    let good = is_digit(a) & is_digit(b) & (a != b'0');
+    if !good {
+        return NO_NUMBER;
+    }
+    10 * digit_of(a) + digit_of(b)
+}
+
+fn three_digits(a: u8, b: u8, c: u8) -> u64
+    ensures { λ r. ⌜ r ≡ numberOf (a ∷ b ∷ c ∷ []) ⌝ }
+{
+    let good = is_digit(a) & is_digit(b) & is_digit(c) & (a != b'0');
+    if !good {
+        return NO_NUMBER;
+    }
+    100 * digit_of(a) + 10 * digit_of(b) + digit_of(c)
+}
+
+// The number that a value gives.
+pub fn number_of(value: &[u8]) -> u64
+    ensures { λ r. ⌜ r ≡ numberOf (now (value .entry)) ⌝ }
+{
+    if value.len() == 1 {
+        return one_digit(value[0]);
+    }
+    if value.len() == 2 {
+        return two_digits(value[0], value[1]);
+    }
+    if value.len() == 3 {
+        return three_digits(value[0], value[1], value[2]);
+    }
+    NO_NUMBER
+}
+
+// Whether a byte is a lower-case hexadecimal digit.
+fn is_hex_digit(b: u8) -> bool
+    ensures { λ r. ⌜ r ≡ isHexDigit b ⌝ }
+{
+    if b <= b'9' {
+        return b'0' <= b;
+    }
+    (b'a' <= b) & (b <= b'f')
+}
+
+// Whether a value is an even count of them.
+pub fn hex_pairs(value: &[u8]) -> bool
+    ensures { λ r. ⌜ r ≡ hexPairs (now (value .entry)) ⌝ }
+{
+    let mut i = 0;
+    while i < value.len() {
+        if i + 1 == value.len() {
+            return false;
+        }
+        if !is_hex_digit(value[i]) {
+            return false;
+        }
+        if !is_hex_digit(value[i + 1]) {
+            return false;
+        }
+        i += 2;
+    }
+    true
+}
