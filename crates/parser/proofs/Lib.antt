@@ -1,3 +1,4 @@
 pub mod Lines
 pub mod Keys
 pub mod Numbers
+pub mod Bad

@@ -87,11 +87,11 @@ module _ (input : List ℕ) («at» r : ℕ) (e : r ≡ «at» + lineLength (dro
   pub next-part : take (r - «at») (drop «at» input) ≡ lineAt (linesOf (drop «at» input)) 0
   next-part = rw (e, add-sub-cancel-left) (first-of (drop «at» input))
 
--- where bytes are left there is a line, and where none is left there is none
-pub lines-next : (input : List ℕ) («at» : ℕ) → «at» < length input
-    → linesOf (drop «at» input) ≡ lineAt (linesOf (drop «at» input)) 0 ∷ drop 1 (linesOf (drop «at» input))
-lines-next input «at» h = lines-some (drop «at» input) (omega (arith, length-drop «at» input))
+  -- where bytes are left, the lines are this one and the others
+  pub next-lines : «at» < length input → linesOf (drop «at» input) ≡ take (r - «at») (drop «at» input) ∷ linesOf (drop r input)
+  next-lines h = rw (next-part, next-rest) (lines-some (drop «at» input) (omega (arith, length-drop «at» input)))
 
+-- where no byte is left there is no line
 pub lines-none : (input : List ℕ) («at» : ℕ) → «at» ≡ length input → linesOf (drop «at» input) ≡ []
 unfolding linesOf
 lines-none input «at» e = rw (e, drop-length)

@@ -8,6 +8,7 @@ ghost use Prim.Native.Nat.{_+_, _-_, _*_, _≤_, min};
 ghost use lib.ListN.{length, take, drop};
 ghost use Rattle.parser.specs.Text.{startsWith, lineLength, linesOf, isDigit, digitOf, numberOf, isHexDigit, hexDigitOf, hexPairs};
 ghost use Rattle.parser.specs.Script.{key, named, valueOf, goodLine, isBytes, keyFor, following, firstBad};
+ghost use Rattle.parser.specs.Read.{ReadsValue};
 
 // The byte that ends a line.
 const LINE_END: u8 = 10;
@@ -221,4 +222,145 @@ pub fn hex_pairs(value: &[u8]) -> bool
         i += 2;
     }
     true
+}
+
+// Where a value stands.
+pub struct Span {
+    pub start: usize,
+    pub end: usize,
+}
+
+// Where the value for key k stands in the line from `at` to `end`: between the key and the last byte, empty where the line is
+// too short.
+pub fn value_at(k: u64, at: usize, end: usize) -> Span
+    requires { ⌜ at ≤ end ⌝ }
+    ensures { λ r. ⌜ ReadsValue k at end r ⌝ }
+{
+    let size = key_size(k);
+    if end - at <= size {
+        return Span {
+            start: end,
+            end: end,
+        };
+    }
+    Span {
+        start: at + size,
+        end: end - 1,
+    }
+}
+
+// The value for key k in a line.
+pub fn value_of(k: u64, line: &[u8]) -> &[u8]
+    ensures { λ r. ⌜ now r ≡ valueOf k (now (line .entry)) ⌝ }
+{
+    let span = value_at(k, 0, line.len());
+    let start = span.start;
+    let end = span.end;
+    &line[start..end]
+}
+
+// The number that stands for key k in a line.
+pub fn number_value(k: u64, line: &[u8]) -> u64
+    ensures { λ r. ⌜ r ≡ numberOf (valueOf k (now (line .entry))) ⌝ }
+{
+    number_of(value_of(k, line))
+}
+
+// The number that stands for key k in the line from `at` to `end`.
+pub fn number_at(k: u64, input: &[u8], at: usize, end: usize) -> u64
+    requires { ⌜ (at ≤ end) × (end ≤ length (now input)) ⌝ }
+    ensures { λ r. ⌜ r ≡ numberOf (valueOf k (take (end - at) (drop at (now (input .entry))))) ⌝ }
+{
+    number_value(k, &input[at..end])
+}
+
+// Whether a value is bytes in hexadecimal digits.
+fn good_bytes(value: &[u8]) -> bool
+    ensures { λ r. ⌜ r ≡ isBytes (now (value .entry)) ⌝ }
+{
+    if MOST_DIGITS < value.len() {
+        return false;
+    }
+    hex_pairs(value)
+}
+
+// Whether a value may stand behind key k.
+pub fn good_value(k: u64, value: &[u8]) -> bool
+    ensures { λ r. ⌜ r ≡ key k .good (now (value .entry)) ⌝ }
+{
+    if k == BYTES {
+        return good_bytes(value);
+    }
+    let n = number_of(value);
+    if k <= BLOCKS {
+        return (1 <= n) & (n <= 4);
+    }
+    if k == CHECKPOINT {
+        return n <= 1;
+    }
+    n < NO_NUMBER
+}
+
+// Whether a line is a good one for key k: the key, a good value, byte 10.
+pub fn good_line(k: u64, line: &[u8]) -> bool
+    ensures { λ r. ⌜ r ≡ goodLine k (now (line .entry)) ⌝ }
+{
+    if line.len() == 0 {
+        return false;
+    }
+    let last = line[line.len() - 1];
+    if last != LINE_END {
+        return false;
+    }
+    if !is_named(k, line) {
+        return false;
+    }
+    good_value(k, value_of(k, line))
+}
+
+// The key that is looked for in a line where key k is next: the line of backups may be left out.
+fn key_for(k: u64, line: &[u8]) -> u64
+    ensures { λ r. ⌜ r ≡ keyFor k (now (line .entry)) ⌝ }
+{
+    if k != BACKUPS {
+        return k;
+    }
+    if is_named(BACKUPS, line) {
+        return BACKUPS;
+    }
+    BLOCKS
+}
+
+// The key that comes after key k.
+fn key_after(k: u64) -> u64
+    requires { ⌜ k ≤ 7 ⌝ }
+    ensures { λ r. ⌜ (r ≡ following k) × (r ≤ 7) ⌝ }
+{
+    if k == CHECKPOINT {
+        return MAIN;
+    }
+    k + 1
+}
+
+// The number of the first bad or missing line, or 0 if there is none.
+pub fn first_bad(input: &[u8]) -> u64
+    ensures { λ r. ⌜ r ≡ firstBad 0 0 (linesOf (now (input .entry))) ⌝ }
+{
+    let mut key = MAINS;
+    let mut count: u64 = 0;
+    let mut at = 0;
+    while at < input.len() {
+        let end = next_line(input, at);
+        let found = key_for(key, &input[at..end]);
+        if !good_line(found, &input[at..end]) {
+            return count + 1;
+        }
+        key = key_after(found);
+        count += 1;
+        at = end;
+    }
+    if key == MAIN {
+        return 0;
+    }
+    count + 1
 }
