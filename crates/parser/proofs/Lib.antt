@@ -2,3 +2,4 @@ pub mod Lines
 pub mod Keys
 pub mod Numbers
 pub mod Bad
+pub mod Reading

@@ -7,10 +7,12 @@ use mathlib.Core.List.{List, [], _∷_}
 use native.Mathlib.Omega.{arith}
 use native.Mathlib.Numerals.{add-one}
 use lib.Dec.{leb, eqb}
-use lib.ListN.{length, getD, take, drop}
-use lib.Seq.{drop-cons, drop-length}
-use borrow.Author.Tests.{eq-eqb, ne-eqb, le-leb, lt-leb, not-true, not-false}
+use lib.ListN.{length, getD, take, drop, set}
+use lib.Seq.{drop-cons, drop-length, drop-drop, drop-set-lt, take-all, take-suc, take-suc-set}
+use borrow.Author.Tests.{eq-eqb, ne-eqb, le-leb, lt-leb, leb-true, not-true, not-false}
+use Rattle.model.proofs.Range.{and-left, and-right}
 use Rattle.parser.specs.Text.{isDigit, digitOf, noNumber, numberOf, isHexDigit, hexDigitOf, hexPairs, hexBytes}
+use Rattle.parser.specs.Read.{Decodes}
 
 -- ---- numbers
 
@@ -121,3 +123,68 @@ module _ (v : List ℕ) (i : ℕ) where
   pub pairs-on : {p q : Bool} → i + 1 < length v → p ≡ isHexDigit (getD v i 0) → not p ≡ false
       → q ≡ isHexDigit (getD v (i + 1) 0) → not q ≡ false → hexPairs (drop i v) ≡ hexPairs (drop (i + 2) v)
   pairs-on {p} {q} h e n f m = pairs-more h ∙ rw (← e, not-false p n, ← f, not-false q m)
+
+-- ---- bytes
+
+-- a digit up to 9, and one from a on
+pub low-digit : (b : ℕ) → b ≤ 57 → isHexDigit b ≡ true → (48 ≤ b) × (b - 48 ≡ hexDigitOf b)
+low-digit b h e = (leb-true 48 b (hex-low b h ∙ e), rw (le-leb b 57 h))
+
+pub high-digit : (b : ℕ) → 57 < b → isHexDigit b ≡ true → (97 ≤ b) × (b ≤ 102) × (b - 87 ≡ hexDigitOf b)
+high-digit b h e =
+    let q : (leb 97 b && leb b 102) ≡ true = hex-high b h ∙ e in
+    (leb-true 97 b (and-left (leb 97 b) (leb b 102) q), leb-true b 102 (and-right (leb 97 b) (leb b 102) q), rw (lt-leb b 57 h))
+
+pub length-hex : (d : List ℕ) → length (hexBytes d) ≡ length d / 2
+unfolding hexBytes
+length-hex [] = refl
+length-hex (a ∷ []) = refl
+length-hex (a ∷ b ∷ d) = omega (arith, length-hex d)
+
+hex-at : (d : List ℕ) (i : ℕ) → 2 * i + 1 < length d → getD (hexBytes d) i 0 ≡ 16 * hexDigitOf (getD d (2 * i) 0) + hexDigitOf (getD d (2 * i + 1) 0)
+unfolding hexBytes
+hex-at [] i h = let z : ⊥ = omega arith in absurd z
+hex-at (a ∷ []) i h = let z : ⊥ = omega arith in absurd z
+hex-at (a ∷ b ∷ d) zero h = refl
+hex-at (a ∷ b ∷ d) (suc i) h =
+    let e : 2 * suc i ≡ suc (suc (2 * i)) = omega arith in
+    let f : 2 * suc i + 1 ≡ suc (suc (2 * i + 1)) = omega arith in
+    rw (f, e) (hex-at d i (omega arith))
+
+pub pair-at : (d : List ℕ) (i : ℕ) → hexPairs d ≡ true → 2 * i + 1 < length d
+    → (isHexDigit (getD d (2 * i) 0) ≡ true) × (isHexDigit (getD d (2 * i + 1) 0) ≡ true)
+unfolding hexPairs
+pair-at [] i t h = let z : ⊥ = omega arith in absurd z
+pair-at (a ∷ []) i t h = let z : ⊥ = omega arith in absurd z
+pair-at (a ∷ b ∷ d) zero t h =
+    let q = and-left (isHexDigit a && isHexDigit b) (hexPairs d) t in
+    (and-left (isHexDigit a) (isHexDigit b) q, and-right (isHexDigit a) (isHexDigit b) q)
+pair-at (a ∷ b ∷ d) (suc i) t h =
+    let e : 2 * suc i ≡ suc (suc (2 * i)) = omega arith in
+    let f : 2 * suc i + 1 ≡ suc (suc (2 * i + 1)) = omega arith in
+    rw (f, e) (pair-at d i (and-right (isHexDigit a && isHexDigit b) (hexPairs d) t) (omega arith))
+
+-- one byte more
+pub decoded-more : (d bs : List ℕ) (i v : ℕ) → 2 * i + 1 < length d → i < length bs
+    → v ≡ 16 * hexDigitOf (getD d (2 * i) 0) + hexDigitOf (getD d (2 * i + 1) 0) → take i bs ≡ take i (hexBytes d)
+    → take (i + 1) (set bs i v) ≡ take (i + 1) (hexBytes d)
+decoded-more d bs i v h k e t =
+    let l : i < length (hexBytes d) = omega (arith, length-hex d) in
+    rw (add-one, take-suc-set bs i v k, take-suc (hexBytes d) i 0 l, t, e, hex-at d i h)
+
+pub left-more : (start bs : List ℕ) (i v : ℕ) → drop i bs ≡ drop i start → drop (i + 1) (set bs i v) ≡ drop (i + 1) start
+left-more start bs i v t =
+    ap (λ (n : ℕ). drop n (set bs i v)) (add-one i) ∙ drop-set-lt (suc i) bs i v (omega arith) ∙ ap (λ (n : ℕ). drop n bs) (sym (add-one i))
+    ∙ sym (drop-drop 1 i bs) ∙ ap (drop 1) t ∙ drop-drop 1 i start
+
+pub decoded : (d start bs : List ℕ) (i n : ℕ) → i ≡ n → n ≡ length d / 2 → length d ≤ 2 * length start → length bs ≡ length start
+    → take i bs ≡ take i (hexBytes d) → drop i bs ≡ drop i start → Decodes d start bs n
+decoded d start bs i n e q h k t u =
+    let c : n ≡ length (hexBytes d) = omega (arith, length-hex d) in
+    record {
+      count = c;
+      inside = omega arith;
+      bytes = rw e at t ∙ take-all n (hexBytes d) (omega arith);
+      rest = rw e at u;
+      long = k;
+    }

@@ -4,11 +4,11 @@ use model::Layout;
 ghost use mathlib.Core.Path.{_≡_};
 ghost use mathlib.Core.Bool.{true};
 ghost use mathlib.Core.List.{[], _∷_};
-ghost use Prim.Native.Nat.{_+_, _-_, _*_, _≤_, min};
+ghost use Prim.Native.Nat.{_+_, _-_, _*_, _≤_, _<_};
 ghost use lib.ListN.{length, take, drop};
 ghost use Rattle.parser.specs.Text.{startsWith, lineLength, linesOf, isDigit, digitOf, numberOf, isHexDigit, hexDigitOf, hexPairs};
-ghost use Rattle.parser.specs.Script.{key, named, valueOf, goodLine, isBytes, keyFor, following, firstBad};
-ghost use Rattle.parser.specs.Read.{ReadsValue};
+ghost use Rattle.parser.specs.Script.{key, named, valueOf, goodLine, isBytes, keyFor, following, firstBad, defaultBackups};
+ghost use Rattle.parser.specs.Read.{ReadsValue, ReadsHeader, ReadsGroup, Decodes};
 
 // The byte that ends a line.
 const LINE_END: u8 = 10;
@@ -39,7 +39,7 @@ const CHECKPOINT: u64 = 7;
 // The end of the line that starts at a place: behind its byte 10, or where the input ends.
 pub fn next_line(input: &[u8], at: usize) -> usize
     requires { ⌜ at ≤ length (now input) ⌝ }
-    ensures { λ r. ⌜ r ≡ at + lineLength (drop at (now (input .entry))) ⌝ }
+    ensures { λ r. ⌜ (r ≡ at + lineLength (drop at (now (input .entry)))) × (r ≤ length (now (input .entry))) ⌝ }
 {
     let mut end = at;
     while end < input.len() {
@@ -363,4 +363,110 @@ pub fn first_bad(input: &[u8]) -> u64
         return 0;
     }
     count + 1
+}
+
+// The sizes that a sheet gives, and where its groups start.
+pub struct HeaderAt {
+    pub layout: Layout,
+    pub next: usize,
+}
+
+// The number of backup segments where the sheet has none.
+fn default_backups(mains: u64) -> u64
+    ensures { λ r. ⌜ r ≡ defaultBackups mains ⌝ }
+{
+    mains
+}
+
+// The sizes of a sheet.
+pub fn header(input: &[u8]) -> HeaderAt
+    ensures { λ r. ⌜ ReadsHeader (now (input .entry)) r ⌝ }
+{
+    let second = next_line(input, 0);
+    let third = next_line(input, second);
+    let mains = number_at(MAINS, input, 0, second);
+    if !is_named(BACKUPS, &input[second..third]) {
+        let blocks = number_at(BLOCKS, input, second, third);
+        let layout = Layout::new(mains, default_backups(mains), blocks);
+        return HeaderAt {
+            layout: layout,
+            next: third,
+        };
+    }
+    let end = next_line(input, third);
+    let backups = number_at(BACKUPS, input, second, third);
+    let blocks = number_at(BLOCKS, input, third, end);
+    let layout = Layout::new(mains, backups, blocks);
+    HeaderAt {
+        layout: layout,
+        next: end,
+    }
+}
+
+// A group: a write whose bytes stand in hexadecimal digits from `digits` to `digits_end`, whether a checkpoint follows, and
+// where the next group starts.
+pub struct GroupAt {
+    pub main: u64,
+    pub block: u64,
+    pub offset: u64,
+    pub digits: usize,
+    pub digits_end: usize,
+    pub checkpoint: bool,
+    pub next: usize,
+}
+
+// The group of the five lines from a place on.
+pub fn group_at(input: &[u8], at: usize) -> GroupAt
+    requires { ⌜ at ≤ length (now input) ⌝ }
+    ensures { λ r. ⌜ ReadsGroup (now (input .entry)) at r ⌝ }
+{
+    let second = next_line(input, at);
+    let third = next_line(input, second);
+    let fourth = next_line(input, third);
+    let fifth = next_line(input, fourth);
+    let next = next_line(input, fifth);
+    let digits = value_at(BYTES, fourth, fifth);
+    GroupAt {
+        main: number_at(MAIN, input, at, second),
+        block: number_at(BLOCK, input, second, third),
+        offset: number_at(OFFSET, input, third, fourth),
+        digits: digits.start,
+        digits_end: digits.end,
+        checkpoint: number_at(CHECKPOINT, input, fifth, next) == 1,
+        next: next,
+    }
+}
+
+// The byte that two hexadecimal digits give.
+fn hex_byte(a: u8, b: u8) -> u8
+    requires { ⌜ (isHexDigit a ≡ true) × (isHexDigit b ≡ true) ⌝ }
+    ensures { λ r. ⌜ r ≡ 16 * hexDigitOf a + hexDigitOf b ⌝ }
+{
+    16 * hex_digit_of(a) + hex_digit_of(b)
+}
+
+// The number of a hexadecimal digit.
+fn hex_digit_of(b: u8) -> u8
+    requires { ⌜ isHexDigit b ≡ true ⌝ }
+    ensures { λ r. ⌜ (r ≡ hexDigitOf b) × (r < 16) ⌝ }
+{
+    if b <= b'9' {
+        return b - b'0';
+    }
+    b - 87
+}
+
+// Puts the bytes that pairs of hexadecimal digits give at the start of `bytes`, and answers with how many they are.
+pub fn decode_bytes(digits: &[u8], bytes: &mut [u8]) -> usize
+    requires { ⌜ length (now digits) ≤ 2 * length (now bytes) ⌝ }
+    requires { ⌜ hexPairs (now digits) ≡ true ⌝ }
+    ensures { λ r. ⌜ Decodes (now (digits .entry)) (now (bytes .entry)) (now (bytes .exit)) r ⌝ }
+{
+    let count = digits.len() / 2;
+    let mut i = 0;
+    while i < count {
+        bytes[i] = hex_byte(digits[2 * i], digits[2 * i + 1]);
+        i += 1;
+    }
+    count
 }

@@ -1,5 +1,5 @@
 use Rattle.parser.proofs.Bad.{key-for-most, bad-end, good-end, bad-line, good-line}
-use Rattle.parser.proofs.Lines.{next-inside, next-after, next-lines, lines-none}
+use Rattle.parser.proofs.Lines.{next-after, next-lines, lines-none}
 use Rattle.parser.specs.Script.{firstBad}
 use Rattle.parser.specs.Text.{linesOf}
 use lib.ListN.{length, drop}
@@ -24,25 +24,25 @@ next-line-requires : tie.Need-next-line-requires Inv-loop μ-loop
 next-line-requires c κs = search needs
 
 sub-key-for : tie.Need-sub-key-for Inv-loop μ-loop
-sub-key-for c = omega (arith, next-inside _ _ _ (c .next-line .ensures) (omega arith))
+sub-key-for c = search needs
 
 part-key-for-start : tie.Need-part-key-for-start Inv-loop μ-loop
-part-key-for-start c = omega (arith, next-inside _ _ _ (c .next-line .ensures) (omega arith))
+part-key-for-start c = search needs
 
 part-key-for-end : tie.Need-part-key-for-end Inv-loop μ-loop
-part-key-for-end c = omega (arith, next-inside _ _ _ (c .next-line .ensures) (omega arith))
+part-key-for-end c = search needs
 
 key-for-requires : tie.Need-key-for-requires Inv-loop μ-loop
 key-for-requires c κs = search needs
 
 sub-good-line : tie.Need-sub-good-line Inv-loop μ-loop
-sub-good-line c = omega (arith, next-inside _ _ _ (c .before .before .next-line .ensures) (omega arith))
+sub-good-line c = search needs
 
 part-good-line-start : tie.Need-part-good-line-start Inv-loop μ-loop
-part-good-line-start c = omega (arith, next-inside _ _ _ (c .before .before .next-line .ensures) (omega arith))
+part-good-line-start c = search needs
 
 part-good-line-end : tie.Need-part-good-line-end Inv-loop μ-loop
-part-good-line-end c = omega (arith, next-inside _ _ _ (c .before .before .next-line .ensures) (omega arith))
+part-good-line-end c = search needs
 
 good-line-requires : tie.Need-good-line-requires Inv-loop μ-loop
 good-line-requires c κs = search needs
@@ -55,7 +55,7 @@ returns c =
     let d = c .before .before .before in
     let b = d .before .before in
     let l = b .before .before .loop in
-    bad-line (l .key) (l .count) (d .key-for .result) _ _ _ (next-lines _ _ _ (b .next-line .ensures) (omega arith)) (d .key-for .ensures) (c .before .good-line .ensures) (c .if1 .taken) ∙ sym (l .inv .3)
+    bad-line (l .key) (l .count) (d .key-for .result) _ _ _ (next-lines _ _ _ (b .next-line .ensures .0) (omega arith)) (d .key-for .ensures) (c .before .good-line .ensures) (c .if1 .taken) ∙ sym (l .inv .3)
 
 key-after-requires : tie.Need-key-after-requires Inv-loop μ-loop
 key-after-requires c κs =
@@ -67,18 +67,18 @@ add-count : tie.Need-add-count Inv-loop μ-loop
 add-count c = search needs
 
 loop-less : tie.Need-loop-less Inv-loop μ-loop
-loop-less c = omega (arith, next-after _ _ _ (c .before .before .before .before .before .before .next-line .ensures) (omega arith))
+loop-less c = omega (arith, next-after _ _ _ (c .before .before .before .before .before .before .next-line .ensures .0) (omega arith))
 
 loop-again : tie.Need-loop-again Inv-loop μ-loop
 loop-again c =
     let d = c .before .before .before .before in
     let b = d .before .before in
     let l = b .before .before .loop in (
-      omega (arith, next-inside _ _ _ (b .next-line .ensures) (omega arith)),
+      b .next-line .ensures .1,
       omega arith,
-      omega (arith, next-after _ _ _ (b .next-line .ensures) (omega arith)),
+      omega (arith, next-after _ _ _ (b .next-line .ensures .0) (omega arith)),
       l .inv .3
-          ∙ good-line (l .key) (l .count) (d .key-for .result) _ _ _ (next-lines _ _ _ (b .next-line .ensures) (omega arith)) (d .key-for .ensures) (c .before .before .good-line .ensures) (c .before .if1 .left) (c .key-after .ensures .0),
+          ∙ good-line (l .key) (l .count) (d .key-for .result) _ _ _ (next-lines _ _ _ (b .next-line .ensures .0) (omega arith)) (d .key-for .ensures) (c .before .before .good-line .ensures) (c .before .if1 .left) (c .key-after .ensures .0),
     )
 
 returns-2 : tie.Need-returns-2 Inv-loop μ-loop
