@@ -3,3 +3,4 @@ pub mod Keys
 pub mod Numbers
 pub mod Bad
 pub mod Reading
+pub mod Groups
