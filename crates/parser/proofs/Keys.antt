@@ -92,7 +92,8 @@ value-part k input «at» end r h i v =
         ≡ take (end - «at» - 1 - length (key k .name)) (drop (length (key k .name)) (take (end - «at») (drop «at» input)))
     go (yes p) =
         let e : r .start ≡ «at» + length (key k .name) = omega (arith, v .start) in
-        rw (e, ← drop-drop (length (key k .name)) «at» input) (sym (take-drop-take (end - «at» - 1 - length (key k .name)) (length (key k .name)) (end - «at») (drop «at» input) (omega arith)))
+        let d = take-drop-take (end - «at» - 1 - length (key k .name)) (length (key k .name)) (end - «at») (drop «at» input) (omega arith) in
+        rw (e, ← drop-drop (length (key k .name)) «at» input) (sym d)
     go (no p) = let e : end - «at» - 1 - length (key k .name) ≡ 0 = omega arith in rw e
 
 -- and from the line by itself
