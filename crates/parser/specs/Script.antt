@@ -1,0 +1,152 @@
+-- The language of the bench sheet (document 01: "The bench sheet"): key=value lines in fixed order, which of them is the first
+-- bad or missing one, and what a good sheet says. Assumes nothing.
+use Prim.Native.Nat.{ℕ, zero, suc, _-_, _/_}
+use mathlib.Core.Bool.{Bool, not, cond, _&&_}
+use mathlib.Core.List.{List, [], _∷_}
+use lib.Dec.{leb, ltb, eqb}
+use lib.ListN.{length, getD, take, drop}
+use Rattle.model.specs.declared.Layout.{Layout}
+use Rattle.model.specs.Layout.{layoutOf}
+use Rattle.parser.specs.Text.{text, startsWith, Line, lineEnd, linesOf, noNumber, numberOf, hexPairs, hexBytes}
+
+-- the most bytes of a sheet, and the most hexadecimal digits of a value
+abbrev pub mostBytes : ℕ
+mostBytes = 4096
+
+abbrev pub mostDigits : ℕ
+mostDigits = 512
+
+-- ---- a line
+
+-- what may stand behind a key: a size from 1 to 4, a number, an even count of hexadecimal digits, 0 or 1
+abbrev pub isSize : List ℕ → Bool
+isSize v = leb 1 (numberOf v) && leb (numberOf v) 4
+
+abbrev pub isNumber : List ℕ → Bool
+isNumber v = ltb (numberOf v) noNumber
+
+abbrev pub isBytes : List ℕ → Bool
+isBytes v = leb (length v) mostDigits && hexPairs v
+
+abbrev pub isFlag : List ℕ → Bool
+isFlag v = leb (numberOf v) 1
+
+-- a key with its sign, and its good values
+pub record Key : Type 0 where
+  pub name : List ℕ
+  pub good : List ℕ → Bool
+
+-- the keys by their places: three sizes (0 to 2), then the five lines of a group (3 to 7)
+abbrev pub keys : List Key
+keys =
+    record { name = text "mains="; good = isSize }
+    ∷ record { name = text "spares="; good = isSize }
+    ∷ record { name = text "frames="; good = isSize }
+    ∷ record { name = text "level="; good = isNumber }
+    ∷ record { name = text "frame="; good = isNumber }
+    ∷ record { name = text "at="; good = isNumber }
+    ∷ record { name = text "bytes="; good = isBytes }
+    ∷ record { name = text "save="; good = isFlag } ∷ []
+
+abbrev pub noKey : Key
+noKey = record { name = []; good = isNumber }
+
+unfoldable pub key : ℕ → Key
+key k = getD keys k noKey
+
+-- the first key of a group
+abbrev pub groupKey : ℕ
+groupKey = 3
+
+-- the lines of a group
+abbrev pub groupLines : ℕ
+groupLines = 5
+
+-- a line that starts with a key, and the value between the key and the byte 10
+unfoldable pub named : ℕ → Line → Bool
+named k l = startsWith (key k .name) l
+
+unfoldable pub valueOf : ℕ → Line → List ℕ
+valueOf k l = take (length l - 1 - length (key k .name)) (drop (length (key k .name)) l)
+
+-- a good line: the key, a good value, byte 10
+unfoldable pub goodLine : ℕ → Line → Bool
+goodLine k l = named k l && eqb (getD l (length l - 1) 0) lineEnd && key k .good (valueOf k l)
+
+-- ---- the first bad line
+
+-- the key that is looked for in a line where key k is next: the line of spares may be left out
+abbrev pub keyFor : ℕ → Line → ℕ
+keyFor k l = cond (eqb k 1 && not (named 1 l)) 2 k
+
+-- the key that comes after key k
+abbrev pub following : ℕ → ℕ
+following k = cond (eqb k 7) groupKey (suc k)
+
+-- the number of the first bad or missing line where n lines are read and key k is next, or 0 if there is none;
+-- a sheet may end where a group may start
+unfoldable pub firstBad : ℕ → ℕ → List Line → ℕ
+firstBad k n [] = cond (eqb k groupKey) 0 (suc n)
+firstBad k n (l ∷ ls) = cond (goodLine (keyFor k l) l) (firstBad (following (keyFor k l)) (suc n) ls) (suc n)
+
+-- ---- what a good sheet says
+
+-- a group: a write, and whether a checkpoint follows (document 01: level, frame, at, bytes, save)
+pub record Group : Type 0 where
+  pub main : ℕ
+  pub block : ℕ
+  pub offset : ℕ
+  pub bytes : List ℕ
+  pub checkpoint : Bool
+
+-- line i of some lines, empty where there is none, and the number in it for key k
+abbrev pub lineAt : List Line → ℕ → Line
+lineAt ls i = getD ls i []
+
+abbrev pub numberIn : ℕ → Line → ℕ
+numberIn k l = numberOf (valueOf k l)
+
+-- the group of the first five lines
+unfoldable pub groupOf : List Line → Group
+groupOf ls = record {
+  main = numberIn 3 (lineAt ls 0);
+  block = numberIn 4 (lineAt ls 1);
+  offset = numberIn 5 (lineAt ls 2);
+  bytes = hexBytes (valueOf 6 (lineAt ls 3));
+  checkpoint = eqb (numberIn 7 (lineAt ls 4)) 1;
+}
+
+-- the first n groups, and all
+unfoldable pub firstGroups : ℕ → List Line → List Group
+firstGroups zero ls = []
+firstGroups (suc n) ls = groupOf ls ∷ firstGroups n (drop groupLines ls)
+
+unfoldable pub groupsOf : List Line → List Group
+groupsOf ls = firstGroups (length ls / groupLines) ls
+
+-- the number of backup segments where the sheet has none: as many as main segments
+unfoldable pub defaultBackups : ℕ → ℕ
+defaultBackups mains = mains
+
+-- the place of the line of blocks, which comes after the line of backups or in its place
+unfoldable pub blocksLine : List Line → ℕ
+blocksLine ls = cond (named 1 (lineAt ls 1)) 2 1
+
+-- the three sizes
+unfoldable pub sizesOf : List Line → Layout
+sizesOf ls =
+    let mains : ℕ = numberIn 0 (lineAt ls 0) in
+    layoutOf mains (cond (named 1 (lineAt ls 1)) (numberIn 1 (lineAt ls 1)) (defaultBackups mains)) (numberIn 2 (lineAt ls (blocksLine ls)))
+
+-- a sheet: bad, with the number that it prints, or good
+pub data Script : Type 0 where
+  bad : ℕ → Script
+  good : Layout → List Group → Script
+
+-- the lines, once the first bad one is known
+abbrev pub judged : ℕ → List Line → Script
+judged zero ls = good (sizesOf ls) (groupsOf (drop (suc (blocksLine ls)) ls))
+judged (suc n) ls = bad (suc n)
+
+unfoldable pub parse : List ℕ → Script
+parse input = cond (ltb mostBytes (length input)) (bad 0) (judged (firstBad 0 0 (linesOf input)) (linesOf input))
