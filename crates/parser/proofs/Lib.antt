@@ -4,3 +4,4 @@ pub mod Numbers
 pub mod Bad
 pub mod Reading
 pub mod Groups
+pub mod Corners

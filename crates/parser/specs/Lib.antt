@@ -1,3 +1,4 @@
 pub mod Text
 pub mod Script
 pub mod Read
+pub mod Corners

@@ -1,0 +1,89 @@
+-- Corner sheets with the number that they print, worked out by hand from document 01: 0 for a good sheet, else the number of the
+-- first bad or missing line. `Corners` says that the definitions give these numbers. Proved in proofs/Corners.antt.
+use Prim.Native.Nat.{ℕ}
+use Prim.Native.String.{String}
+use mathlib.Core.Path.{_≡_}
+use mathlib.Core.Bool.{Bool, true, _&&_}
+use mathlib.Core.List.{List, [], _∷_}
+use lib.Dec.{eqb}
+use Rattle.parser.specs.Text.{text, linesOf}
+use Rattle.parser.specs.Script.{firstBad}
+
+pub record Corner : Type 0 where
+  pub sheet : String
+  pub line : ℕ
+
+abbrev pub corner : String → ℕ → Corner
+corner s n = record { sheet = s; line = n }
+
+-- whether the definitions give the number of each
+unfoldable pub allGiven : List Corner → Bool
+allGiven [] = true
+allGiven (c ∷ cs) = eqb (firstBad 0 0 (linesOf (text (c .sheet)))) (c .line) && allGiven cs
+
+-- sheets of sizes alone
+abbrev pub sizeCorners : List Corner
+sizeCorners =
+    -- good: with and without spares, no group
+    corner "mains=2\nspares=1\nframes=1\n" 0
+    ∷ corner "mains=4\nframes=4\n" 0
+    -- empty, blank, broken off, without the last byte 10
+    ∷ corner "" 1
+    ∷ corner "\n" 1
+    ∷ corner "mains=2\n" 2
+    ∷ corner "mains=2\nspares=1\n" 3
+    ∷ corner "mains=2\nspares=1\nframes=1" 3
+    ∷ corner "mains=2\nframes=1" 2
+    -- keys unknown, repeated, out of order, with spaces or a carriage return
+    ∷ corner "main=2\nframes=1\n" 1
+    ∷ corner "spares=1\nmains=2\nframes=1\n" 1
+    ∷ corner "mains=2\nmains=2\nframes=1\n" 2
+    ∷ corner "mains=2\nframes=1\nspares=1\n" 3
+    ∷ corner "mains=2\nspares=1\nspares=1\nframes=1\n" 3
+    ∷ corner "mains=2\n\nframes=1\n" 2
+    ∷ corner "mains= 2\nframes=1\n" 1
+    ∷ corner "mains=2\r\nframes=1\n" 1
+    -- sizes out of range, and numbers out of form
+    ∷ corner "mains=0\nframes=1\n" 1
+    ∷ corner "mains=5\nframes=1\n" 1
+    ∷ corner "mains=2\nspares=0\nframes=1\n" 2
+    ∷ corner "mains=2\nspares=5\nframes=1\n" 2
+    ∷ corner "mains=2\nframes=5\n" 2
+    ∷ corner "mains=02\nframes=1\n" 1
+    ∷ corner "mains=\nframes=1\n" 1
+    ∷ corner "mains=+2\nframes=1\n" 1 ∷ []
+
+-- sheets with groups
+abbrev pub groupCorners : List Corner
+groupCorners =
+    -- good: the sheet of document 01; no bytes, numbers that the call will refuse, two groups
+    corner "mains=2\nspares=1\nframes=1\nlevel=0\nframe=0\nat=6\nbytes=a1b2c3d4\nsave=1\n" 0
+    ∷ corner "mains=2\nframes=1\nlevel=999\nframe=10\nat=100\nbytes=\nsave=0\n" 0
+    ∷ corner "mains=2\nframes=1\nlevel=0\nframe=0\nat=0\nbytes=\nsave=0\nlevel=1\nframe=0\nat=0\nbytes=0f\nsave=1\n" 0
+    -- a group broken off, one line after another; lines are counted as they stand in the file, spares left out or not
+    ∷ corner "mains=2\nframes=1\nlevel=0\n" 4
+    ∷ corner "mains=2\nspares=1\nframes=1\nlevel=0\nframe=0\n" 6
+    ∷ corner "mains=2\nframes=1\nlevel=0\nframe=0\nat=0\n" 6
+    ∷ corner "mains=2\nframes=1\nlevel=0\nframe=0\nat=0\nbytes=00\n" 7
+    ∷ corner "mains=2\nframes=1\nlevel=0\nframe=0\nat=0\nbytes=00\nsave=1" 7
+    -- what is no group
+    ∷ corner "mains=2\nframes=1\n\n" 3
+    ∷ corner "mains=2\nframes=1\nframe=0\n" 3
+    ∷ corner "mains=2\nframes=1\nlevel=0\nlevel=0\n" 4
+    ∷ corner "mains=2\nframes=1\nlevel=0\nframe=0\nat=0\nbytes=\nsave=0\n\n" 8
+    -- four digits, a leading zero, a sign
+    ∷ corner "mains=2\nframes=1\nlevel=1000\n" 3
+    ∷ corner "mains=2\nframes=1\nlevel=0\nframe=00\n" 4
+    ∷ corner "mains=2\nframes=1\nlevel=0\nframe=0\nat=007\n" 5
+    ∷ corner "mains=2\nframes=1\nlevel=0\nframe=0\nat=-1\n" 5
+    -- an odd count, upper case, no digit
+    ∷ corner "mains=2\nframes=1\nlevel=0\nframe=0\nat=0\nbytes=0\nsave=0\n" 6
+    ∷ corner "mains=2\nframes=1\nlevel=0\nframe=0\nat=0\nbytes=0A\nsave=0\n" 6
+    ∷ corner "mains=2\nframes=1\nlevel=0\nframe=0\nat=0\nbytes=g0\nsave=0\n" 6
+    -- save is 0 or 1
+    ∷ corner "mains=2\nframes=1\nlevel=0\nframe=0\nat=0\nbytes=\nsave=2\n" 7
+    ∷ corner "mains=2\nframes=1\nlevel=0\nframe=0\nat=0\nbytes=\nsave=00\n" 7
+    ∷ corner "mains=2\nframes=1\nlevel=0\nframe=0\nat=0\nbytes=\nsave=\n" 7 ∷ []
+
+abbrev pub Corners : Type 0
+Corners = (allGiven sizeCorners ≡ true) × (allGiven groupCorners ≡ true)
