@@ -153,15 +153,8 @@ pub extern "C" fn crpm_write(
     if out.len() != RESULT_WORDS {
         return MISUSE;
     }
-    let written = write::crpm_write(
-        image,
-        session_of(session),
-        main,
-        block,
-        offset,
-        bytes,
-        trace,
-    );
+    let before = session_of(session);
+    let written = write::crpm_write(image, before, main, block, offset, bytes, trace);
     put_answer(session, out, written)
 }
 
