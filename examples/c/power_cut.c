@@ -1,0 +1,149 @@
+/*
+ * Power lost in the middle of a checkpoint.
+ *
+ * Formats an image of two main segments, one backup segment and one block in
+ * each, opens it, writes the bytes a1 b2 c3 d4 at offset 6 of main segment 0,
+ * and makes a checkpoint (document 01: the bench sheet). Then the power fails
+ * after 15, 16, 17 and 18 operations of the checkpoint; each time the image
+ * is opened again, and what the checkpoint read shows is printed.
+ *
+ * After operation 15 all but the epoch is sure to have arrived. Operation 16
+ * stores the epoch, 17 flushes its line and 18 is the fence that waits for
+ * it. So after 16 and after 17 that line may have arrived or not, and both
+ * are shown.
+ *
+ * Build and run it in the folder that holds include/, after
+ * `rt staticlib capi`:
+ *
+ *   gcc -std=c99 -Wall -Wextra -Wpedantic -Werror -Iinclude \
+ *       examples/c/power_cut.c target/staticlib/libcapi.a -o target/power_cut
+ *   target/power_cut | diff examples/c/expected.txt -
+ */
+#include "crpm.h"
+
+#include <inttypes.h>
+#include <stdio.h>
+#include <stdlib.h>
+#include <string.h>
+
+enum { MAINS = 2, BACKUPS = 1, BLOCKS = 1 };
+
+#define IMAGE_SIZE CRPM_IMAGE_SIZE(MAINS, BACKUPS, BLOCKS)
+
+/* What is written, and where in block 0 of main segment 0. */
+static const uint8_t BYTES[] = {0xa1, 0xb2, 0xc3, 0xd4};
+enum { OFFSET = 6 };
+
+static void fail(const char *what)
+{
+    fprintf(stderr, "power_cut: %s\n", what);
+    exit(EXIT_FAILURE);
+}
+
+/* Ends the program unless the call was served. */
+static void served(const char *call, uint64_t number)
+{
+    if (number != CRPM_SERVED) {
+        fprintf(stderr, "power_cut: %s was refused with %" PRIu64 "\n", call, number);
+        exit(EXIT_FAILURE);
+    }
+}
+
+/* Carries out the first n operations of a tape that holds so many. */
+static void replay(uint8_t *image, const uint64_t *tape, uint64_t operations, uint64_t n)
+{
+    uint64_t out[CRPM_OUT_WORDS];
+    size_t length = CRPM_OP_WORDS * (size_t)operations;
+    served("replay", crpm_replay(image, IMAGE_SIZE, tape, length, n, out, CRPM_OUT_WORDS));
+    if (out[0] != n)
+        fail("not all operations were carried out");
+}
+
+/* Opens an image and carries out the operations. How many they were. */
+static uint64_t reopen(uint8_t *image, uint64_t *card)
+{
+    uint64_t tape[CRPM_OPEN_TAPE(MAINS, BLOCKS)], out[CRPM_OUT_WORDS];
+    served("open", crpm_open(image, IMAGE_SIZE, MAINS, BACKUPS, BLOCKS, card, CRPM_CARD_WORDS,
+                             tape, CRPM_OPEN_TAPE(MAINS, BLOCKS), out, CRPM_OUT_WORDS));
+    replay(image, tape, out[0], out[0]);
+    return out[0];
+}
+
+/* Writes the bytes and carries out the operations. */
+static void write_bytes(uint8_t *image, uint64_t *card)
+{
+    uint64_t tape[CRPM_WRITE_TAPE(BLOCKS)], out[CRPM_OUT_WORDS];
+    served("write", crpm_write(image, IMAGE_SIZE, card, CRPM_CARD_WORDS, 0, 0, OFFSET,
+                               BYTES, sizeof BYTES,
+                               tape, CRPM_WRITE_TAPE(BLOCKS), out, CRPM_OUT_WORDS));
+    if (out[0] != 2 || tape[0] != CRPM_OP_STORE || tape[3] != CRPM_OP_STORE)
+        fail("the write is not two stores");
+    printf("write: %" PRIu64 " operations, words stored at %" PRIu64 " and %" PRIu64 "\n",
+           out[0], tape[1], tape[4]);
+    replay(image, tape, out[0], out[0]);
+}
+
+/* Prints what the checkpoint read shows of the written bytes. */
+static void show_checkpoint(const uint8_t *image)
+{
+    static const uint8_t zeros[CRPM_BLOCK_SIZE];
+    uint8_t written[CRPM_BLOCK_SIZE] = {0};
+    const uint8_t *block;
+    uint64_t out[CRPM_OUT_WORDS];
+
+    memcpy(written + OFFSET, BYTES, sizeof BYTES);
+    served("read", crpm_read_checkpoint(image, IMAGE_SIZE, MAINS, BACKUPS, BLOCKS, 0, 0,
+                                        out, CRPM_OUT_WORDS));
+    block = out[1] == 0 ? zeros : image + out[0];
+    if (memcmp(block, zeros, CRPM_BLOCK_SIZE) == 0)
+        printf("zeros\n");
+    else if (memcmp(block, written, CRPM_BLOCK_SIZE) == 0)
+        printf("%02x %02x %02x %02x\n", block[OFFSET], block[OFFSET + 1], block[OFFSET + 2],
+               block[OFFSET + 3]);
+    else
+        fail("the block is neither the old one nor the new one");
+}
+
+/* Loses power after n operations of the checkpoint, with the line of the
+   epoch arrived or not, opens again, and shows the checkpoint. */
+static void lose_power(const uint8_t *before, const uint64_t *tape, uint64_t operations,
+                       uint64_t n, int arrived)
+{
+    uint8_t image[IMAGE_SIZE];
+    uint64_t card[CRPM_CARD_WORDS];
+    memcpy(image, before, IMAGE_SIZE);
+    replay(image, tape, operations, n);
+    if (!arrived)
+        memcpy(image + CRPM_EPOCH_AT, before + CRPM_EPOCH_AT, CRPM_LINE_SIZE);
+    reopen(image, card);
+    show_checkpoint(image);
+}
+
+int main(void)
+{
+    static uint8_t image[IMAGE_SIZE];
+    uint64_t card[CRPM_CARD_WORDS], tape[CRPM_CHECKPOINT_TAPE(MAINS, BLOCKS)];
+    uint64_t out[CRPM_OUT_WORDS], n;
+
+    served("format", crpm_format(image, IMAGE_SIZE, MAINS, BACKUPS, BLOCKS));
+    printf("format: %zu bytes\n", IMAGE_SIZE);
+    printf("open: %" PRIu64 " operations\n", reopen(image, card));
+    write_bytes(image, card);
+    served("checkpoint", crpm_checkpoint(image, IMAGE_SIZE, card, CRPM_CARD_WORDS,
+                                         tape, CRPM_CHECKPOINT_TAPE(MAINS, BLOCKS),
+                                         out, CRPM_OUT_WORDS));
+    printf("checkpoint: %" PRIu64 " operations\n", out[0]);
+
+    printf("power lost after 15 operations: ");
+    lose_power(image, tape, out[0], 15, 1);
+    for (n = 16; n <= 17; n++) {
+        printf("power lost after %" PRIu64 " operations, epoch line not arrived: ", n);
+        lose_power(image, tape, out[0], n, 0);
+        printf("power lost after %" PRIu64 " operations, epoch line arrived: ", n);
+        lose_power(image, tape, out[0], n, 1);
+    }
+    printf("power lost after 18 operations: ");
+    lose_power(image, tape, out[0], 18, 1);
+
+    return fflush(stdout) == 0 && !ferror(stdout) ? EXIT_SUCCESS : EXIT_FAILURE;
+}
