@@ -12,12 +12,8 @@
  * it. So after 16 and after 17 that line may have arrived or not, and both
  * are shown.
  *
- * Build and run it in the folder that holds include/, after
- * `rt staticlib capi`:
- *
- *   gcc -std=c99 -Wall -Wextra -Wpedantic -Werror -Iinclude \
- *       examples/c/power_cut.c target/staticlib/libcapi.a -o target/power_cut
- *   target/power_cut | diff examples/c/expected.txt -
+ * `rt staticlib capi` builds the library; `bash examples/c/run` then builds
+ * and runs this and compares what it prints with expected.txt.
  */
 #include "crpm.h"
 
