@@ -1,0 +1,1 @@
+// Text and decimal numbers put into a lent buffer, each behind what stands there already.
