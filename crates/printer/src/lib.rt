@@ -16,10 +16,11 @@ pub fn put_text(out: &mut [u8], from: usize, text: &[u8]) -> usize
     from + i
 }
 
-// Puts a number in decimal, and answers the place behind it.
+// Puts a number in decimal, and answers the place behind it, twenty bytes on at most.
 pub fn put_decimal(out: &mut [u8], from: usize, n: u64) -> usize
     requires { ⌜ from + 20 ≤ length (now out) ⌝ }
     ensures { λ r. ⌜ Appended (now (out .entry)) from (decimal n) (now (out .exit)) r ⌝ }
+    ensures { λ r. ⌜ r ≤ from + 20 ⌝ }
 {
     let mut digits = [0u8; 20];
     let count = io::decimal(n, &mut digits);

@@ -1,7 +1,7 @@
 use mathlib.Core.Path.{_∙_}
 use native.Mathlib.Omega.{arith}
 use borrow.Author.Needs.{needs}
-use Rattle.printer.proofs.Laws.{fewest-most, digits-decimal, appended-as}
+use Rattle.printer.proofs.Laws.{fewest-most, digits-decimal, length-decimal, appended-as}
 use Rattle.printer.proofs.put_decimal.Statement.{statement}
 use Rattle.printer.proofs.put_decimal.Tie as tie
 
@@ -28,7 +28,9 @@ returns c =
     let p = c .before .before in
     let d = p .before .before .before .decimal in
     let s = p .before .before .before .before .before .before in
-    appended-as (d .ensures .1 .1 ∙ digits-decimal (s .args .n) (d .result) (d .ensures .1 .0) (s .fits .n .fits)) (p .put-text .ensures)
+    let e = d .ensures .1 .1 ∙ digits-decimal (s .args .n) (d .result) (d .ensures .1 .0) (s .fits .n .fits) in
+    let g = appended-as e (p .put-text .ensures) in
+    (g, omega (arith, g .place, length-decimal (s .args .n)))
 
 pub put-decimal-spec : {M : Type 1} → statement M
 put-decimal-spec =

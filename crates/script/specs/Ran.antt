@@ -1,0 +1,38 @@
+-- What the parts of a sheet's run leave, wherever a history stands with the image I and the session s. The buffer `out` held a
+-- text up to the place p before; I′ and `out′` are image and buffer afterwards. Assumes nothing.
+use Prim.Native.Nat.{ℕ}
+use Prim.Native.String.{String}
+use mathlib.Core.Path.{_≡_}
+use mathlib.Core.Bool.{Bool}
+use mathlib.Core.List.{List}
+use Rattle.model.specs.declared.Session.{Session}
+use Rattle.model.specs.Words.{Image}
+use Rattle.model.specs.History.{State, Call, outcome, step, Permitted}
+use Rattle.parser.specs.Script.{Group}
+use Rattle.printer.specs.Decimal.{Appended}
+use Rattle.script.specs.declared.Ran.{Ran}
+use Rattle.script.specs.Prints.{answerText, writeOf, checkpointed, checkpointText, afterGroup, groupText, GroupsPrint}
+
+-- a history stands there
+abbrev pub Stands : State → Image → Session → Type 0
+Stands h I s = (h .image ≡ I) × (h .session ≡ s)
+
+-- a text stands behind the one before
+abbrev pub Printed : List ℕ → ℕ → List ℕ → List ℕ → Ran → Type 0
+Printed out p t out′ r = Appended out p t out′ (r .place)
+
+-- a call, made and replayed, and its answer
+abbrev pub Called : Image → Session → Call → String → List ℕ → ℕ → Image → List ℕ → Ran → Type 0
+Called I s c key out p I′ out′ r =
+    (h : State) → Stands h I s → Permitted h c × Printed out p (answerText key (outcome h c)) out′ r × Stands (step h c) I′ (r .session)
+
+-- a checkpoint, if it is wanted, and its text
+abbrev pub Saved : Image → Session → Bool → List ℕ → ℕ → Image → List ℕ → Ran → Type 0
+Saved I s wanted out p I′ out′ r =
+    (h : State) → Stands h I s → Printed out p (checkpointText h wanted) out′ r × Stands (checkpointed h wanted) I′ (r .session)
+
+-- group n, for some permitted backup segment
+abbrev pub GroupRan : Image → Session → ℕ → Group → List ℕ → ℕ → Image → List ℕ → Ran → Type 0
+GroupRan I s n g out p I′ out′ r =
+    (j : ℕ) × ((h : State) → Stands h I s
+    → Permitted h (writeOf g j) × Printed out p (groupText h n g j) out′ r × Stands (afterGroup h g j) I′ (r .session))
