@@ -2,6 +2,7 @@
 use Prim.Native.Nat.{ℕ}
 use Prim.Native.String.{String}
 use mathlib.Core.Path.{_≡_, sym, ap, ap₂, _∙_}
+use mathlib.Core.Bool.{Bool, true, false}
 use mathlib.Core.List.{List, _++_}
 use lib.ListN.{length}
 use Rattle.model.specs.declared.Session.{Session}
@@ -15,8 +16,8 @@ use Rattle.parser.specs.Text.{text}
 use Rattle.printer.specs.Decimal.{decimal, Appended}
 use Rattle.printer.proofs.Laws.{appended-as}
 use Rattle.script.specs.declared.Ran.{Ran}
-use Rattle.script.specs.Prints.{answerText}
-use Rattle.script.specs.Ran.{Called}
+use Rattle.script.specs.Prints.{answerText, checkpointCall, checkpointed, checkpointText}
+use Rattle.script.specs.Ran.{Called, Saved}
 use Rattle.script.proofs.TraceLength.{Alike, step-same}
 
 -- the text that is put
@@ -35,6 +36,20 @@ called key c d I s r t I′ k out out′ p code ran a stepped ek ec es f h stand
     let q = stepped h (stands .0) (stands .1) in
     let o = a .outcomes h in
     let e = step-same h c d o (a .arguments) in
-    let n = ap (λ (x : Outcome). length (x .ops)) o in
-    (a .permitted h (q .0), appended-as (answer-text key k code (r .ops) (outcome h d) ek (ec ∙ q .1 .0 ∙ ap (λ (x : Outcome). x .status) o) (q .1 .2 ∙ n)) f,
-      (sym (q .2 ∙ ap (λ (x : State). x .image) e), sym (es ∙ q .3 ∙ ap (λ (x : State). x .session) e)))
+    let n = ap (λ (x : Outcome). length (x .ops)) o in (
+      a .permitted h (q .0),
+      appended-as (answer-text key k code (r .ops) (outcome h d) ek (ec ∙ q .1 .0 ∙ ap (λ (x : Outcome). x .status) o) (q .1 .2 ∙ n)) f,
+      (sym (q .2 ∙ ap (λ (x : State). x .image) e), sym (es ∙ q .3 ∙ ap (λ (x : State). x .session) e)),
+    )
+
+-- ---- a checkpoint, if it is wanted
+
+module _ (I : Image) (s : Session) (wanted : Bool) (out : List ℕ) (p : ℕ) (I′ : Image) (out′ : List ℕ) (ran : Ran) where
+  pub saved-made : wanted ≡ true → Called I s checkpointCall "save=" out p I′ out′ ran → Saved I s wanted out p I′ out′ ran
+  unfolding checkpointText checkpointed
+  saved-made e q = rw e (λ h stands. let x = q h stands in (x .1, x .2))
+
+  pub saved-none : wanted ≡ false → I′ ≡ I → ran .session ≡ s → Appended out p (text "save=- orders=0") out′ (ran .place)
+      → Saved I s wanted out p I′ out′ ran
+  unfolding checkpointText checkpointed
+  saved-none e ei es f = rw e (λ h stands. (f, (stands .0 ∙ sym ei, stands .1 ∙ sym es)))

@@ -1,3 +1,4 @@
 pub mod Texts
 pub mod TraceLength
 pub mod Called
+pub mod GroupLaws

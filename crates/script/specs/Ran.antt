@@ -4,10 +4,11 @@ use Prim.Native.Nat.{ℕ}
 use Prim.Native.String.{String}
 use mathlib.Core.Path.{_≡_}
 use mathlib.Core.Bool.{Bool}
-use mathlib.Core.List.{List}
+use mathlib.Core.List.{List, _++_}
 use Rattle.model.specs.declared.Session.{Session}
 use Rattle.model.specs.Words.{Image}
 use Rattle.model.specs.History.{State, Call, outcome, step, Permitted}
+use Rattle.parser.specs.Text.{text}
 use Rattle.parser.specs.Script.{Group}
 use Rattle.printer.specs.Decimal.{Appended}
 use Rattle.script.specs.declared.Ran.{Ran}
@@ -31,7 +32,19 @@ abbrev pub Saved : Image → Session → Bool → List ℕ → ℕ → Image →
 Saved I s wanted out p I′ out′ r =
     (h : State) → Stands h I s → Printed out p (checkpointText h wanted) out′ r × Stands (checkpointed h wanted) I′ (r .session)
 
--- group n, for some permitted backup segment
+-- a group of these parts
+abbrev pub groupOfParts : ℕ → ℕ → ℕ → List ℕ → Bool → Group
+groupOfParts main block offset bytes wanted = record { main = main; block = block; offset = offset; bytes = bytes; checkpoint = wanted }
+
+-- its write and its checkpoint, for some permitted backup segment
+abbrev pub CallsRan : Image → Session → Group → List ℕ → ℕ → Image → List ℕ → Ran → Type 0
+CallsRan I s g out p I′ out′ r =
+    (j : ℕ) × ((h : State) → Stands h I s
+    → Permitted h (writeOf g j)
+    × Printed out p (answerText "write=" (outcome h (writeOf g j)) ++ text " " ++ checkpointText (step h (writeOf g j)) (g .checkpoint)) out′ r
+    × Stands (afterGroup h g j) I′ (r .session))
+
+-- group n with its line, for some permitted backup segment
 abbrev pub GroupRan : Image → Session → ℕ → Group → List ℕ → ℕ → Image → List ℕ → Ran → Type 0
 GroupRan I s n g out p I′ out′ r =
     (j : ℕ) × ((h : State) → Stands h I s

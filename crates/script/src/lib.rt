@@ -1,4 +1,5 @@
 // The bench sheet (document 01: "The bench sheet"): it lays out, opens, runs the groups and prints.
+use model::Layout;
 use model::Session;
 ghost use Prim.Native.Nat.{ℕ, _+_, _≤_};
 ghost use mathlib.Core.Path.{_≡_};
@@ -9,7 +10,7 @@ ghost use Rattle.write.specs.Steps.{writeArgsOf};
 ghost use Rattle.printer.specs.Decimal.{decimal, Appended};
 ghost use Rattle.parser.specs.Text.{text};
 ghost use Rattle.script.specs.Prints.{room, blank};
-ghost use Rattle.script.specs.Ran.{Called};
+ghost use Rattle.script.specs.Ran.{Called, Saved, groupOfParts, CallsRan, GroupRan};
 
 // What a part of a sheet's run leaves: the session, and the place behind the printed text.
 pub struct Ran {
@@ -17,7 +18,18 @@ pub struct Ran {
     pub place: usize,
 }
 
-// ---- a call's answer
+// ---- texts
+
+// Puts a number between two texts.
+fn put_number(out: &mut [u8], from: usize, key: &[u8], n: u64, tail: &[u8]) -> usize
+    requires { ⌜ from + length (now key) + 20 + length (now tail) ≤ length (now out) ⌝ }
+    ensures { λ r. ⌜ Appended (now (out .entry)) from (now (key .entry) ++ decimal n ++ now (tail .entry)) (now (out .exit)) r ⌝ }
+    ensures { λ r. ⌜ r ≤ from + length (now (key .entry)) + 20 + length (now (tail .entry)) ⌝ }
+{
+    let number = printer::put_text(out, from, key);
+    let end = printer::put_decimal(out, number, n);
+    printer::put_text(out, end, tail)
+}
 
 // Puts a key, an answer number and a number of operations (document 01: orders).
 fn put_answer(out: &mut [u8], from: usize, key: &[u8], code: u64, ops: u64) -> usize
@@ -53,6 +65,98 @@ fn run_write(
     let status = written.status;
     let next = written.session;
     let place = put_answer(out, from, b"write=", status.code(), written.ops);
+    Ran {
+        session: next,
+        place: place,
+    }
+}
+
+// A checkpoint, if it is wanted (document 01: save), made and replayed, and its answer.
+fn run_checkpoint(
+    image: &mut [u8],
+    session: Session,
+    wanted: bool,
+    trace: &mut [u64],
+    out: &mut [u8],
+    from: usize,
+) -> Ran
+    requires { ⌜ (length (now trace) ≡ room) × (from + 53 ≤ length (now out)) ⌝ }
+    ensures { λ r. ⌜ Saved (now (image .entry)) session wanted (now (out .entry)) from (now (image .exit)) (now (out .exit)) r ⌝ }
+    ensures { λ r. ⌜ r .place ≤ from + 53 ⌝ }
+{
+    if !wanted {
+        let end = printer::put_text(out, from, b"save=- orders=0");
+        return Ran {
+            session: session,
+            place: end,
+        };
+    }
+    let saved = driver::step_checkpoint(image, session, trace);
+    let status = saved.status;
+    let next = saved.session;
+    let place = put_answer(out, from, b"save=", status.code(), saved.ops);
+    Ran {
+        session: next,
+        place: place,
+    }
+}
+
+// The write of a group and its checkpoint, if one is wanted.
+fn run_calls(
+    image: &mut [u8],
+    session: Session,
+    main: u64,
+    block: u64,
+    offset: u64,
+    bytes: &[u8],
+    wanted: bool,
+    trace: &mut [u64],
+    out: &mut [u8],
+    from: usize,
+) -> Ran
+    requires { ⌜ (length (now trace) ≡ room) × (from + 108 ≤ length (now out)) ⌝ }
+    ensures { λ r. ⌜ CallsRan (now (image .entry)) session (groupOfParts main block offset (now (bytes .entry)) wanted) (now (out .entry)) from (now (image .exit)) (now (out .exit)) r ⌝ }
+    ensures { λ r. ⌜ r .place ≤ from + 108 ⌝ }
+{
+    let written = run_write(image, session, main, block, offset, bytes, trace, out, from);
+    let save = printer::put_text(out, written.place, b" ");
+    run_checkpoint(image, written.session, wanted, trace, out, save)
+}
+
+// Group n: its calls and its line.
+fn run_group(
+    image: &mut [u8],
+    session: Session,
+    main: u64,
+    block: u64,
+    offset: u64,
+    bytes: &[u8],
+    wanted: bool,
+    trace: &mut [u64],
+    n: u64,
+    out: &mut [u8],
+    from: usize,
+) -> Ran
+    requires { ⌜ (length (now trace) ≡ room) × (8 ≤ length (now image)) × (from + 162 ≤ length (now out)) ⌝ }
+    ensures { λ r. ⌜ GroupRan (now (image .entry)) session n (groupOfParts main block offset (now (bytes .entry)) wanted) (now (out .entry)) from (now (image .exit)) (now (out .exit)) r ⌝ }
+    ensures { λ r. ⌜ r .place ≤ from + 162 ⌝ }
+{
+    let start = put_number(out, from, b"step=", n, b" ");
+    let ran = run_calls(
+        image,
+        session,
+        main,
+        block,
+        offset,
+        bytes,
+        wanted,
+        trace,
+        out,
+        start,
+    );
+    let epoch = words::word_at(image, Layout::EPOCH_AT as usize);
+    let place = put_number(out, ran.place, b" epoch=", epoch, b"\n");
+    let next = ran.session;
     Ran {
         session: next,
         place: place,

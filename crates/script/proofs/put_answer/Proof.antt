@@ -3,36 +3,25 @@ use Rattle.printer.proofs.Laws.{appended-then, appended-as}
 use Rattle.script.proofs.Texts.{orders-text}
 use Rattle.script.proofs.put_answer.Statement.{statement}
 use Rattle.script.proofs.put_answer.Tie as tie
-use Rattle.script.proofs.put_answer.Reads as reads
-use Rattle.script.proofs.put_answer.Lts as lts
-use Rattle.printer.proofs.put_decimal.Reads as put-decimal-reads
-use Rattle.printer.proofs.put_text.Reads as put-text-reads
 
--- src/lib.rt:23:9
 put-text-requires : tie.Need-put-text-requires
 put-text-requires c κs = search needs
 
--- src/lib.rt:24:9
 put-decimal-requires : tie.Need-put-decimal-requires
 put-decimal-requires c κs = search needs
 
--- src/lib.rt:25:46
 slice-aggregate-put-text : tie.Need-slice-aggregate-put-text
 slice-aggregate-put-text c = search needs
 
--- src/lib.rt:25:9
 put-text-requires-2 : tie.Need-put-text-requires-2
 put-text-requires-2 c κs = search needs
 
--- src/lib.rt:26:5
 put-decimal-requires-2 : tie.Need-put-decimal-requires-2
 put-decimal-requires-2 c κs = search needs
 
--- src/lib.rt:19:1
 same-length : tie.Need-same-length
 same-length c = search needs
 
--- src/lib.rt:19:1
 returns : tie.Need-returns
 returns c =
     let d = c .before .before in

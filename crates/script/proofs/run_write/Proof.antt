@@ -9,41 +9,28 @@ use Rattle.script.proofs.TraceLength.{write-alike}
 use Rattle.script.proofs.Called.{called}
 use Rattle.script.proofs.run_write.Statement.{statement}
 use Rattle.script.proofs.run_write.Tie as tie
-use Rattle.script.proofs.run_write.Reads as reads
-use Rattle.script.proofs.run_write.Lts as lts
-use Rattle.driver.proofs.step_write.Reads as step-write-reads
-use Rattle.model.proofs.Status.code.Reads as code-reads
-use Rattle.script.proofs.put_answer.Reads as put-answer-reads
 
--- src/lib.rt:52:9
 step-write-requires : tie.Need-step-write-requires
 step-write-requires c κs = search needs
 
--- src/lib.rt:55:39
 slice-aggregate-put-answer : tie.Need-slice-aggregate-put-answer
 slice-aggregate-put-answer c = search needs
 
--- src/lib.rt:55:50
 code-requires : tie.Need-code-requires
 code-requires c κs = search needs
 
--- src/lib.rt:55:9
 put-answer-requires : tie.Need-put-answer-requires
 put-answer-requires c κs = search needs
 
--- src/lib.rt:37:1
 same-length : tie.Need-same-length
 same-length c = search needs
 
--- src/lib.rt:37:1
 same-length-2 : tie.Need-same-length-2
 same-length-2 c = search needs
 
--- src/lib.rt:37:1
 same-length-3 : tie.Need-same-length-3
 same-length-3 c = search needs
 
--- src/lib.rt:37:1
 returns : tie.Need-returns
 returns c =
     let p = c .before .before in
@@ -51,9 +38,14 @@ returns c =
     let s = w .before .before .before .before .before .before .before in
     let a = s .args in
     let j = w .step-write .ensures .0 in
-    let x = writeArgsOf (a .main) (a .block) (a .offset) (a .bytes .now) in
-    ((j, called "write=" (callWrite x (a .trace .now) j) (callWrite x blank j) _ _ (w .step-write .result) _ _ _ _ _ _ (p .before .code .result) _
-      (write-alike (a .trace .now) (s .pre .0) x j) (w .step-write .ensures .1) write-text (p .before .code .ensures) refl (p .put-answer .ensures .0)), omega arith)
+    let x = writeArgsOf (a .main) (a .block) (a .offset) (a .bytes .now) in (
+      (
+        j,
+        called "write=" (callWrite x (a .trace .now) j) (callWrite x blank j) _ _ (w .step-write .result) _ _ _ _ _ _ (p .before .code .result) _
+            (write-alike (a .trace .now) (s .pre .0) x j) (w .step-write .ensures .1) write-text (p .before .code .ensures) refl (p .put-answer .ensures .0),
+      ),
+      omega arith,
+    )
 
 pub run-write-spec : {M : Type 1} → statement M
 run-write-spec =
