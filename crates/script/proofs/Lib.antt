@@ -2,3 +2,4 @@ pub mod Texts
 pub mod TraceLength
 pub mod Called
 pub mod GroupLaws
+pub mod OpenLaws

@@ -5,14 +5,16 @@ use Prim.Native.String.{String}
 use mathlib.Core.Path.{_≡_}
 use mathlib.Core.Bool.{Bool}
 use mathlib.Core.List.{List, _++_}
+use Rattle.model.specs.declared.Layout.{Layout}
 use Rattle.model.specs.declared.Session.{Session}
 use Rattle.model.specs.Words.{Image}
-use Rattle.model.specs.History.{State, Call, outcome, step, Permitted}
+use Rattle.model.specs.Format.{formatted}
+use Rattle.model.specs.History.{State, Call, outcome, step, start, Permitted}
 use Rattle.parser.specs.Text.{text}
 use Rattle.parser.specs.Script.{Group}
 use Rattle.printer.specs.Decimal.{Appended}
 use Rattle.script.specs.declared.Ran.{Ran}
-use Rattle.script.specs.Prints.{answerText, writeOf, checkpointed, checkpointText, afterGroup, groupText, GroupsPrint}
+use Rattle.script.specs.Prints.{blank, answerText, writeOf, checkpointed, checkpointText, afterGroup, groupText, openText}
 
 -- a history stands there
 abbrev pub Stands : State → Image → Session → Type 0
@@ -21,6 +23,10 @@ Stands h I s = (h .image ≡ I) × (h .session ≡ s)
 -- a text stands behind the one before
 abbrev pub Printed : List ℕ → ℕ → List ℕ → List ℕ → Ran → Type 0
 Printed out p t out′ r = Appended out p t out′ (r .place)
+
+-- the opening of a formatted image, and its line
+abbrev pub Opened : Layout → List ℕ → ℕ → Image → List ℕ → Ran → Type 0
+Opened l out p I′ out′ r = Printed out p (openText l) out′ r × Stands (start l (formatted l) blank) I′ (r .session)
 
 -- a call, made and replayed, and its answer
 abbrev pub Called : Image → Session → Call → String → List ℕ → ℕ → Image → List ℕ → Ran → Type 0

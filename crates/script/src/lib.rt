@@ -5,12 +5,14 @@ ghost use Prim.Native.Nat.{ℕ, _+_, _≤_};
 ghost use mathlib.Core.Path.{_≡_};
 ghost use mathlib.Core.List.{_++_};
 ghost use lib.ListN.{length};
+ghost use mathlib.Core.Bool.{true};
+ghost use Rattle.model.specs.Layout.{sizesOk, imageSize};
 ghost use Rattle.model.specs.History.{callWrite};
 ghost use Rattle.write.specs.Steps.{writeArgsOf};
 ghost use Rattle.printer.specs.Decimal.{decimal, Appended};
 ghost use Rattle.parser.specs.Text.{text};
 ghost use Rattle.script.specs.Prints.{room, blank};
-ghost use Rattle.script.specs.Ran.{Called, Saved, groupOfParts, CallsRan, GroupRan};
+ghost use Rattle.script.specs.Ran.{Opened, Called, Saved, groupOfParts, CallsRan, GroupRan};
 
 // What a part of a sheet's run leaves: the session, and the place behind the printed text.
 pub struct Ran {
@@ -41,6 +43,26 @@ fn put_answer(out: &mut [u8], from: usize, key: &[u8], code: u64, ops: u64) -> u
     let word = printer::put_decimal(out, status, code);
     let count = printer::put_text(out, word, b" orders=");
     printer::put_decimal(out, count, ops)
+}
+
+// ---- the opening
+
+// Formats an image (document 01: lays out), opens it, replays the opening, and puts its line.
+fn run_open(image: &mut [u8], layout: Layout, trace: &mut [u64], out: &mut [u8]) -> Ran
+    requires { ⌜ (length (now trace) ≡ room) × (length (now image) ≡ imageSize layout) × (sizesOk layout ≡ true) × (54 ≤ length (now out)) ⌝ }
+    ensures { λ r. ⌜ Opened layout (now (out .entry)) 0 (now (image .exit)) (now (out .exit)) r ⌝ }
+    ensures { λ r. ⌜ r .place ≤ 54 ⌝ }
+{
+    format::crpm_format(image, layout.mains, layout.backups, layout.blocks);
+    let opened = driver::step_open(image, layout.mains, layout.backups, layout.blocks, trace);
+    let status = opened.status;
+    let next = opened.session;
+    let end = put_answer(out, 0, b"open=", status.code(), opened.ops);
+    let place = printer::put_text(out, end, b"\n");
+    Ran {
+        session: next,
+        place: place,
+    }
 }
 
 // ---- a group
