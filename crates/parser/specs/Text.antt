@@ -1,5 +1,5 @@
 -- Texts and lines of bytes. Assumes nothing.
-use Prim.Native.Nat.{ℕ, _+_, _-_, _*_}
+use Prim.Native.Nat.{ℕ, suc, _+_, _-_, _*_}
 use Prim.Native.Char.{code}
 use Prim.Native.String.{String, len, charAt}
 use mathlib.Core.Bool.{Bool, true, false, not, cond, _&&_}
@@ -35,6 +35,11 @@ before b (l ∷ ls) = (b ∷ l) ∷ ls
 unfoldable pub linesOf : List ℕ → List Line
 linesOf [] = []
 linesOf (b ∷ bs) = cond (eqb b lineEnd) ((b ∷ []) ∷ linesOf bs) (before b (linesOf bs))
+
+-- the bytes of the first of them, 0 where there is none
+unfoldable pub lineLength : List ℕ → ℕ
+lineLength [] = 0
+lineLength (b ∷ bs) = cond (eqb b lineEnd) 1 (suc (lineLength bs))
 
 -- ---- values
 

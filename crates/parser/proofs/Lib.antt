@@ -1,0 +1,6 @@
+pub mod Lines
+pub mod Keys
+pub mod Numbers
+pub mod Bad
+pub mod Reading
+pub mod Groups

@@ -1,0 +1,41 @@
+-- What the code says of an input that it reads: where a value stands, the sizes, one group, the bytes of a value.
+-- Assumes nothing.
+use Prim.Native.Nat.{ℕ, suc, _+_, _-_, _≤_, min}
+use mathlib.Core.Path.{_≡_}
+use mathlib.Core.List.{List}
+use lib.ListN.{length, take, drop}
+use Rattle.parser.specs.Text.{linesOf, hexBytes}
+use Rattle.parser.specs.Script.{key, valueOf, groupLines, lineAt, groupOf, blocksLine, sizesOf}
+use Rattle.parser.specs.declared.Span.{Span}
+use Rattle.parser.specs.declared.HeaderAt.{HeaderAt}
+use Rattle.parser.specs.declared.GroupAt.{GroupAt}
+
+-- where the value for key k stands in a line: behind the key, and before the last byte
+pub record ReadsValue (k «at» end : ℕ) (r : Span) : Type 0 where
+  pub start : r .start ≡ min («at» + length (key k .name)) end
+  pub size : r .end ≡ r .start + (end - «at» - 1 - length (key k .name))
+
+-- the sizes, and where the lines of the groups start
+pub record ReadsHeader (input : List ℕ) (r : HeaderAt) : Type 0 where
+  pub layout : r .layout ≡ sizesOf (linesOf input)
+  pub inside : r .next ≤ length input
+  pub rest : linesOf (drop (r .next) input) ≡ drop (suc (blocksLine (linesOf input))) (linesOf input)
+
+-- the group of the first five lines from a place on, its digits as a part of the input, and where the lines after it start
+pub record ReadsGroup (input : List ℕ) («at» : ℕ) (r : GroupAt) : Type 0 where
+  pub main : r .main ≡ groupOf (linesOf (drop «at» input)) .main
+  pub block : r .block ≡ groupOf (linesOf (drop «at» input)) .block
+  pub offset : r .offset ≡ groupOf (linesOf (drop «at» input)) .offset
+  pub checkpoint : r .checkpoint ≡ groupOf (linesOf (drop «at» input)) .checkpoint
+  pub digits : take (r .«digits_end» - r .digits) (drop (r .digits) input) ≡ valueOf 6 (lineAt (linesOf (drop «at» input)) 3)
+  pub ordered : (r .digits ≤ r .«digits_end») × (r .«digits_end» ≤ r .next)
+  pub inside : r .next ≤ length input
+  pub rest : linesOf (drop (r .next) input) ≡ drop groupLines (linesOf (drop «at» input))
+
+-- the bytes of a value put at the start of a list that is long enough, of which nothing else changes
+pub record Decodes (digits before after : List ℕ) (r : ℕ) : Type 0 where
+  pub count : r ≡ length (hexBytes digits)
+  pub inside : r ≤ length before
+  pub bytes : take r after ≡ hexBytes digits
+  pub rest : drop r after ≡ drop r before
+  pub long : length after ≡ length before
