@@ -3,3 +3,4 @@ pub mod TraceLength
 pub mod Called
 pub mod GroupLaws
 pub mod OpenLaws
+pub mod NextLaws

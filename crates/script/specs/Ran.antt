@@ -1,20 +1,22 @@
 -- What the parts of a sheet's run leave, wherever a history stands with the image I and the session s. The buffer `out` held a
 -- text up to the place p before; I′ and `out′` are image and buffer afterwards. Assumes nothing.
-use Prim.Native.Nat.{ℕ}
+use Prim.Native.Nat.{ℕ, _+_, _≤_}
 use Prim.Native.String.{String}
 use mathlib.Core.Path.{_≡_}
 use mathlib.Core.Bool.{Bool}
-use mathlib.Core.List.{List, _++_}
+use mathlib.Core.List.{List, _∷_, _++_}
+use lib.ListN.{length, drop}
 use Rattle.model.specs.declared.Layout.{Layout}
 use Rattle.model.specs.declared.Session.{Session}
 use Rattle.model.specs.Words.{Image}
 use Rattle.model.specs.Format.{formatted}
 use Rattle.model.specs.History.{State, Call, outcome, step, start, Permitted}
-use Rattle.parser.specs.Text.{text}
-use Rattle.parser.specs.Script.{Group}
+use Rattle.parser.specs.Text.{text, linesOf}
+use Rattle.parser.specs.Script.{Script, Group, groupKey, firstBad, groupOf, groupsOf}
 use Rattle.printer.specs.Decimal.{Appended}
 use Rattle.script.specs.declared.Ran.{Ran}
-use Rattle.script.specs.Prints.{blank, answerText, writeOf, checkpointed, checkpointText, afterGroup, groupText, openText}
+use Rattle.script.specs.declared.Next.{Next}
+use Rattle.script.specs.Prints.{blank, answerText, writeOf, checkpointed, checkpointText, afterGroup, groupText, GroupsPrint, openText, Prints}
 
 -- a history stands there
 abbrev pub Stands : State → Image → Session → Type 0
@@ -55,3 +57,32 @@ abbrev pub GroupRan : Image → Session → ℕ → Group → List ℕ → ℕ �
 GroupRan I s n g out p I′ out′ r =
     (j : ℕ) × ((h : State) → Stands h I s
     → Permitted h (writeOf g j) × Printed out p (groupText h n g j) out′ r × Stands (afterGroup h g j) I′ (r .session))
+
+-- ---- the groups of an input from a place on
+
+-- a group may start at the place p of the input, and no line from there on is bad
+abbrev pub GoodFrom : List ℕ → ℕ → Type 0
+GoodFrom input p = (p ≤ length input) × ((n : ℕ) × (firstBad groupKey n (linesOf (drop p input)) ≡ 0))
+
+abbrev pub groupsFrom : List ℕ → ℕ → List Group
+groupsFrom input p = groupsOf (linesOf (drop p input))
+
+-- the first of them is run, and where the others start: 31 bytes on at least (five keys, and a byte 10 behind each)
+pub record NextRan (input : List ℕ) (p : ℕ) (I : Image) (s : Session) (n : ℕ) (out : List ℕ) (q : ℕ) (I′ : Image) (out′ : List ℕ) (r : Next)
+    : Type 0 where
+  pub group : Group
+  pub groups : groupsFrom input p ≡ group ∷ groupsFrom input (r .next)
+  pub good : GoodFrom input (r .next)
+  pub far : p + 31 ≤ r .next
+  pub ran : GroupRan I s n group out q I′ out′ (r .ran)
+  pub short : r .ran .place ≤ q + 162
+
+-- all are
+abbrev pub GroupsRan : Image → Session → List Group → List ℕ → ℕ → List ℕ → ℕ → Type 0
+GroupsRan I s gs out p out′ q = (h : State) → Stands h I s → (t : List ℕ) × GroupsPrint h 1 gs t × Appended out p t out′ q
+
+-- ---- a sheet
+
+-- what it prints stands at the start of the buffer, up to the place q
+abbrev pub ScriptRan : Script → List ℕ → List ℕ → ℕ → Type 0
+ScriptRan s out out′ q = (t : List ℕ) × Prints s t × Appended out 0 t out′ q

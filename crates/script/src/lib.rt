@@ -1,7 +1,7 @@
 // The bench sheet (document 01: "The bench sheet"): it lays out, opens, runs the groups and prints.
 use model::Layout;
 use model::Session;
-ghost use Prim.Native.Nat.{ℕ, _+_, _≤_};
+ghost use Prim.Native.Nat.{ℕ, _+_, _≤_, _<_};
 ghost use mathlib.Core.Path.{_≡_};
 ghost use mathlib.Core.List.{_++_};
 ghost use lib.ListN.{length};
@@ -12,12 +12,18 @@ ghost use Rattle.write.specs.Steps.{writeArgsOf};
 ghost use Rattle.printer.specs.Decimal.{decimal, Appended};
 ghost use Rattle.parser.specs.Text.{text};
 ghost use Rattle.script.specs.Prints.{room, blank};
-ghost use Rattle.script.specs.Ran.{Opened, Called, Saved, groupOfParts, CallsRan, GroupRan};
+ghost use Rattle.script.specs.Ran.{Opened, Called, Saved, groupOfParts, CallsRan, GroupRan, GoodFrom, groupsFrom, NextRan, GroupsRan, ScriptRan};
 
 // What a part of a sheet's run leaves: the session, and the place behind the printed text.
 pub struct Ran {
     pub session: Session,
     pub place: usize,
+}
+
+// The same of one group, and where the next one starts in the input.
+pub struct Next {
+    pub ran: Ran,
+    pub next: usize,
 }
 
 // ---- texts
@@ -182,5 +188,44 @@ fn run_group(
     Ran {
         session: next,
         place: place,
+    }
+}
+
+// The group that starts at a place of the input.
+fn run_next(
+    input: &[u8],
+    start: usize,
+    image: &mut [u8],
+    session: Session,
+    trace: &mut [u64],
+    n: u64,
+    out: &mut [u8],
+    from: usize,
+) -> Next
+    requires { ⌜ (start < length (now input)) × GoodFrom (now input) start ⌝ }
+    requires { ⌜ (length (now trace) ≡ room) × (8 ≤ length (now image)) × (from + 162 ≤ length (now out)) ⌝ }
+    ensures { λ r. ⌜ NextRan (now (input .entry)) start (now (image .entry)) session n (now (out .entry)) from (now (image .exit)) (now (out .exit)) r ⌝ }
+{
+    let group = parser::group_at(input, start);
+    let digits = group.digits;
+    let end = group.digits_end;
+    let mut bytes = [0u8; 256];
+    let count = parser::decode_bytes(&input[digits..end], &mut bytes);
+    let ran = run_group(
+        image,
+        session,
+        group.main,
+        group.block,
+        group.offset,
+        &bytes[..count],
+        group.checkpoint,
+        trace,
+        n,
+        out,
+        from,
+    );
+    Next {
+        ran: ran,
+        next: group.next,
     }
 }
