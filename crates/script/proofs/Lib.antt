@@ -4,3 +4,4 @@ pub mod Called
 pub mod GroupLaws
 pub mod OpenLaws
 pub mod NextLaws
+pub mod Story

@@ -229,3 +229,32 @@ fn run_next(
         next: group.next,
     }
 }
+
+// All groups from a place of the input on. A group takes 31 bytes of the input at least and 162 of the buffer at most.
+fn run_groups(
+    input: &[u8],
+    start: usize,
+    image: &mut [u8],
+    session: Session,
+    trace: &mut [u64],
+    out: &mut [u8],
+    from: usize,
+) -> usize
+    requires { ⌜ (length (now input) ≤ 4096) × GoodFrom (now input) start ⌝ }
+    requires { ⌜ (length (now trace) ≡ room) × (8 ≤ length (now image)) × (from ≤ 54) × (24576 ≤ length (now out)) ⌝ }
+    ensures { λ r. ⌜ GroupsRan (now (image .entry)) session (groupsFrom (now (input .entry)) start) (now (out .entry)) from (now (out .exit)) r ⌝ }
+{
+    let mut ran = Ran {
+        session: session,
+        place: from,
+    };
+    let mut at = start;
+    let mut n: u64 = 1;
+    while at < input.len() {
+        let next = run_next(input, at, image, ran.session, trace, n, out, ran.place);
+        ran = next.ran;
+        at = next.next;
+        n += 1;
+    }
+    ran.place
+}

@@ -55,7 +55,7 @@ returns c =
     let g = d .before .before .before in
     let s = g .before .before .before .before .before in
     next-ran (s .args .input .now) (s .args .start) (s .pre .0 .0) (s .pre .0 .1) (g .group-at .result) (g .group-at .ensures)
-    _ (s .args .image .now) _ _ _ _ (u .run-group .last .0) _ _ (d .decode-bytes .ensures .bytes) refl (u .run-group .ensures .0) (u .run-group .ensures .1)
+    _ (s .args .image .now) (s .args .session) _ _ _ (u .run-group .last .0) _ _ (d .decode-bytes .ensures .bytes) refl (u .run-group .ensures .0) (u .run-group .ensures .1)
 
 pub run-next-spec : {M : Type 1} → statement M
 run-next-spec =
