@@ -1,16 +1,15 @@
 -- Laws of the first bad line, a line at a time.
-use Prim.Native.Nat.{ℕ, suc, _+_, _≤_, _<_}
-use mathlib.Core.Path.{_≡_, refl, sym, ap, _∙_}
+use Prim.Native.Nat.{ℕ, _+_, _≤_}
+use mathlib.Core.Path.{_≡_}
 use mathlib.Core.Logic.{_≢_}
 use mathlib.Core.Bool.{Bool, true, false, not, cond, _&&_}
 use mathlib.Core.List.{List, [], _∷_}
 use native.Mathlib.Omega.{arith}
 use native.Mathlib.Numerals.{add-one}
 use lib.Dec.{eqb}
-use lib.ListN.{length, take, drop}
-use borrow.Author.Tests.{eq-eqb, ne-eqb, not-true, not-false}
-use Rattle.parser.specs.Text.{Line, linesOf}
-use Rattle.parser.specs.Script.{named, goodLine, keyFor, following, firstBad, lineAt}
+use borrow.Author.Tests.{ne-eqb, not-true, not-false}
+use Rattle.parser.specs.Text.{Line}
+use Rattle.parser.specs.Script.{named, goodLine, keyFor, following, firstBad}
 
 pub key-for-most : (k : ℕ) (l : Line) → k ≤ 7 → keyFor k l ≤ 7
 key-for-most k l h = go (eqb k 1) (named 1 l)

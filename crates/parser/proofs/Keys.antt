@@ -92,7 +92,8 @@ value-part k input «at» end r h i v =
         ≡ take (end - «at» - 1 - length (key k .name)) (drop (length (key k .name)) (take (end - «at») (drop «at» input)))
     go (yes p) =
         let e : r .start ≡ «at» + length (key k .name) = omega (arith, v .start) in
-        rw (e, ← drop-drop (length (key k .name)) «at» input) (sym (take-drop-take (end - «at» - 1 - length (key k .name)) (length (key k .name)) (end - «at») (drop «at» input) (omega arith)))
+        let d = take-drop-take (end - «at» - 1 - length (key k .name)) (length (key k .name)) (end - «at») (drop «at» input) (omega arith) in
+        rw (e, ← drop-drop (length (key k .name)) «at» input) (sym d)
     go (no p) = let e : end - «at» - 1 - length (key k .name) ≡ 0 = omega arith in rw e
 
 -- and from the line by itself
@@ -166,11 +167,15 @@ line-named k l v {p} h e n q g = rw (← e, not-false p n, h, ← q) g
 pub for-other : (k : ℕ) (l : Line) → k ≢ 1 → k ≡ keyFor k l
 for-other k l h = rw (ne-eqb k 1 h)
 
-pub for-named : (k : ℕ) (l : Line) {p : Bool} → k ≡ 1 → p ≡ named 1 l → p ≡ true → 1 ≡ keyFor k l
-for-named k l e q h = rw (e, ← q, h)
+pub for-unnamed : (k : ℕ) (l : Line) {p : Bool} → k ≡ 1 → p ≡ named 1 l → not p ≡ true → 2 ≡ keyFor k l
+for-unnamed k l {p} e q h = rw (e, ← q, not-true p h)
 
-pub for-unnamed : (k : ℕ) (l : Line) {p : Bool} → k ≡ 1 → p ≡ named 1 l → p ≡ false → 2 ≡ keyFor k l
-for-unnamed k l e q h = rw (e, ← q, h)
+pub for-named : (k : ℕ) (l : Line) {p : Bool} → p ≡ named 1 l → not p ≡ false → k ≡ keyFor k l
+for-named k l {p} q h = rw (← q, not-false p h) (go (eqb k 1))
+  where
+    go : (t : Bool) → k ≡ cond (t && not true) 2 k
+    go true = refl
+    go false = refl
 
 pub after-last : (k : ℕ) → k ≡ 7 → 3 ≡ following k
 after-last k e = rw e

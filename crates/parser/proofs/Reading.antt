@@ -1,13 +1,13 @@
 -- What is read of an input line by line: the sizes, and the group that starts at a place.
 use Prim.Native.Nat.{ℕ, suc, _+_, _-_, _≤_}
 use mathlib.Core.Path.{_≡_, refl, sym, ap, _∙_}
-use mathlib.Core.Bool.{Bool, true, false, not, cond}
+use mathlib.Core.Bool.{Bool, true, false, not}
 use mathlib.Core.List.{List, []}
 use native.Mathlib.Omega.{arith}
 use native.Mathlib.Nat.{add-zero}
 use native.Mathlib.Numerals.{add-one}
 use lib.Dec.{eqb}
-use lib.ListN.{length, getD, take, drop}
+use lib.ListN.{length, take, drop}
 use lib.Seq.{drop-drop, getD-drop}
 use borrow.Author.Tests.{not-true, not-false}
 use Rattle.model.specs.declared.Layout.{Layout}
@@ -15,8 +15,6 @@ use Rattle.model.specs.Layout.{layoutOf}
 use Rattle.parser.specs.Text.{Line, linesOf, lineLength, numberOf}
 use Rattle.parser.specs.Script.{named, valueOf, lineAt, numberIn, groupOf, defaultBackups, blocksLine, sizesOf}
 use Rattle.parser.specs.declared.Span.{Span}
-use Rattle.parser.specs.declared.HeaderAt.{HeaderAt}
-use Rattle.parser.specs.declared.GroupAt.{GroupAt}
 use Rattle.parser.specs.Read.{ReadsValue, ReadsHeader, ReadsGroup}
 use Rattle.parser.proofs.Lines.{next-rest, next-part}
 use Rattle.parser.proofs.Keys.{value-part, value-inside}

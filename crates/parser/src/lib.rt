@@ -53,7 +53,7 @@ pub fn next_line(input: &[u8], at: usize) -> usize
 }
 
 // Whether a line starts with a name.
-pub fn starts_with(line: &[u8], name: &[u8]) -> bool
+fn starts_with(line: &[u8], name: &[u8]) -> bool
     ensures { λ r. ⌜ r ≡ startsWith (now (name .entry)) (now (line .entry)) ⌝ }
 {
     if line.len() < name.len() {
@@ -70,7 +70,7 @@ pub fn starts_with(line: &[u8], name: &[u8]) -> bool
 }
 
 // Whether a line starts with key k.
-pub fn is_named(k: u64, line: &[u8]) -> bool
+fn is_named(k: u64, line: &[u8]) -> bool
     ensures { λ r. ⌜ r ≡ named k (now (line .entry)) ⌝ }
 {
     if k == MAINS {
@@ -101,7 +101,7 @@ pub fn is_named(k: u64, line: &[u8]) -> bool
 }
 
 // The bytes of key k, its sign among them.
-pub fn key_size(k: u64) -> usize
+fn key_size(k: u64) -> usize
     ensures { λ r. ⌜ (r ≡ length (key k .name)) × (r ≤ 7) ⌝ }
 {
     if k == MAINS {
@@ -179,7 +179,7 @@ fn three_digits(a: u8, b: u8, c: u8) -> u64
 }
 
 // The number that a value gives.
-pub fn number_of(value: &[u8]) -> u64
+fn number_of(value: &[u8]) -> u64
     ensures { λ r. ⌜ r ≡ numberOf (now (value .entry)) ⌝ }
 {
     if value.len() == 1 {
@@ -205,7 +205,7 @@ fn is_hex_digit(b: u8) -> bool
 }
 
 // Whether a value is an even count of them.
-pub fn hex_pairs(value: &[u8]) -> bool
+fn hex_pairs(value: &[u8]) -> bool
     ensures { λ r. ⌜ r ≡ hexPairs (now (value .entry)) ⌝ }
 {
     let mut i = 0;
@@ -232,7 +232,7 @@ pub struct Span {
 
 // Where the value for key k stands in the line from `at` to `end`: between the key and the last byte, empty where the line is
 // too short.
-pub fn value_at(k: u64, at: usize, end: usize) -> Span
+fn value_at(k: u64, at: usize, end: usize) -> Span
     requires { ⌜ at ≤ end ⌝ }
     ensures { λ r. ⌜ ReadsValue k at end r ⌝ }
 {
@@ -250,7 +250,7 @@ pub fn value_at(k: u64, at: usize, end: usize) -> Span
 }
 
 // The value for key k in a line.
-pub fn value_of(k: u64, line: &[u8]) -> &[u8]
+fn value_of(k: u64, line: &[u8]) -> &[u8]
     ensures { λ r. ⌜ now r ≡ valueOf k (now (line .entry)) ⌝ }
 {
     let span = value_at(k, 0, line.len());
@@ -267,7 +267,7 @@ pub fn number_value(k: u64, line: &[u8]) -> u64
 }
 
 // The number that stands for key k in the line from `at` to `end`.
-pub fn number_at(k: u64, input: &[u8], at: usize, end: usize) -> u64
+fn number_at(k: u64, input: &[u8], at: usize, end: usize) -> u64
     requires { ⌜ (at ≤ end) × (end ≤ length (now input)) ⌝ }
     ensures { λ r. ⌜ r ≡ numberOf (valueOf k (take (end - at) (drop at (now (input .entry))))) ⌝ }
 {
@@ -285,7 +285,7 @@ fn good_bytes(value: &[u8]) -> bool
 }
 
 // Whether a value may stand behind key k.
-pub fn good_value(k: u64, value: &[u8]) -> bool
+fn good_value(k: u64, value: &[u8]) -> bool
     ensures { λ r. ⌜ r ≡ key k .good (now (value .entry)) ⌝ }
 {
     if k == BYTES {
@@ -325,10 +325,10 @@ fn key_for(k: u64, line: &[u8]) -> u64
     if k != BACKUPS {
         return k;
     }
-    if is_named(BACKUPS, line) {
-        return BACKUPS;
+    if !is_named(BACKUPS, line) {
+        return BLOCKS;
     }
-    BLOCKS
+    k
 }
 
 // The key that comes after key k.

@@ -9,7 +9,8 @@ use Rattle.parser.proofs.decode_bytes.Statement.{statement}
 use Rattle.parser.proofs.decode_bytes.Tie as tie
 
 abbrev Inv-loop : tie.InvT-loop
-Inv-loop digits bytes₀ count i₀ bytes i = (i ≤ count) × (length bytes ≡ length bytes₀) × (take i bytes ≡ take i (hexBytes digits)) × (drop i bytes ≡ drop i bytes₀)
+Inv-loop digits bytes₀ count i₀ bytes i =
+    (i ≤ count) × (length bytes ≡ length bytes₀) × (take i bytes ≡ take i (hexBytes digits)) × (drop i bytes ≡ drop i bytes₀)
 
 abbrev μ-loop : tie.MeasureT-loop
 μ-loop digits bytes₀ count i₀ bytes i = count - i

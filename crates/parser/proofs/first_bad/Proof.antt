@@ -55,7 +55,9 @@ returns c =
     let d = c .before .before .before in
     let b = d .before .before in
     let l = b .before .before .loop in
-    bad-line (l .key) (l .count) (d .key-for .result) _ _ _ (next-lines _ _ _ (b .next-line .ensures .0) (omega arith)) (d .key-for .ensures) (c .before .good-line .ensures) (c .if1 .taken) ∙ sym (l .inv .3)
+    bad-line (l .key) (l .count) (d .key-for .result) _ _ _ (next-lines _ _ _ (b .next-line .ensures .0) (omega arith))
+    (d .key-for .ensures) (c .before .good-line .ensures) (c .if1 .taken)
+    ∙ sym (l .inv .3)
 
 key-after-requires : tie.Need-key-after-requires Inv-loop μ-loop
 key-after-requires c κs =
@@ -78,7 +80,8 @@ loop-again c =
       omega arith,
       omega (arith, next-after _ _ _ (b .next-line .ensures .0) (omega arith)),
       l .inv .3
-          ∙ good-line (l .key) (l .count) (d .key-for .result) _ _ _ (next-lines _ _ _ (b .next-line .ensures .0) (omega arith)) (d .key-for .ensures) (c .before .before .good-line .ensures) (c .before .if1 .left) (c .key-after .ensures .0),
+          ∙ good-line (l .key) (l .count) (d .key-for .result) _ _ _ (next-lines _ _ _ (b .next-line .ensures .0) (omega arith))
+          (d .key-for .ensures) (c .before .before .good-line .ensures) (c .before .if1 .left) (c .key-after .ensures .0),
     )
 
 returns-2 : tie.Need-returns-2 Inv-loop μ-loop

@@ -28,7 +28,10 @@ good-value-requires : tie.Need-good-value-requires
 good-value-requires c κs = search needs
 
 returns-4 : tie.Need-returns-4
-returns-4 c = let b = c .before .before in line-named _ _ _ (b .before .before .if2 .left) (b .before .is-named .ensures) (b .if3 .left) (c .before .value-of .ensures) (c .good-value .ensures)
+returns-4 c =
+    let b = c .before .before in
+    line-named _ _ _ (b .before .before .if2 .left) (b .before .is-named .ensures) (b .if3 .left) (c .before .value-of .ensures)
+    (c .good-value .ensures)
 
 pub good-line-spec : {M : Type 1} → statement M
 good-line-spec =

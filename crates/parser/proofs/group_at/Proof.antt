@@ -34,7 +34,13 @@ number-at-requires-4 : tie.Need-number-at-requires-4
 number-at-requires-4 c κs = search needs
 
 returns : tie.Need-returns
-returns c = group-read _ _ _ _ _ _ _ (c .before .before .before .before .before .before .before .before .before .next-line .ensures) (c .before .before .before .before .before .before .before .before .next-line2 .ensures) (c .before .before .before .before .before .before .before .next-line3 .ensures) (c .before .before .before .before .before .before .next-line4 .ensures) (c .before .before .before .before .before .next-line5 .ensures) (c .before .before .before .number-at .ensures) (c .before .before .number-at2 .ensures) (c .before .number-at3 .ensures) (c .before .before .before .before .value-at .ensures) (c .number-at4 .ensures)
+returns c =
+    let d = c .before .before .before in
+    let e = d .before .before .before in
+    let b = e .before .before .before in
+    group-read _ _ _ _ _ _ _ (b .next-line .ensures) (e .before .before .next-line2 .ensures) (e .before .next-line3 .ensures)
+    (e .next-line4 .ensures) (d .before .before .next-line5 .ensures) (d .number-at .ensures) (c .before .before .number-at2 .ensures)
+    (c .before .number-at3 .ensures) (d .before .value-at .ensures) (c .number-at4 .ensures)
 
 pub group-at-spec : {M : Type 1} → statement M
 group-at-spec =

@@ -34,7 +34,12 @@ new-requires : tie.Need-new-requires
 new-requires c κs = search needs
 
 returns : tie.Need-returns
-returns c = header-short _ _ _ _ (c .before .before .before .before .before .before .before .before .next-line .ensures) (c .before .before .before .before .before .before .before .next-line2 .ensures) (c .before .before .before .before .before .before .number-at .ensures) (c .before .before .before .before .is-named .ensures) (c .before .before .before .if1 .taken) (c .before .default-backups .ensures) (c .before .before .number-at2 .ensures) (c .new .ensures)
+returns c =
+    let i = c .before .before .before in
+    let b = i .before .before .before in
+    header-short _ _ _ _ (b .before .before .next-line .ensures) (b .before .next-line2 .ensures) (b .number-at .ensures)
+    (i .before .is-named .ensures) (i .if1 .taken) (c .before .default-backups .ensures) (c .before .before .number-at2 .ensures)
+    (c .new .ensures)
 
 next-line-requires-3 : tie.Need-next-line-requires-3
 next-line-requires-3 c κs = search needs
@@ -49,7 +54,12 @@ new-requires-2 : tie.Need-new-requires-2
 new-requires-2 c κs = search needs
 
 returns-2 : tie.Need-returns-2
-returns-2 c = header-long _ _ _ _ (c .before .before .before .before .before .before .before .before .before .next-line .ensures) (c .before .before .before .before .before .before .before .before .next-line2 .ensures) (c .before .before .before .before .before .before .before .number-at .ensures) (c .before .before .before .before .before .is-named .ensures) _ (c .before .before .before .before .if1 .left) (c .before .before .before .next-line3 .ensures) (c .before .before .number-at3 .ensures) (c .before .number-at4 .ensures) (c .new2 .ensures)
+returns-2 c =
+    let i = c .before .before .before .before in
+    let b = i .before .before .before in
+    header-long _ _ _ _ (b .before .before .next-line .ensures) (b .before .next-line2 .ensures) (b .number-at .ensures)
+    (i .before .is-named .ensures) _ (i .if1 .left) (c .before .before .before .next-line3 .ensures)
+    (c .before .before .number-at3 .ensures) (c .before .number-at4 .ensures) (c .new2 .ensures)
 
 pub header-spec : {M : Type 1} → statement M
 header-spec =

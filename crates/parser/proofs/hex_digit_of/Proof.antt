@@ -1,6 +1,5 @@
 use Rattle.parser.proofs.Numbers.{low-digit, high-digit}
 use native.Mathlib.Omega.{arith}
-use borrow.Author.Needs.{needs}
 use Rattle.parser.proofs.hex_digit_of.Statement.{statement}
 use Rattle.parser.proofs.hex_digit_of.Tie as tie
 

@@ -30,7 +30,9 @@ is-hex-digit-requires : tie.Need-is-hex-digit-requires Inv-loop μ-loop
 is-hex-digit-requires c κs = search needs
 
 returns-2 : tie.Need-returns-2 Inv-loop μ-loop
-returns-2 c = let b = c .before .before .before .before .before in pairs-first _ (b .loop .i) (omega arith) (c .before .is-hex-digit .ensures) (c .if2 .taken) ∙ sym (b .loop .inv .1)
+returns-2 c =
+    let b = c .before .before .before .before .before in
+    pairs-first _ (b .loop .i) (omega arith) (c .before .is-hex-digit .ensures) (c .if2 .taken) ∙ sym (b .loop .inv .1)
 
 add-is-hex-digit : tie.Need-add-is-hex-digit Inv-loop μ-loop
 add-is-hex-digit c = search needs
@@ -45,7 +47,9 @@ returns-3 : tie.Need-returns-3 Inv-loop μ-loop
 returns-3 c =
     let d = c .before .before .before in
     let b = d .before .before .before .before .before in
-    pairs-second _ (b .loop .i) (omega arith) (d .before .is-hex-digit .ensures) (d .if2 .left) (c .before .is-hex-digit2 .ensures) (c .if3 .taken) ∙ sym (b .loop .inv .1)
+    pairs-second _ (b .loop .i) (omega arith) (d .before .is-hex-digit .ensures) (d .if2 .left) (c .before .is-hex-digit2 .ensures)
+    (c .if3 .taken)
+    ∙ sym (b .loop .inv .1)
 
 add-i : tie.Need-add-i Inv-loop μ-loop
 add-i c = search needs
@@ -56,8 +60,11 @@ loop-less c = search needs
 loop-again : tie.Need-loop-again Inv-loop μ-loop
 loop-again c =
     let d = c .before .before .before in
-    let b = d .before .before .before .before .before in
-    (search needs, b .loop .inv .1 ∙ pairs-on _ (b .loop .i) (omega arith) (d .before .is-hex-digit .ensures) (d .if2 .left) (c .before .is-hex-digit2 .ensures) (c .if3 .left))
+    let b = d .before .before .before .before .before in (
+      search needs,
+      b .loop .inv .1
+          ∙ pairs-on _ (b .loop .i) (omega arith) (d .before .is-hex-digit .ensures) (d .if2 .left) (c .before .is-hex-digit2 .ensures) (c .if3 .left),
+    )
 
 returns-4 : tie.Need-returns-4 Inv-loop μ-loop
 returns-4 c = let b = c .before in pairs-done _ (b .loop .i) (omega arith) ∙ sym (b .loop .inv .1)

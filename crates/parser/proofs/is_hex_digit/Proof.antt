@@ -1,5 +1,4 @@
 use Rattle.parser.proofs.Numbers.{hex-low, hex-high}
-use borrow.Author.Needs.{needs}
 use Rattle.parser.proofs.is_hex_digit.Statement.{statement}
 use Rattle.parser.proofs.is_hex_digit.Tie as tie
 

@@ -88,7 +88,10 @@ unfolding key text cat
 returns-8 c = named-by _ 7 _ _ (c .before .before .if8 .taken) refl (c .starts-with8 .ensures)
 
 returns-9 : tie.Need-returns-9
-returns-9 c = named-none _ _ (no-key _ (c .before .before .before .before .before .before .before .if1 .left) (c .before .before .before .before .before .before .if2 .left) (c .before .before .before .before .before .if3 .left) (c .before .before .before .before .if4 .left) (c .before .before .before .if5 .left) (c .before .before .if6 .left) (c .before .if7 .left) (c .if8 .left))
+returns-9 c =
+    let b = c .before .before .before .before in
+    named-none _ _ (no-key _ (b .before .before .before .if1 .left) (b .before .before .if2 .left) (b .before .if3 .left) (b .if4 .left)
+    (c .before .before .before .if5 .left) (c .before .before .if6 .left) (c .before .if7 .left) (c .if8 .left))
 
 pub is-named-spec : {M : Type 1} → statement M
 is-named-spec =

@@ -43,7 +43,12 @@ unfolding key text cat
 returns-8 c = size-by _ 7 _ (c .if8 .taken) refl (omega arith)
 
 returns-9 : tie.Need-returns-9
-returns-9 c = (ap (λ (n : List ℕ). length n) (sym (no-key _ (c .before .before .before .before .before .before .before .if1 .left) (c .before .before .before .before .before .before .if2 .left) (c .before .before .before .before .before .if3 .left) (c .before .before .before .before .if4 .left) (c .before .before .before .if5 .left) (c .before .before .if6 .left) (c .before .if7 .left) (c .if8 .left))), omega arith)
+returns-9 c =
+    let b = c .before .before .before .before in (
+      ap (λ (n : List ℕ). length n) (sym (no-key _ (b .before .before .before .if1 .left) (b .before .before .if2 .left) (b .before .if3 .left) (b .if4 .left)
+          (c .before .before .before .if5 .left) (c .before .before .if6 .left) (c .before .if7 .left) (c .if8 .left))),
+      omega arith,
+    )
 
 pub key-size-spec : {M : Type 1} → statement M
 key-size-spec = tie.close (tie.spec returns returns-2 returns-3 returns-4 returns-5 returns-6 returns-7 returns-8 returns-9)

@@ -13,7 +13,9 @@ is-digit-requires-3 : tie.Need-is-digit-requires-3
 is-digit-requires-3 c κs = search needs
 
 returns : tie.Need-returns
-returns c = let b = c .before in three-refused _ _ _ (b .before .before .is-digit .ensures) (b .before .is-digit2 .ensures) (b .is-digit3 .ensures) (c .if1 .taken)
+returns c =
+    let b = c .before in
+    three-refused _ _ _ (b .before .before .is-digit .ensures) (b .before .is-digit2 .ensures) (b .is-digit3 .ensures) (c .if1 .taken)
 
 digit-of-requires : tie.Need-digit-of-requires
 digit-of-requires c κs = search needs
@@ -37,7 +39,11 @@ add-result-2 : tie.Need-add-result-2
 add-result-2 c = search needs
 
 returns-2 : tie.Need-returns-2
-returns-2 c = let d = c .before .before in let b = d .before .before in three-taken _ _ _ (b .before .before .is-digit .ensures) (b .before .is-digit2 .ensures) (b .is-digit3 .ensures) (d .before .if1 .left) (d .digit-of .ensures .0) (c .before .digit-of2 .ensures .0) (c .digit-of3 .ensures .0)
+returns-2 c =
+    let d = c .before .before in
+    let b = d .before .before in
+    three-taken _ _ _ (b .before .before .is-digit .ensures) (b .before .is-digit2 .ensures) (b .is-digit3 .ensures) (d .before .if1 .left)
+    (d .digit-of .ensures .0) (c .before .digit-of2 .ensures .0) (c .digit-of3 .ensures .0)
 
 pub three-digits-spec : {M : Type 1} → statement M
 three-digits-spec =

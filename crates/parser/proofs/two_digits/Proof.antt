@@ -25,7 +25,10 @@ add-result : tie.Need-add-result
 add-result c = search needs
 
 returns-2 : tie.Need-returns-2
-returns-2 c = let b = c .before .before in two-taken _ _ (b .before .before .is-digit .ensures) (b .before .is-digit2 .ensures) (b .if1 .left) (c .before .digit-of .ensures .0) (c .digit-of2 .ensures .0)
+returns-2 c =
+    let b = c .before .before in
+    two-taken _ _ (b .before .before .is-digit .ensures) (b .before .is-digit2 .ensures) (b .if1 .left)
+    (c .before .digit-of .ensures .0) (c .digit-of2 .ensures .0)
 
 pub two-digits-spec : {M : Type 1} → statement M
 two-digits-spec =
