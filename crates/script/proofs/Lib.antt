@@ -5,3 +5,4 @@ pub mod GroupLaws
 pub mod OpenLaws
 pub mod NextLaws
 pub mod Story
+pub mod SheetLaws

@@ -3,16 +3,31 @@ use model::Layout;
 use model::Session;
 ghost use Prim.Native.Nat.{ℕ, _+_, _≤_, _<_};
 ghost use mathlib.Core.Path.{_≡_};
-ghost use mathlib.Core.List.{_++_};
-ghost use lib.ListN.{length};
+ghost use mathlib.Core.List.{List, _++_};
+ghost use lib.ListN.{length, take};
 ghost use mathlib.Core.Bool.{true};
 ghost use Rattle.model.specs.Layout.{sizesOk, imageSize};
 ghost use Rattle.model.specs.History.{callWrite};
 ghost use Rattle.write.specs.Steps.{writeArgsOf};
 ghost use Rattle.printer.specs.Decimal.{decimal, Appended};
-ghost use Rattle.parser.specs.Text.{text};
-ghost use Rattle.script.specs.Prints.{room, blank};
+ghost use Rattle.parser.specs.Text.{text, linesOf};
+ghost use Rattle.parser.specs.Script.{good, judged, firstBad, parse};
+ghost use Rattle.io.specs.Counts.{Counts};
+ghost use Rattle.script.specs.Prints.{room, blank, Prints};
 ghost use Rattle.script.specs.Ran.{Opened, Called, Saved, groupOfParts, CallsRan, GroupRan, GoodFrom, groupsFrom, NextRan, GroupsRan, ScriptRan};
+
+// The most bytes of a sheet, and those of its printed text.
+pub const MOST_BYTES: usize = 4096;
+
+pub const MOST_TEXT: usize = 24576;
+
+// The bytes of the largest image (four main segments, four backup segments, four blocks), the numbers of the trace that every
+// call gets, and the most bytes of a write.
+const IMAGE_SIZE: usize = 8704;
+
+const TRACE_SIZE: usize = 1731;
+
+const SPAN_SIZE: usize = 256;
 
 // What a part of a sheet's run leaves: the session, and the place behind the printed text.
 pub struct Ran {
@@ -209,7 +224,7 @@ fn run_next(
     let group = parser::group_at(input, start);
     let digits = group.digits;
     let end = group.digits_end;
-    let mut bytes = [0u8; 256];
+    let mut bytes = [0u8; SPAN_SIZE];
     let count = parser::decode_bytes(&input[digits..end], &mut bytes);
     let ran = run_group(
         image,
@@ -257,4 +272,66 @@ fn run_groups(
         n += 1;
     }
     ran.place
+}
+
+// ---- a sheet
+
+// The opening and the groups of a good sheet, on an image and a trace.
+fn run_script(
+    input: &[u8],
+    layout: Layout,
+    start: usize,
+    image: &mut [u8],
+    trace: &mut [u64],
+    out: &mut [u8],
+) -> usize
+    requires { ⌜ (length (now input) ≤ 4096) × GoodFrom (now input) start ⌝ }
+    requires { ⌜ (length (now trace) ≡ room) × (length (now image) ≡ imageSize layout) × (sizesOk layout ≡ true) × (24576 ≤ length (now out)) ⌝ }
+    ensures { λ r. ⌜ ScriptRan (good layout (groupsFrom (now (input .entry)) start)) (now (out .entry)) (now (out .exit)) r ⌝ }
+{
+    let opened = run_open(image, layout, trace, out);
+    run_groups(
+        input,
+        start,
+        image,
+        opened.session,
+        trace,
+        out,
+        opened.place,
+    )
+}
+
+// A sheet without a bad line.
+fn run_good(input: &[u8], out: &mut [u8]) -> usize
+    requires { ⌜ (length (now input) ≤ 4096) × (firstBad 0 0 (linesOf (now input)) ≡ 0) × (24576 ≤ length (now out)) ⌝ }
+    ensures { λ r. ⌜ ScriptRan (judged 0 (linesOf (now (input .entry)))) (now (out .entry)) (now (out .exit)) r ⌝ }
+{
+    let header = parser::header(input);
+    let layout = header.layout;
+    let size = metadata::image_size(layout);
+    let mut image = [0u8; IMAGE_SIZE];
+    let mut trace = [0u64; TRACE_SIZE];
+    run_script(
+        input,
+        layout,
+        header.next,
+        &mut image[..size],
+        &mut trace,
+        out,
+    )
+}
+
+// Runs a sheet, puts what it prints at the start of a buffer, and answers how many bytes that are.
+pub fn run_sheet(input: &[u8], out: &mut [u8; MOST_TEXT]) -> usize
+    ensures { λ r. ⌜ Counts r (now (out .exit)) ⌝ }
+    ensures { λ r. ⌜ ((t : List ℕ) × Prints (parse (now (input .entry))) t × (take r (now (out .exit)) ≡ t)) ⌝ }
+{
+    if MOST_BYTES < input.len() {
+        return put_number(out, 0, b"sheet=", 0, b"\n");
+    }
+    let bad = parser::first_bad(input);
+    if bad != 0 {
+        return put_number(out, 0, b"sheet=", bad, b"\n");
+    }
+    run_good(input, out)
 }
