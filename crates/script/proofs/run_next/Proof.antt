@@ -1,0 +1,76 @@
+use mathlib.Core.Path.{refl, sym}
+use native.Mathlib.Omega.{arith}
+use lib.Seq.{length-take-le}
+use borrow.Author.Needs.{needs}
+use Rattle.script.proofs.NextLaws.{digits-fit, next-ran}
+use Rattle.script.proofs.run_next.Statement.{statement}
+use Rattle.script.proofs.run_next.Tie as tie
+
+group-at-requires : tie.Need-group-at-requires
+group-at-requires c κs = search needs
+
+sub-decode-bytes : tie.Need-sub-decode-bytes
+sub-decode-bytes c = search needs
+
+part-decode-bytes-start : tie.Need-part-decode-bytes-start
+part-decode-bytes-start c = search needs
+
+part-decode-bytes-end : tie.Need-part-decode-bytes-end
+part-decode-bytes-end c = search needs
+
+slice-aggregate-decode-bytes : tie.Need-slice-aggregate-decode-bytes
+slice-aggregate-decode-bytes c = search needs
+
+decode-bytes-requires : tie.Need-decode-bytes-requires
+decode-bytes-requires c κs =
+    let g = c .before .before in
+    let s = g .before .before .before .before .before in
+    let d = digits-fit (s .args .input .now) (s .args .start) (s .pre .0 .0) (s .pre .0 .1) (g .group-at .result) (g .group-at .ensures) in
+    (omega (arith, d .0), d .1)
+
+array-share-prefix-bytes : tie.Need-array-share-prefix-bytes
+array-share-prefix-bytes c = search needs
+
+slice-aggregate-run-group : tie.Need-slice-aggregate-run-group
+slice-aggregate-run-group c =
+    let d = c .before .before .before in
+    sym (length-take-le _ _ (omega (arith, d .decode-bytes .ensures .inside, d .decode-bytes .ensures .long)))
+
+run-group-requires : tie.Need-run-group-requires
+run-group-requires c κs = search needs
+
+same-length : tie.Need-same-length
+same-length c = search needs
+
+same-length-2 : tie.Need-same-length-2
+same-length-2 c = search needs
+
+same-length-3 : tie.Need-same-length-3
+same-length-3 c = search needs
+
+returns : tie.Need-returns
+returns c =
+    let u = c .before .before .before .before .before .before in
+    let d = u .before .before .before .before .before .before in
+    let g = d .before .before .before in
+    let s = g .before .before .before .before .before in
+    next-ran (s .args .input .now) (s .args .start) (s .pre .0 .0) (s .pre .0 .1) (g .group-at .result) (g .group-at .ensures)
+    _ (s .args .image .now) (s .args .session) _ _ _ (u .run-group .last .0) _ _ (d .decode-bytes .ensures .bytes) refl (u .run-group .ensures .0) (u .run-group .ensures .1)
+
+pub run-next-spec : {M : Type 1} → statement M
+run-next-spec =
+    tie.close
+    (tie.spec
+    group-at-requires
+    sub-decode-bytes
+    part-decode-bytes-start
+    part-decode-bytes-end
+    slice-aggregate-decode-bytes
+    decode-bytes-requires
+    array-share-prefix-bytes
+    slice-aggregate-run-group
+    run-group-requires
+    same-length
+    same-length-2
+    same-length-3
+    returns)

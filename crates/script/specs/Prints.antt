@@ -1,0 +1,78 @@
+-- What a bench sheet prints (document 01: "The bench sheet"), by the outcomes and steps of a history. Document 01 leaves open
+-- which free backup segment a write takes, so what is printed is said for some permitted choice at each write. Assumes nothing.
+use Prim.Native.Nat.{ℕ, suc, _+_}
+use Prim.Native.String.{String}
+use mathlib.Core.Path.{_≡_}
+use mathlib.Core.Bool.{Bool, cond}
+use mathlib.Core.List.{List, [], _∷_, _++_}
+use lib.ListN.{length, replicate}
+use Rattle.model.specs.declared.Layout.{Layout}
+use Rattle.model.specs.Container.{committedEpoch}
+use Rattle.model.specs.Format.{formatted}
+use Rattle.model.specs.Ops.{Trace, Outcome}
+use Rattle.model.specs.Open.{openOutcome}
+use Rattle.model.specs.Write.{WriteArgs}
+use Rattle.model.specs.History.{State, Call, callWrite, callCheckpoint, outcome, step, start, Permitted}
+use Rattle.parser.specs.Text.{text}
+use Rattle.parser.specs.Script.{Script, bad, good, Group}
+use Rattle.printer.specs.Decimal.{decimal}
+
+-- the trace that every call gets: for sizes up to 4 it always suffices (an opening has at most 36 · 4 · 4 + 1 operations)
+abbrev pub room : ℕ
+room = 1731
+
+unfoldable pub blank : Trace
+blank = replicate room 0
+
+-- ---- a call's answer
+
+-- its number and its operations (document 01: orders)
+unfoldable pub answerText : String → Outcome → List ℕ
+answerText key o = text key ++ decimal (o .status) ++ text " orders=" ++ decimal (length (o .ops))
+
+-- ---- a group
+
+-- its write, for the backup segment j
+abbrev pub writeOf : Group → ℕ → Call
+writeOf g j = callWrite (record { main = g .main; block = g .block; offset = g .offset; bytes = g .bytes }) blank j
+
+abbrev pub checkpointCall : Call
+checkpointCall = callCheckpoint blank
+
+-- a checkpoint runs if it is asked for, whatever the write answered; where it is not, its text says so
+unfoldable pub checkpointed : State → Bool → State
+checkpointed h wanted = cond wanted (step h checkpointCall) h
+
+unfoldable pub checkpointText : State → Bool → List ℕ
+checkpointText h wanted = cond wanted (answerText "save=" (outcome h checkpointCall)) (text "save=- orders=0")
+
+-- where a group leaves the history
+unfoldable pub afterGroup : State → Group → ℕ → State
+afterGroup h g j = checkpointed (step h (writeOf g j)) (g .checkpoint)
+
+-- the line of group n; the epoch is the one after the group
+unfoldable pub groupText : State → ℕ → Group → ℕ → List ℕ
+groupText h n g j =
+    text "step=" ++ decimal n
+    ++ text " " ++ answerText "write=" (outcome h (writeOf g j))
+    ++ text " " ++ checkpointText (step h (writeOf g j)) (g .checkpoint)
+    ++ text " epoch=" ++ decimal (committedEpoch (afterGroup h g j .image))
+    ++ text "\n"
+
+-- the lines of groups from number n on, for some permitted backup segment at each write
+pub data GroupsPrint : State → ℕ → List Group → List ℕ → Type 0 where
+  none : (h : State) (n : ℕ) → GroupsPrint h n [] []
+  more : (h : State) (n : ℕ) (g : Group) (gs : List Group) (j : ℕ) (rest : List ℕ) → Permitted h (writeOf g j)
+      → GroupsPrint (afterGroup h g j) (suc n) gs rest → GroupsPrint h n (g ∷ gs) (groupText h n g j ++ rest)
+
+-- ---- a sheet
+
+-- the first line: the opening of a formatted image
+unfoldable pub openText : Layout → List ℕ
+openText l = answerText "open=" (openOutcome l (formatted l) blank) ++ text "\n"
+
+-- all that a sheet prints: a bad one only its number
+pub data Prints : Script → List ℕ → Type 0 where
+  refused : (n : ℕ) → Prints (bad n) (text "sheet=" ++ decimal n ++ text "\n")
+  ran : (l : Layout) (gs : List Group) (rest : List ℕ) → GroupsPrint (start l (formatted l) blank) 1 gs rest
+      → Prints (good l gs) (openText l ++ rest)
