@@ -40,6 +40,16 @@ impl<'a, G: Calls, T: Calls> Compared<'a, G, T> {
         self.answers.borrow().values().sum()
     }
 
+    /// How many calls of a kind were due this number.
+    pub fn answered(&self, call: &'static str, number: u64) -> u64 {
+        self.answers.borrow().get(&(call, number)).copied().unwrap_or(0)
+    }
+
+    /// How many of them differed.
+    pub fn differences(&self) -> u64 {
+        self.differences.get()
+    }
+
     /// Each call has given every number of its list, and none besides.
     pub fn covers_all_numbers(&self) -> Result<(), String> {
         let seen: Vec<(&str, u64)> = self.answers.borrow().keys().copied().collect();

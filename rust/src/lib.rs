@@ -12,6 +12,7 @@ pub mod book;
 pub mod calls;
 pub mod compared;
 pub mod corners;
+pub mod corrupted;
 pub mod crash;
 pub mod explore;
 pub mod fast;

@@ -31,8 +31,19 @@ impl Report {
     }
 }
 
-/// Status 2: a program that needs the library was built without it.
-pub fn no_library() -> ExitCode {
-    println!("no library was there when this program was built (see build.rs)");
+/// What a program that needs something does without it: it fails with status 2
+/// and says so, unless the argument `--may-miss` allows it to do nothing.
+pub fn missing(what: &str) -> ExitCode {
+    if std::env::args().any(|argument| argument == MAY_MISS) {
+        println!("skipped, as {MAY_MISS} allows: {what}");
+        return ExitCode::SUCCESS;
+    }
+    println!("FAILED nothing was tested: {what}");
     ExitCode::from(2)
+}
+
+pub const MAY_MISS: &str = "--may-miss";
+
+pub fn no_library() -> ExitCode {
+    missing("no library was there when this program was built (see build.rs)")
 }

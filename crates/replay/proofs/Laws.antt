@@ -41,6 +41,28 @@ pub judged-at : (size : ℕ) (t : Trace) (n : ℕ) → allWellFormed size t n �
 unfolding allWellFormed
 judged-at size t n h k l = all-at n _ h k l
 
+-- one ill-formed operation is enough
+pub judged-stop : (size : ℕ) (t : Trace) (n k : ℕ) → k < n → wellFormedAt size t k ≡ false → false ≡ allWellFormed size t n
+judged-stop size t n k l h = go (allWellFormed size t n) refl
+  where
+    go : (b : Bool) → allWellFormed size t n ≡ b → false ≡ allWellFormed size t n
+    go true e = absurd (true≢false (sym (judged-at size t n e k l) ∙ h))
+    go false e = sym e
+
+-- what is judged of a store, and of another operation
+pub judged-store : (size kind p w : ℕ) → kind ≡ 1 → (ltb p size && eqb (p % 8) 0) ≡ wellFormed size kind p w
+unfolding wellFormed
+judged-store size kind p w e = rw e (ap (λ (b : Bool). ltb p size && b) (go (eqb (p % 8) 0)))
+  where
+    go : (b : Bool) → b ≡ (b || false || false)
+    go true = refl
+    go false = refl
+
+pub judged-other : (size kind p w : ℕ) → kind ≢ 1
+    → (ltb p size && (eqb kind 2 && eqb (p % 64) 0 && eqb w 0 || eqb kind 3 && eqb p 0 && eqb w 0)) ≡ wellFormed size kind p w
+unfolding wellFormed
+judged-other size kind p w h = rw (ne-eqb kind 1 h)
+
 -- a well-formed store lies in the image
 pub store-inside : (size kind p w : ℕ) → kind ≡ 1 → size % 64 ≡ 0 → wellFormed size kind p w ≡ true → p + 8 ≤ size
 unfolding wellFormed

@@ -19,10 +19,12 @@ pub struct Replayed {
 pub fn op_well_formed(size: u64, kind: u64, place: u64, word: u64) -> bool
     ensures { λ r. ⌜ r ≡ wellFormed size kind place word ⌝ }
 {
-    let store = (kind == trace::OP_STORE) & (place % Layout::WORD_SIZE == 0);
+    if kind == trace::OP_STORE {
+        return (place < size) & (place % Layout::WORD_SIZE == 0);
+    }
     let clwb = (kind == trace::OP_CLWB) & (place % Layout::LINE_SIZE == 0) & (word == 0);
     let sfence = (kind == trace::OP_SFENCE) & (place == 0) & (word == 0);
-    (place < size) & (store | clwb | sfence)
+    (place < size) & (clwb | sfence)
 }
 
 // Whether the first `count` operations of a trace are well formed on an image of so many bytes.
@@ -30,14 +32,15 @@ pub fn all_well_formed(size: u64, trace: &[u64], count: usize) -> bool
     requires { ⌜ 3 * count ≤ length (now trace) ⌝ }
     ensures { λ r. ⌜ r ≡ allWellFormed size (now (trace .entry)) count ⌝ }
 {
-    let mut ok = true;
     let mut k = 0;
     while k < count {
         let at = 3 * k;
-        ok = ok & op_well_formed(size, trace[at], trace[at + 1], trace[at + 2]);
+        if !op_well_formed(size, trace[at], trace[at + 1], trace[at + 2]) {
+            return false;
+        }
         k += 1;
     }
-    ok
+    true
 }
 
 // How many operations are to be played: n, or all of the trace if there are fewer.

@@ -2,8 +2,10 @@
 //!
 //! Compared byte for byte: each call with any contents; random histories step
 //! by step, cut at every order and opened again through the library's own
-//! calls; every permitted image of single calls and short histories. Seeds are
-//! fixed. One line a group; exit status 1 on any failure, 2 without a library.
+//! calls; every permitted image of single calls and short histories. Then the
+//! library's answers are spoiled one at a time, and each group must notice.
+//! Seeds are fixed. One line a group; exit status 1 on any failure, 2 without a
+//! library (0 with the argument `--may-miss`).
 
 use std::process::ExitCode;
 
@@ -22,6 +24,7 @@ mod with_library {
     use crpm_tests::arbitrary;
     use crpm_tests::calls::*;
     use crpm_tests::compared::Compared;
+    use crpm_tests::corrupted::{Corrupted, Deed, Spoil};
     use crpm_tests::explore::{Images, Plan};
     use crpm_tests::ffi::{self, Library};
     use crpm_tests::groups::{self, Random};
@@ -30,6 +33,8 @@ mod with_library {
     use std::process::ExitCode;
 
     type Pair<'a> = Compared<'a, Reference, Library>;
+    type SpoiledPair<'a> = Compared<'a, Reference, Corrupted<'a, Library>>;
+    type SpoiledRun<'a> = &'a dyn Fn(&SpoiledPair) -> Outcome;
 
     const SMALL: Sizes = Sizes::new(1, 1, 1);
     const TWO: Sizes = Sizes::new(2, 1, 1);
@@ -47,9 +52,12 @@ mod with_library {
         group("random histories, sizes 1 to 3", &|| histories(41, 1200, 12, 3, EVERY_CUT));
         group("random histories, sizes 1 to 9", &|| histories(42, 150, 40, 9, SOME_CUTS));
         group("random histories, sizes 1 to 64", &|| histories(43, 5, 16, 64, SOME_CUTS));
-        group("single calls at 1,1,1", &|| groups::single_calls(&Library));
-        group("histories up to 5 at 1,1,1", &|| groups::short_histories(&Library, SMALL, 5));
-        group("histories up to 4 at 2,1,1", &|| groups::short_histories(&Library, TWO, 4));
+        group("single calls at 1,1,1", &|| compared(&|both| groups::single_calls(both)));
+        group("histories up to 5 at 1,1,1", &|| compared(&|both| groups::short_histories(both, SMALL, 5)));
+        group("histories up to 4 at 2,1,1", &|| compared(&|both| groups::short_histories(both, TWO, 4)));
+        group("spoiled answers, misuse", &misuse_is_noticed);
+        group("spoiled answers, any contents", &spoiled_contents);
+        group("spoiled answers, histories", &spoiled_histories);
         report.status()
     }
 
@@ -81,7 +89,10 @@ mod with_library {
 
     fn histories(seed: u64, histories: usize, calls: usize, most: usize, plan: Plan) -> Outcome {
         let random = Random { seed, histories, calls, most, plan };
-        compared(&|both| groups::random_histories(both, random))
+        compared(&|both| {
+            let told = groups::random_histories(both, random)?;
+            Ok(format!("{told}, {} saves refused at the last epoch", both.answered("save", 10)))
+        })
     }
 
     /// A card not of 68 words or results not of 2 answer 255 and change
@@ -104,12 +115,9 @@ mod with_library {
         let target = Target { level: 0, frame: 0, offset: 0 };
         let before =
             Lent { image: image.to_vec(), card: vec![9; card], tape: vec![8; 300], out: vec![6; out] };
-        let run = |name: &str, call: &dyn Fn(&mut Lent) -> u64| {
-            let mut lent = before.clone();
-            match call(&mut lent) == 255 && lent == before {
-                true => Ok(()),
-                false => Err(format!("{name} with a card of {card} and {out} results")),
-            }
+        let run = |name: &str, call: &dyn Fn(&mut Lent) -> u64| match before.refuses(call) {
+            true => Ok(()),
+            false => Err(format!("{name} with a card of {card} and {out} results")),
         };
         let mut cases = 0;
         if card != CARD_WORDS || out != 2 {
@@ -135,5 +143,91 @@ mod with_library {
         card: Vec<u64>,
         tape: Vec<u64>,
         out: Vec<u64>,
+    }
+
+    impl Lent {
+        /// The call answers 255 and changes nothing of what it is lent.
+        fn refuses(&self, call: &dyn Fn(&mut Lent) -> u64) -> bool {
+            let mut lent = self.clone();
+            call(&mut lent) == 255 && lent == *self
+        }
+    }
+
+    /// A call that serves, or that changes one thing, is no refusal.
+    fn misuse_is_noticed() -> Outcome {
+        let lent = Lent { image: vec![7; 100], card: vec![9; 67], tape: vec![8; 300], out: vec![6; 3] };
+        let changes: [fn(&mut Lent); 4] =
+            [|l| l.image[99] = 0, |l| l.card[66] = 0, |l| l.tape[299] = 0, |l| l.out[2] = 0];
+        let changing = |change: &fn(&mut Lent)| {
+            lent.refuses(&|l| {
+                change(l);
+                255
+            })
+        };
+        match lent.refuses(&|_| 255) && !lent.refuses(&|_| 0) && !changes.iter().any(changing) {
+            true => Ok(format!("{} wrong calls noticed", 1 + changes.len())),
+            false => Err("a wrong call passes".to_string()),
+        }
+    }
+
+    const AFTER: [u64; 5] = [0, 1, 4, 9, 23];
+
+    /// One spoiled answer among calls with any contents is one difference.
+    fn spoiled_contents() -> Outcome {
+        let good = Reference::good();
+        let mut noticed = 0;
+        for spoil in Spoil::all() {
+            for after in AFTER {
+                let spoiled = Corrupted::new(&Library, spoil, after);
+                let both = Compared::new(&good, &spoiled);
+                groups::any_contents(&both, 55, 24, |rng| arbitrary::sizes(rng, 3));
+                if !spoiled.done() || both.differences() != 1 {
+                    return Err(format!("{spoil:?} after {after}: {} differences", both.differences()));
+                }
+                noticed += 1;
+            }
+        }
+        Ok(format!("{noticed} of {} kinds, each reported as one difference", Spoil::all().len()))
+    }
+
+    /// One spoiled answer in a history, by the group that runs it.
+    fn spoiled_histories() -> Outcome {
+        let plan = Plan { images: Images::Some { samples: 1 }, every_cut_up_to: 20 };
+        let random = Random { seed: 44, histories: 8, calls: 8, most: 2, plan };
+        let (all, few) = (Spoil::all(), [Spoil::Number(Deed::Write), Spoil::PlayedImage, Spoil::ReadStart]);
+        let runs: [(&str, &[Spoil], SpoiledRun); 5] = [
+            ("bench cases", &all, &|both| groups::bench_cases(both)),
+            ("waiting lines", &all, &|both| groups::waiting_lines(both)),
+            ("random histories", &all, &|both| groups::random_histories(both, random)),
+            ("single calls", &few, &|both| groups::single_calls(both)),
+            ("short histories", &all, &|both| groups::short_histories(both, SMALL, 2)),
+        ];
+        let mut lines = Vec::new();
+        for (name, kinds, run) in runs {
+            lines.push(format!("{name} {}", spoiled_in(name, kinds, run)?));
+        }
+        Ok(format!("noticed in {}", lines.join(", ")))
+    }
+
+    /// How many spoiled answers there were in this group, all of them noticed.
+    fn spoiled_in(
+        name: &str,
+        kinds: &[Spoil],
+        run: &dyn Fn(&SpoiledPair) -> Outcome,
+    ) -> Result<usize, String> {
+        let good = Reference::good();
+        let mut noticed = 0;
+        for &spoil in kinds {
+            for after in [0, 3] {
+                let spoiled = Corrupted::new(&Library, spoil, after);
+                let both = Compared::new(&good, &spoiled);
+                let outcome = run(&both);
+                if spoiled.done() && outcome.is_ok() && both.verdict().is_ok() {
+                    return Err(format!("{name}: {spoil:?} after {after} is not noticed"));
+                }
+                noticed += usize::from(spoiled.done());
+            }
+        }
+        Ok(noticed)
     }
 }

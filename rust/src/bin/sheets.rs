@@ -3,10 +3,11 @@
 //!
 //! Usage: sheets [PROGRAM], by default `../target/bin/sheet` beside this
 //! folder. Seeds are fixed. Exit status 1 on any difference, 2 without a
-//! program.
+//! program (0 with the argument `--may-miss`).
 
 use crpm_tests::prng::Rng;
-use crpm_tests::{corners, sheet};
+use crpm_tests::report::{missing, MAY_MISS};
+use crpm_tests::{corners, corners::Corner, sheet};
 use std::io::{self, Write};
 use std::path::{Path, PathBuf};
 use std::process::{ChildStdin, Command, ExitCode, Stdio};
@@ -20,10 +21,10 @@ const LONGEST: usize = 4096;
 
 fn main() -> ExitCode {
     let default = Path::new(env!("CARGO_MANIFEST_DIR")).join("../target/bin/sheet");
-    let program = std::env::args().nth(1).map_or(default, PathBuf::from);
+    let named = std::env::args().skip(1).find(|argument| argument != MAY_MISS);
+    let program = named.map_or(default, PathBuf::from);
     if !program.is_file() {
-        println!("no sheet program at {}", program.display());
-        return ExitCode::from(2);
+        return missing(&format!("no sheet program at {}", program.display()));
     }
     match run_all(&program) {
         Ok(()) => ExitCode::SUCCESS,
@@ -41,6 +42,9 @@ fn run_all(program: &Path) -> Result<(), String> {
         check(program, &corner.input, corner.output.as_bytes(), 1)?;
     }
     println!("ok corner sheets: {} ({:.1} s)", corners.len(), start.elapsed().as_secs_f64());
+    let start = Instant::now();
+    let noticed = spoiled_outputs(program, &corners)?;
+    println!("ok spoiled outputs: {noticed} noticed ({:.1} s)", start.elapsed().as_secs_f64());
     let start = Instant::now();
     let mut rng = Rng::new(61);
     let (mut good, mut bad) = (0, 0);
@@ -60,6 +64,26 @@ fn run_all(program: &Path) -> Result<(), String> {
     }
     println!("ok random sheets: {good} good, {bad} bad ({:.1} s)", start.elapsed().as_secs_f64());
     Ok(())
+}
+
+/// A corner's output with one byte changed, left out or added is a difference.
+fn spoiled_outputs(program: &Path, corners: &[Corner]) -> Result<usize, String> {
+    let mut rng = Rng::new(62);
+    let mut noticed = 0;
+    for corner in corners.iter().step_by(5) {
+        let mut due = corner.output.clone().into_bytes();
+        let at = rng.below(due.len());
+        match rng.below(3) {
+            0 => due[at] ^= 1,
+            1 => drop(due.remove(at)),
+            _ => due.push(b'\n'),
+        }
+        if check(program, &corner.input, &due, 1).is_ok() {
+            return Err(format!("a spoiled output of {} passes", corner.name));
+        }
+        noticed += 1;
+    }
+    Ok(noticed)
 }
 
 /// Feeds the input, in pieces with pauses between them, and compares.

@@ -1,11 +1,12 @@
-use Rattle.model.specs.Replay.{wellFormed}
-use borrow.Author.Needs.{needs}
+use Rattle.replay.proofs.Laws.{judged-store, judged-other}
 use Rattle.replay.proofs.op_well_formed.Statement.{statement}
 use Rattle.replay.proofs.op_well_formed.Tie as tie
 
 returns : tie.Need-returns
-unfolding wellFormed
-returns c = search needs
+returns c = judged-store _ _ _ _ (c .if1 .taken)
+
+returns-2 : tie.Need-returns-2
+returns-2 c = judged-other _ _ _ _ (c .if1 .left)
 
 pub op-well-formed-spec : {M : Type 1} → statement M
-op-well-formed-spec = tie.close (tie.spec returns)
+op-well-formed-spec = tie.close (tie.spec returns returns-2)

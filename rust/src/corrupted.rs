@@ -1,0 +1,162 @@
+//! One answer of an implementation spoiled on purpose, to see that the
+//! comparison reports it.
+//!
+//! `Corrupted` hands every call on and changes one thing that the n-th of its
+//! kind answers or leaves: the number, the orders, the card, the tape, the
+//! image, a part, a likeness. `differential` runs its groups over such calls;
+//! each must fail.
+
+use crate::calls::*;
+use std::cell::Cell;
+
+/// What is spoiled, by the call that it belongs to; those of a deed belong to
+/// opening, write or save.
+#[derive(Clone, Copy, PartialEq, Eq, Debug)]
+pub enum Spoil {
+    LaidOutNumber,
+    LaidOutImage,
+    Number(Deed),
+    Orders(Deed),
+    CardSizes(Deed),
+    CardTouched(Deed),
+    CardMarks(Deed),
+    TapeKind(Deed),
+    TapePlace(Deed),
+    TapeWord(Deed),
+    TapeBehind(Deed),
+    PlayedNumber,
+    PlayedOrders,
+    PlayedImage,
+    ReadNumber,
+    ReadStart,
+    ReadLength,
+    LikeNumber,
+    Likeness,
+}
+
+#[derive(Clone, Copy, PartialEq, Eq, Debug)]
+pub enum Deed {
+    Open,
+    Write,
+    Save,
+}
+
+impl Spoil {
+    /// Every kind.
+    pub fn all() -> Vec<Spoil> {
+        use Spoil::*;
+        let mut all = vec![LaidOutNumber, LaidOutImage, PlayedNumber, PlayedOrders, PlayedImage];
+        all.extend([ReadNumber, ReadStart, ReadLength, LikeNumber, Likeness]);
+        for deed in [Deed::Open, Deed::Write, Deed::Save] {
+            all.extend([Number, Orders, CardSizes, CardTouched, CardMarks].map(|kind| kind(deed)));
+            all.extend([TapeKind, TapePlace, TapeWord, TapeBehind].map(|kind| kind(deed)));
+        }
+        all
+    }
+}
+
+pub struct Corrupted<'a, C: Calls> {
+    calls: &'a C,
+    spoil: Spoil,
+    /// How many calls that can be spoiled so come before the one that is.
+    left: Cell<u64>,
+    done: Cell<bool>,
+}
+
+impl<'a, C: Calls> Corrupted<'a, C> {
+    pub fn new(calls: &'a C, spoil: Spoil, after: u64) -> Corrupted<'a, C> {
+        Corrupted { calls, spoil, left: Cell::new(after), done: Cell::new(false) }
+    }
+
+    /// Was there such a call?
+    pub fn done(&self) -> bool {
+        self.done.get()
+    }
+
+    /// Is this the call to spoil, where it can be spoiled so?
+    fn now(&self, spoil: Spoil, can: bool) -> bool {
+        if self.done.get() || self.spoil != spoil || !can {
+            return false;
+        }
+        let left = self.left.get();
+        self.left.set(left.saturating_sub(1));
+        self.done.set(left == 0);
+        left == 0
+    }
+
+    /// Spoils what opening, write or save answers and leaves.
+    fn answered(&self, deed: Deed, answer: Answer, card: &mut Card, tape: &mut [u64]) -> Answer {
+        let end = (3 * answer.orders as usize).min(tape.len());
+        let (last, behind) = (end.saturating_sub(3), end < tape.len());
+        let mut tape_at = |spoil, at: usize, can| {
+            if self.now(spoil, can) {
+                tape[at] ^= 1;
+            }
+        };
+        tape_at(Spoil::TapeKind(deed), last, end > 0);
+        tape_at(Spoil::TapePlace(deed), 1, end > 0);
+        tape_at(Spoil::TapeWord(deed), last + 2, end > 0);
+        tape_at(Spoil::TapeBehind(deed), end, behind);
+        card.sizes.spares ^= u64::from(self.now(Spoil::CardSizes(deed), true));
+        card.touched ^= u64::from(self.now(Spoil::CardTouched(deed), true));
+        card.marks[63] ^= u64::from(self.now(Spoil::CardMarks(deed), true));
+        let number = answer.number + u64::from(self.now(Spoil::Number(deed), true));
+        Answer { number, orders: self.orders(Spoil::Orders(deed), answer.orders) }
+    }
+
+    /// One order fewer, or one in place of none.
+    fn orders(&self, spoil: Spoil, orders: u64) -> u64 {
+        match self.now(spoil, true) {
+            true => orders.checked_sub(1).unwrap_or(1),
+            false => orders,
+        }
+    }
+}
+
+impl<C: Calls> Calls for Corrupted<'_, C> {
+    fn lay_out(&self, image: &mut [u8], sizes: Sizes) -> u64 {
+        let number = self.calls.lay_out(image, sizes);
+        if self.now(Spoil::LaidOutImage, !image.is_empty()) {
+            image[image.len() - 1] ^= 1;
+        }
+        number + u64::from(self.now(Spoil::LaidOutNumber, true))
+    }
+
+    fn open(&self, image: &[u8], sizes: Sizes, card: &mut Card, tape: &mut [u64]) -> Answer {
+        let answer = self.calls.open(image, sizes, card, tape);
+        self.answered(Deed::Open, answer, card, tape)
+    }
+
+    fn write(&self, image: &[u8], card: &mut Card, target: Target, bytes: &[u8], tape: &mut [u64]) -> Answer {
+        let answer = self.calls.write(image, card, target, bytes, tape);
+        self.answered(Deed::Write, answer, card, tape)
+    }
+
+    fn save(&self, image: &[u8], card: &mut Card, tape: &mut [u64]) -> Answer {
+        let answer = self.calls.save(image, card, tape);
+        self.answered(Deed::Save, answer, card, tape)
+    }
+
+    fn play(&self, image: &mut [u8], tape: &[u64], n: u64) -> Answer {
+        let answer = self.calls.play(image, tape, n);
+        if self.now(Spoil::PlayedImage, !image.is_empty()) {
+            image[image.len() / 2] ^= 1;
+        }
+        let number = answer.number + u64::from(self.now(Spoil::PlayedNumber, true));
+        Answer { number, orders: self.orders(Spoil::PlayedOrders, answer.orders) }
+    }
+
+    fn read(&self, page: Page, image: &[u8], sizes: Sizes, level: u64, frame: u64) -> Part {
+        let mut part = self.calls.read(page, image, sizes, level, frame);
+        part.number += u64::from(self.now(Spoil::ReadNumber, true));
+        part.start ^= u64::from(self.now(Spoil::ReadStart, true));
+        part.length ^= u64::from(self.now(Spoil::ReadLength, true));
+        part
+    }
+
+    fn like(&self, first: &[u8], second: &[u8], sizes: Sizes) -> (u64, bool) {
+        let (number, alike) = self.calls.like(first, second, sizes);
+        let spoiled = number + u64::from(self.now(Spoil::LikeNumber, true));
+        (spoiled, alike ^ self.now(Spoil::Likeness, true))
+    }
+}
