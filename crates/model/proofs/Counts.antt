@@ -1,7 +1,7 @@
 -- How many operations each call writes, in closed form, and where a checkpoint stores the epoch.
 use Prim.Native.Nat.{ℕ, zero, suc, _+_, _-_, _*_, _/_, _%_, _^_, _≤_, _<_}
 use mathlib.Core.Path.{_≡_, refl, sym, ap, ap₂, _∙_, subst}
-use mathlib.Core.Logic.{_↔_, _≢_}
+use mathlib.Core.Logic.{_↔_}
 use mathlib.Core.Bool.{Bool, true, false, cond}
 use mathlib.Core.List.{[], _∷_, _++_, append-assoc}
 use native.Mathlib.Omega.{arith}
@@ -11,7 +11,7 @@ use lib.Count.{ones, ones-step}
 use lib.Dec.{eqb}
 use lib.ListN.{length, take, length-append}
 use lib.Seq.{take-append-le, take-append-add}
-use borrow.Author.Tests.{le-ltb, eq-eqb, ne-eqb}
+use borrow.Author.Tests.{eq-eqb, ne-eqb}
 use Rattle.model.specs.declared.Layout.{Layout}
 use Rattle.model.specs.declared.Session.{Session}
 use Rattle.model.specs.declared.Action.{Action}
@@ -19,16 +19,15 @@ use Rattle.model.specs.declared.Action.the-variants.{Nothing, ZeroMain, 
 use Rattle.model.specs.Range.{cat, sumTo, oneIf}
 use Rattle.model.specs.Words.{Image, wordOf}
 use Rattle.model.specs.Layout.{wordSize, lineSize, blockWords, blockLines, lineWords, epochAt, mainAt, backupAt}
-use Rattle.model.specs.Status.{firstError}
-use Rattle.model.specs.Container.{committedEpoch, activeLine, inactiveLine, segState, backupToMain, isPaired}
+use Rattle.model.specs.Container.{committedEpoch, inactiveLine, segState, backupToMain, isPaired}
 use Rattle.model.specs.Session.{bit, dirtyWord, dirtyBlock}
 use Rattle.model.specs.Ops.{Op, store, clwb, sfence, Ops, Trace, traceShort, stores, clwbs, putBlock, persistCopy, persistZero}
-use Rattle.model.specs.Open.{recoveryAction, copySegment, zeroSegment, actionOps, recoverSegment, recoveryOps, openStatus}
+use Rattle.model.specs.Open.{recoveryAction, copySegment, zeroSegment, actionOps, recoverSegment, recoveryOps}
 use Rattle.model.specs.Write.{WriteArgs, needsCopy, pairOps, copyDirty, backupOps, stateOps, copyOnWriteOps, spanAt, spanWords, spanOps, writeOps, writeStatus}
 use Rattle.model.specs.Checkpoint.{flushDirty, nextStates, statesOps, epochOps, checkpointOps, checkpointStatus, checkpointOutcome}
 use Rattle.model.specs.History.{callCheckpoint, State, calledOps}
 use Rattle.model.specs.Counts.{acts, treated, dirtyCount, dirtyTotal}
-use Rattle.model.specs.CrashSafety.{EpochStored, Window, TraceSuffices}
+use Rattle.model.specs.CrashSafety.{EpochStored, Window}
 use Rattle.model.proofs.Range.{length-cat}
 use Rattle.model.proofs.Places.{image-lines, state-line-low}
 use Rattle.model.proofs.TraceLaws.{All, all-append, all-take, all-cat, all-when, all-amid, played-ops}
@@ -42,10 +41,10 @@ unfolding sumTo
 sum-ext zero f g h = refl
 sum-ext (suc n) f g h = ap₂ _+_ (sum-ext n f g (λ i l. h i (omega arith))) (h n (omega arith))
 
-pub sum-most : (n : ℕ) (f : ℕ → ℕ) → ((i : ℕ) → i < n → f i ≤ 1) → sumTo n f ≤ n
+pub sum-most : (n k : ℕ) (f : ℕ → ℕ) → ((i : ℕ) → i < n → f i ≤ k) → sumTo n f ≤ k * n
 unfolding sumTo
-sum-most zero f h = omega arith
-sum-most (suc n) f h = omega (arith, sum-most n f (λ i l. h i (omega arith)), h n (omega arith))
+sum-most zero k f h = omega arith
+sum-most (suc n) k f h = omega (arith, sum-most n k f (λ i l. h i (omega arith)), h n (omega arith), mul-add k n 1, mul-one k)
 
 -- joined lists of k * g 0, k * g 1, .. operations
 pub length-cat-sum : (n k : ℕ) (g : ℕ → ℕ) (f : ℕ → Ops) → ((i : ℕ) → i < n → length (f i) ≡ k * g i) → length (cat n f) ≡ k * sumTo n g
@@ -104,24 +103,10 @@ acts-most CopyToMain = omega arith
 
 pub treated-most : (l : Layout) (I : Image) (line : ℕ) → treated l I line ≤ l .mains
 unfolding treated
-treated-most l I line = sum-most (l .mains) _ (λ i h. acts-most _)
+treated-most l I line = omega (arith, sum-most (l .mains) 1 (λ i. acts (recoveryAction (segState I line i) (isPaired l (backupToMain I) i))) (λ i h. acts-most _))
 
 pub recovery-most : (l : Layout) (I : Image) (line : ℕ) → length (recoveryOps l I line) ≤ 36 * l .blocks * l .mains + 1
 recovery-most l I line = omega (arith, length-recovery l I line, mul-le-mul-left (36 * l .blocks) (treated-most l I line))
-
--- refusals 1 to 4, and no 11
-no-eleven : (a b c d : Bool) → _≢_ {A = ℕ} (firstError ((1, a) ∷ (2, b) ∷ (3, c) ∷ (4, d) ∷ (11, false) ∷ [])) 11
-unfolding firstError
-no-eleven true b c d e = omega arith
-no-eleven false true c d e = omega arith
-no-eleven false false true d e = omega arith
-no-eleven false false false true e = omega arith
-no-eleven false false false false e = omega arith
-
-pub trace-suffices : TraceSuffices
-unfolding openStatus traceShort
-trace-suffices l I t h =
-    rw (le-ltb (length t) (3 * length (recoveryOps l I (activeLine I))) (omega (arith, recovery-most l I (activeLine I)))) (no-eleven _ _ _ _)
 
 -- ---- dirty blocks
 

@@ -10,6 +10,7 @@ pub mod WordLaws
 pub mod Persist
 pub mod WellFormed
 pub mod Counts
+pub mod Suffices
 pub mod FormatLaws
 pub mod Unread
 pub mod Floor

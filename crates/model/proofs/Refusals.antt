@@ -46,6 +46,11 @@ abbrev pub Ascending : ℕ → Errors → Type 0
 Ascending k [] = Unit {0}
 Ascending k (e ∷ es) = (k < e .0) × Ascending (e .0) es
 
+-- n is none of the numbers
+abbrev pub Without : ℕ → Errors → Type 0
+Without n [] = Unit {0}
+Without n (e ∷ es) = (e .0 ≢ n) × Without n es
+
 -- n stands in the list with a condition that holds
 abbrev pub Applies : ℕ → Errors → Type 0
 Applies n [] = ⊥
@@ -116,6 +121,17 @@ either-part P (e ∷ es) fs p q = go (e .1) p (λ r. either-part P es fs r q)
     go : (b : Bool) → P (cond b (e .0) (firstError es)) → (P (firstError es) → P (firstError (es ++ fs))) → P (cond b (e .0) (firstError (es ++ fs)))
     go true p ih = p
     go false p ih = ih p
+
+-- a number that the first part does not have is given by the second, and no condition of the first holds
+pub given-after : (n : ℕ) (es fs : Errors) → Without n es → firstError (es ++ fs) ≡ n → NoneHolds es × (firstError fs ≡ n)
+unfolding firstError
+given-after n [] fs k h = (tt, h)
+given-after n (e ∷ es) fs k h = go (e .1) h (given-after n es fs (k .1))
+  where
+    go : (b : Bool) → cond b (e .0) (firstError (es ++ fs)) ≡ n → (firstError (es ++ fs) ≡ n → NoneHolds es × (firstError fs ≡ n))
+        → ((b ≡ false) × NoneHolds es) × (firstError fs ≡ n)
+    go true h ih = absurd (k .0 h)
+    go false h ih = let r = ih h in ((refl, r .0), r .1)
 
 -- ---- which number is given
 

@@ -7,13 +7,16 @@ use mathlib.Core.List.{List, [], _∷_, _++_}
 use lib.Dec.{leb}
 use lib.ListN.{length, take, replicate}
 use Rattle.model.specs.declared.Layout.{Layout}
+use Rattle.model.specs.declared.Session.{Session}
 use Rattle.model.specs.Words.{Image, Bytes}
-use Rattle.model.specs.Layout.{lineSize, blockSize, epochAt, ssInitial}
+use Rattle.model.specs.Layout.{lineSize, blockSize, blockWords, epochAt, ssInitial}
 use Rattle.model.specs.Container.{activeState, activeLine, checkpointBytes, committedEpoch}
 use Rattle.model.specs.Ops.{Ops, Trace, store}
 use Rattle.model.specs.Status.{served}
 use Rattle.model.specs.Replay.{replayOutcome}
 use Rattle.model.specs.Open.{openStatus, openOutcome}
+use Rattle.model.specs.Write.{WriteArgs, writeStatus}
+use Rattle.model.specs.Checkpoint.{checkpointStatus}
 use Rattle.model.specs.Reads.{readStatus, workingBlock, checkpointBlock}
 use Rattle.model.specs.Crash.{CrashImage}
 use Rattle.model.specs.Reference.{Page, pageBlock}
@@ -146,9 +149,18 @@ OpeningSafety =
     (l : Layout) (I : Image) (t : Trace) → Bytes I → openStatus l I t ≡ 0 → (H : Image) → CutOpenings CrashImage l I H
     → (t′ : Trace) → openStatus l H t′ ≢ 11 → Recovers l H t′ (checkpointBytes l I (activeLine I)) × Bytes H
 
--- a trace that suffices for every opening
+-- traces that suffice for every opening, every write and every checkpoint
 abbrev pub TraceSuffices : Type 0
 TraceSuffices = (l : Layout) (I : Image) (t : Trace) → 3 * (36 * l .blocks * l .mains + 1) ≤ length t → openStatus l I t ≢ 11
+
+abbrev pub WriteTraceSuffices : Type 0
+WriteTraceSuffices =
+    (s : Session) (I : Image) (w : WriteArgs) (j : ℕ) (t : Trace) → 3 * (36 * s .layout .blocks + 6 + blockWords) ≤ length t
+    → writeStatus s I w j t ≢ 11
+
+abbrev pub CheckpointTraceSuffices : Type 0
+CheckpointTraceSuffices =
+    (s : Session) (I : Image) (t : Trace) → 3 * (4 * s .layout .blocks * s .layout .mains + 14) ≤ length t → checkpointStatus s I t ≢ 11
 
 -- the checkpoints that a list of calls serves
 abbrev pub checkpointsOf : State → Call → ℕ
