@@ -36,17 +36,17 @@ starts-at (k ∷ n) (b ∷ l) (suc i) h j = starts-at n l i (and-right (eqb k b)
 module _ (k : ℕ) (l : Line) (g : goodLine k l ≡ true) where
   good-named : startsWith (key k .name) l ≡ true
   unfolding goodLine named
-  good-named = and-left (named k l) (eqb (getD l (length l - 1) 0) 10) (and-left (named k l && eqb (getD l (length l - 1) 0) 10) (key k .good (valueOf k l)) g)
+  good-named = and-left (named k l) (eqb (getD l (length l - 1) 0) 10) (and-left (named k l && eqb (getD l (length l - 1) 0) 10) (key k .takes (valueOf k l)) g)
 
   good-ended : getD l (length l - 1) 0 ≡ 10
   unfolding goodLine
   good-ended =
       eqb-true (getD l (length l - 1) 0) 10
-      (and-right (named k l) (eqb (getD l (length l - 1) 0) 10) (and-left (named k l && eqb (getD l (length l - 1) 0) 10) (key k .good (valueOf k l)) g))
+      (and-right (named k l) (eqb (getD l (length l - 1) 0) 10) (and-left (named k l && eqb (getD l (length l - 1) 0) 10) (key k .takes (valueOf k l)) g))
 
-  good-value : key k .good (valueOf k l) ≡ true
+  good-value : key k .takes (valueOf k l) ≡ true
   unfolding goodLine
-  good-value = and-right (named k l && eqb (getD l (length l - 1) 0) 10) (key k .good (valueOf k l)) g
+  good-value = and-right (named k l && eqb (getD l (length l - 1) 0) 10) (key k .takes (valueOf k l)) g
 
   -- a key ends in its sign, so the byte 10 stands behind it
   good-long : 0 < length (key k .name) → getD (key k .name) (length (key k .name) - 1) 0 ≡ 61 → length (key k .name) < length l

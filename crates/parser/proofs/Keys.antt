@@ -111,22 +111,22 @@ bytes-long v h = rw (lt-leb (length v) 512 h)
 pub bytes-short : (v : List ℕ) {r : Bool} → length v ≤ 512 → r ≡ hexPairs v → r ≡ isBytes v
 bytes-short v h e = rw (le-leb (length v) 512 h) e
 
-pub good-bytes : (k : ℕ) (v : List ℕ) {r : Bool} → k ≡ 6 → r ≡ isBytes v → r ≡ key k .good v
+pub good-bytes : (k : ℕ) (v : List ℕ) {r : Bool} → k ≡ 6 → r ≡ isBytes v → r ≡ key k .takes v
 unfolding key
 good-bytes k v e h = rw e h
 
-pub good-flag : (k : ℕ) (v : List ℕ) {n : ℕ} → k ≡ 7 → n ≡ numberOf v → leb n 1 ≡ key k .good v
+pub good-flag : (k : ℕ) (v : List ℕ) {n : ℕ} → k ≡ 7 → n ≡ numberOf v → leb n 1 ≡ key k .takes v
 unfolding key
 good-flag k v e h = rw (e, h)
 
-pub good-size : (k : ℕ) (v : List ℕ) {n : ℕ} → k ≤ 2 → n ≡ numberOf v → (leb 1 n && leb n 4) ≡ key k .good v
+pub good-size : (k : ℕ) (v : List ℕ) {n : ℕ} → k ≤ 2 → n ≡ numberOf v → (leb 1 n && leb n 4) ≡ key k .takes v
 unfolding key
 good-size zero v h e = rw e
 good-size (suc zero) v h e = rw e
 good-size (suc (suc zero)) v h e = rw e
 good-size (suc (suc (suc k))) v h e = let z : ⊥ = omega arith in absurd z
 
-pub good-number : (k : ℕ) (v : List ℕ) {n : ℕ} → 2 < k → k ≢ 6 → k ≢ 7 → n ≡ numberOf v → ltb n 1000 ≡ key k .good v
+pub good-number : (k : ℕ) (v : List ℕ) {n : ℕ} → 2 < k → k ≢ 6 → k ≢ 7 → n ≡ numberOf v → ltb n 1000 ≡ key k .takes v
 unfolding key
 good-number zero v h x y e = let z : ⊥ = omega arith in absurd z
 good-number (suc zero) v h x y e = let z : ⊥ = omega arith in absurd z
@@ -158,7 +158,7 @@ unfolding goodLine
 line-unnamed k l {p} e h = rw (← e, not-true p h)
 
 pub line-named : (k : ℕ) (l v : Line) {p r : Bool} → getD l (length l - 1) 0 ≡ 10 → p ≡ named k l → not p ≡ false
-    → v ≡ valueOf k l → r ≡ key k .good v → r ≡ goodLine k l
+    → v ≡ valueOf k l → r ≡ key k .takes v → r ≡ goodLine k l
 unfolding goodLine
 line-named k l v {p} h e n q g = rw (← e, not-false p n, h, ← q) g
 

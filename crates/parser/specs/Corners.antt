@@ -1,13 +1,16 @@
 -- Corner sheets with the number that they print, worked out by hand from document 01: 0 for a good sheet, else the number of the
--- first bad or missing line. `Corners` says that the definitions give these numbers. Proved in proofs/Corners.antt.
+-- first bad or missing line; and what some good sheets say. `Corners` says that the definitions give all this. Proved in
+-- proofs/Corners.antt.
 use Prim.Native.Nat.{ℕ}
 use Prim.Native.String.{String}
 use mathlib.Core.Path.{_≡_}
-use mathlib.Core.Bool.{Bool, true, _&&_}
+use mathlib.Core.Bool.{Bool, true, false, _&&_}
 use mathlib.Core.List.{List, [], _∷_}
 use lib.Dec.{eqb}
-use Rattle.parser.specs.Text.{text, linesOf}
-use Rattle.parser.specs.Script.{firstBad}
+use lib.ListN.{replicate}
+use Rattle.model.specs.Layout.{layoutOf}
+use Rattle.parser.specs.Text.{text, lineEnd, linesOf}
+use Rattle.parser.specs.Script.{mainsKey, isBytes, firstBad, Group, bad, good, parse}
 
 pub record Corner : Type 0 where
   pub sheet : String
@@ -19,7 +22,7 @@ corner s n = record { sheet = s; line = n }
 -- whether the definitions give the number of each
 unfoldable pub allGiven : List Corner → Bool
 allGiven [] = true
-allGiven (c ∷ cs) = eqb (firstBad 0 0 (linesOf (text (c .sheet)))) (c .line) && allGiven cs
+allGiven (c ∷ cs) = eqb (firstBad mainsKey 0 (linesOf (text (c .sheet)))) (c .line) && allGiven cs
 
 -- sheets of sizes alone
 abbrev pub sizeCorners : List Corner
@@ -85,5 +88,31 @@ groupCorners =
     ∷ corner "mains=2\nframes=1\nlevel=0\nframe=0\nat=0\nbytes=\nsave=00\n" 7
     ∷ corner "mains=2\nframes=1\nlevel=0\nframe=0\nat=0\nbytes=\nsave=\n" 7 ∷ []
 
-abbrev pub Corners : Type 0
-Corners = (allGiven sizeCorners ≡ true) × (allGiven groupCorners ≡ true)
+-- ---- what good sheets say, and lengths
+
+-- the sheet of document 01
+abbrev pub exampleSheet : String
+exampleSheet = "mains=2\nspares=1\nframes=1\nlevel=0\nframe=0\nat=6\nbytes=a1b2c3d4\nsave=1\n"
+
+abbrev pub exampleGroup : Group
+exampleGroup = record { main = 0; block = 0; offset = 6; bytes = 0xa1 ∷ 0xb2 ∷ 0xc3 ∷ 0xd4 ∷ []; checkpoint = true }
+
+-- two groups, and as many spares as mains
+abbrev pub twoGroups : String
+twoGroups = "mains=3\nframes=2\nlevel=2\nframe=1\nat=255\nbytes=09\nsave=0\nlevel=10\nframe=345\nat=999\nbytes=\nsave=1\n"
+
+abbrev pub firstGroup : Group
+firstGroup = record { main = 2; block = 1; offset = 255; bytes = 9 ∷ []; checkpoint = false }
+
+abbrev pub secondGroup : Group
+secondGroup = record { main = 10; block = 345; offset = 999; bytes = []; checkpoint = true }
+
+-- 4,096 bytes are judged, 4,097 are too long; 512 digits are good, 513 and 514 are not
+pub record Corners : Type 0 where
+  pub sizes : allGiven sizeCorners ≡ true
+  pub groups : allGiven groupCorners ≡ true
+  pub example : parse (text exampleSheet) ≡ good (layoutOf 2 1 1) (exampleGroup ∷ [])
+  pub two : parse (text twoGroups) ≡ good (layoutOf 3 3 2) (firstGroup ∷ secondGroup ∷ [])
+  pub longest : parse (replicate 4096 lineEnd) ≡ bad 1
+  pub longer : parse (replicate 4097 lineEnd) ≡ bad 0
+  pub digits : (isBytes (replicate 512 48) ≡ true) × (isBytes (replicate 513 48) ≡ false) × (isBytes (replicate 514 48) ≡ false)

@@ -1,11 +1,11 @@
--- What the code says of an input that it reads: where a value stands, the sizes, one group, the bytes of a value.
+-- What the contracts of the reading functions say of an input: where a value stands, the sizes, one group, the bytes of a value.
 -- Assumes nothing.
 use Prim.Native.Nat.{ℕ, suc, _+_, _-_, _≤_, min}
 use mathlib.Core.Path.{_≡_}
 use mathlib.Core.List.{List}
 use lib.ListN.{length, take, drop}
 use Rattle.parser.specs.Text.{linesOf, hexBytes}
-use Rattle.parser.specs.Script.{key, valueOf, groupLines, lineAt, groupOf, blocksLine, sizesOf}
+use Rattle.parser.specs.Script.{key, bytesKey, valueOf, groupLines, lineAt, groupOf, blocksLine, sizesOf}
 use Rattle.parser.specs.declared.Span.{Span}
 use Rattle.parser.specs.declared.HeaderAt.{HeaderAt}
 use Rattle.parser.specs.declared.GroupAt.{GroupAt}
@@ -27,7 +27,7 @@ pub record ReadsGroup (input : List ℕ) («at» : ℕ) (r : GroupAt) : Type 0 w
   pub block : r .block ≡ groupOf (linesOf (drop «at» input)) .block
   pub offset : r .offset ≡ groupOf (linesOf (drop «at» input)) .offset
   pub checkpoint : r .checkpoint ≡ groupOf (linesOf (drop «at» input)) .checkpoint
-  pub digits : take (r .«digits_end» - r .digits) (drop (r .digits) input) ≡ valueOf 6 (lineAt (linesOf (drop «at» input)) 3)
+  pub digits : take (r .«digits_end» - r .digits) (drop (r .digits) input) ≡ valueOf bytesKey (lineAt (linesOf (drop «at» input)) 3)
   pub ordered : (r .digits ≤ r .«digits_end») × (r .«digits_end» ≤ r .next)
   pub inside : r .next ≤ length input
   pub rest : linesOf (drop (r .next) input) ≡ drop groupLines (linesOf (drop «at» input))

@@ -31,32 +31,53 @@ isBytes v = leb (length v) mostDigits && hexPairs v
 abbrev pub isFlag : List ℕ → Bool
 isFlag v = leb (numberOf v) 1
 
--- a key with its sign, and its good values
+-- a key with its sign, and the values that it takes
 pub record Key : Type 0 where
   pub name : List ℕ
-  pub good : List ℕ → Bool
+  pub takes : List ℕ → Bool
 
--- the keys by their places: three sizes (0 to 2), then the five lines of a group (3 to 7)
+-- the keys by their places: three sizes (0 to 2), then the five lines of a group (3 to 7; document 01: level, frame, at, bytes, save)
 abbrev pub keys : List Key
 keys =
-    record { name = text "mains="; good = isSize }
-    ∷ record { name = text "spares="; good = isSize }
-    ∷ record { name = text "frames="; good = isSize }
-    ∷ record { name = text "level="; good = isNumber }
-    ∷ record { name = text "frame="; good = isNumber }
-    ∷ record { name = text "at="; good = isNumber }
-    ∷ record { name = text "bytes="; good = isBytes }
-    ∷ record { name = text "save="; good = isFlag } ∷ []
+    record { name = text "mains="; takes = isSize }
+    ∷ record { name = text "spares="; takes = isSize }
+    ∷ record { name = text "frames="; takes = isSize }
+    ∷ record { name = text "level="; takes = isNumber }
+    ∷ record { name = text "frame="; takes = isNumber }
+    ∷ record { name = text "at="; takes = isNumber }
+    ∷ record { name = text "bytes="; takes = isBytes }
+    ∷ record { name = text "save="; takes = isFlag } ∷ []
 
 abbrev pub noKey : Key
-noKey = record { name = []; good = isNumber }
+noKey = record { name = []; takes = isNumber }
 
 unfoldable pub key : ℕ → Key
 key k = getD keys k noKey
 
--- the first key of a group
+abbrev pub mainsKey : ℕ
+mainsKey = 0
+
+abbrev pub backupsKey : ℕ
+backupsKey = 1
+
+abbrev pub blocksKey : ℕ
+blocksKey = 2
+
+-- the first key of a group, and the others
 abbrev pub groupKey : ℕ
 groupKey = 3
+
+abbrev pub blockKey : ℕ
+blockKey = 4
+
+abbrev pub offsetKey : ℕ
+offsetKey = 5
+
+abbrev pub bytesKey : ℕ
+bytesKey = 6
+
+abbrev pub checkpointKey : ℕ
+checkpointKey = 7
 
 -- the lines of a group
 abbrev pub groupLines : ℕ
@@ -71,17 +92,17 @@ valueOf k l = take (length l - 1 - length (key k .name)) (drop (length (key k .n
 
 -- a good line: the key, a good value, byte 10
 unfoldable pub goodLine : ℕ → Line → Bool
-goodLine k l = named k l && eqb (getD l (length l - 1) 0) lineEnd && key k .good (valueOf k l)
+goodLine k l = named k l && eqb (getD l (length l - 1) 0) lineEnd && key k .takes (valueOf k l)
 
 -- ---- the first bad line
 
 -- the key that is looked for in a line where key k is next: the line of spares may be left out
 abbrev pub keyFor : ℕ → Line → ℕ
-keyFor k l = cond (eqb k 1 && not (named 1 l)) 2 k
+keyFor k l = cond (eqb k backupsKey && not (named backupsKey l)) blocksKey k
 
 -- the key that comes after key k
 abbrev pub following : ℕ → ℕ
-following k = cond (eqb k 7) groupKey (suc k)
+following k = cond (eqb k checkpointKey) groupKey (suc k)
 
 -- the number of the first bad or missing line where n lines are read and key k is next, or 0 if there is none;
 -- a sheet may end where a group may start
@@ -109,11 +130,11 @@ numberIn k l = numberOf (valueOf k l)
 -- the group of the first five lines
 unfoldable pub groupOf : List Line → Group
 groupOf ls = record {
-  main = numberIn 3 (lineAt ls 0);
-  block = numberIn 4 (lineAt ls 1);
-  offset = numberIn 5 (lineAt ls 2);
-  bytes = hexBytes (valueOf 6 (lineAt ls 3));
-  checkpoint = eqb (numberIn 7 (lineAt ls 4)) 1;
+  main = numberIn groupKey (lineAt ls 0);
+  block = numberIn blockKey (lineAt ls 1);
+  offset = numberIn offsetKey (lineAt ls 2);
+  bytes = hexBytes (valueOf bytesKey (lineAt ls 3));
+  checkpoint = eqb (numberIn checkpointKey (lineAt ls 4)) 1;
 }
 
 -- the first n groups, and all
@@ -130,13 +151,13 @@ defaultBackups mains = mains
 
 -- the place of the line of blocks, which comes after the line of backups or in its place
 unfoldable pub blocksLine : List Line → ℕ
-blocksLine ls = cond (named 1 (lineAt ls 1)) 2 1
+blocksLine ls = cond (named backupsKey (lineAt ls 1)) 2 1
 
 -- the three sizes
 unfoldable pub sizesOf : List Line → Layout
 sizesOf ls =
-    let mains : ℕ = numberIn 0 (lineAt ls 0) in
-    layoutOf mains (cond (named 1 (lineAt ls 1)) (numberIn 1 (lineAt ls 1)) (defaultBackups mains)) (numberIn 2 (lineAt ls (blocksLine ls)))
+    let mains : ℕ = numberIn mainsKey (lineAt ls 0) in
+    layoutOf mains (cond (named backupsKey (lineAt ls 1)) (numberIn backupsKey (lineAt ls 1)) (defaultBackups mains)) (numberIn blocksKey (lineAt ls (blocksLine ls)))
 
 -- a sheet: bad, with the number that it prints, or good
 pub data Script : Type 0 where
@@ -149,4 +170,4 @@ judged zero ls = good (sizesOf ls) (groupsOf (drop (suc (blocksLine ls)) ls))
 judged (suc n) ls = bad (suc n)
 
 unfoldable pub parse : List ℕ → Script
-parse input = cond (ltb mostBytes (length input)) (bad 0) (judged (firstBad 0 0 (linesOf input)) (linesOf input))
+parse input = cond (ltb mostBytes (length input)) (bad 0) (judged (firstBad mainsKey 0 (linesOf input)) (linesOf input))

@@ -37,7 +37,7 @@ const BYTES: u64 = 6;
 const CHECKPOINT: u64 = 7;
 
 // The end of the line that starts at a place: behind its byte 10, or where the input ends.
-pub fn next_line(input: &[u8], at: usize) -> usize
+fn next_line(input: &[u8], at: usize) -> usize
     requires { ⌜ at ≤ length (now input) ⌝ }
     ensures { λ r. ⌜ (r ≡ at + lineLength (drop at (now (input .entry)))) × (r ≤ length (now (input .entry))) ⌝ }
 {
@@ -260,7 +260,7 @@ fn value_of(k: u64, line: &[u8]) -> &[u8]
 }
 
 // The number that stands for key k in a line.
-pub fn number_value(k: u64, line: &[u8]) -> u64
+fn number_value(k: u64, line: &[u8]) -> u64
     ensures { λ r. ⌜ r ≡ numberOf (valueOf k (now (line .entry))) ⌝ }
 {
     number_of(value_of(k, line))
@@ -286,7 +286,7 @@ fn good_bytes(value: &[u8]) -> bool
 
 // Whether a value may stand behind key k.
 fn good_value(k: u64, value: &[u8]) -> bool
-    ensures { λ r. ⌜ r ≡ key k .good (now (value .entry)) ⌝ }
+    ensures { λ r. ⌜ r ≡ key k .takes (now (value .entry)) ⌝ }
 {
     if k == BYTES {
         return good_bytes(value);
@@ -302,7 +302,7 @@ fn good_value(k: u64, value: &[u8]) -> bool
 }
 
 // Whether a line is a good one for key k: the key, a good value, byte 10.
-pub fn good_line(k: u64, line: &[u8]) -> bool
+fn good_line(k: u64, line: &[u8]) -> bool
     ensures { λ r. ⌜ r ≡ goodLine k (now (line .entry)) ⌝ }
 {
     if line.len() == 0 {
