@@ -2,7 +2,7 @@
 use Prim.Native.Nat.{ℕ, zero, suc, _+_, _-_, _*_, _/_, _≤_, _<_}
 use mathlib.Core.Path.{_≡_, refl, sym, ap, _∙_}
 use mathlib.Core.Logic.{_≢_}
-use mathlib.Core.Bool.{Bool, true, false, not, cond, _&&_}
+use mathlib.Core.Bool.{Bool, true, false, not, cond, _&&_, _||_}
 use mathlib.Core.List.{List, [], _∷_}
 use native.Mathlib.Omega.{arith}
 use native.Mathlib.Numerals.{add-one}
@@ -87,10 +87,14 @@ of-other (a ∷ b ∷ c ∷ d ∷ l) x y z = refl
 -- ---- hexadecimal digits
 
 pub hex-low : (b : ℕ) → b ≤ 57 → leb 48 b ≡ isHexDigit b
-hex-low b h = rw (le-leb b 57 h)
+hex-low b h = go (leb 48 b)
+  where
+    go : (a : Bool) → a ≡ ((a && leb b 57) || (leb 97 b && leb b 102))
+    go true = rw (le-leb b 57 h)
+    go false = rw (lt-leb 97 b (omega arith))
 
 pub hex-high : (b : ℕ) → 57 < b → (leb 97 b && leb b 102) ≡ isHexDigit b
-hex-high b h = rw (lt-leb b 57 h)
+hex-high b h = rw (le-leb 48 b (omega arith), lt-leb b 57 h)
 
 pub pairs-done : (v : List ℕ) (i : ℕ) → i ≡ length v → true ≡ hexPairs (drop i v)
 unfolding hexPairs

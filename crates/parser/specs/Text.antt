@@ -2,7 +2,7 @@
 use Prim.Native.Nat.{ℕ, suc, _+_, _-_, _*_}
 use Prim.Native.Char.{code}
 use Prim.Native.String.{String, len, charAt}
-use mathlib.Core.Bool.{Bool, true, false, not, cond, _&&_}
+use mathlib.Core.Bool.{Bool, true, false, not, cond, _&&_, _||_}
 use mathlib.Core.List.{List, [], _∷_}
 use lib.Dec.{leb, eqb}
 use Rattle.model.specs.Range.{cat}
@@ -47,7 +47,7 @@ lineLength (b ∷ bs) = cond (eqb b lineEnd) 1 (suc (lineLength bs))
 abbrev pub noNumber : ℕ
 noNumber = 1000
 
--- a decimal digit, and its number
+-- a decimal digit, `0` to `9`, and its number
 abbrev pub isDigit : ℕ → Bool
 isDigit b = leb 48 b && leb b 57
 
@@ -63,9 +63,9 @@ numberOf (a ∷ b ∷ c ∷ []) =
     cond (isDigit a && isDigit b && isDigit c && not (eqb a 48)) (100 * digitOf a + 10 * digitOf b + digitOf c) noNumber
 numberOf (a ∷ b ∷ c ∷ d ∷ bs) = noNumber
 
--- a lower-case hexadecimal digit, and its number
+-- a lower-case hexadecimal digit, `0` to `9` or `a` to `f`, and its number
 abbrev pub isHexDigit : ℕ → Bool
-isHexDigit b = cond (leb b 57) (leb 48 b) (leb 97 b && leb b 102)
+isHexDigit b = (leb 48 b && leb b 57) || (leb 97 b && leb b 102)
 
 abbrev pub hexDigitOf : ℕ → ℕ
 hexDigitOf b = cond (leb b 57) (b - 48) (b - 87)
