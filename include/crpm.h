@@ -7,13 +7,16 @@
  * the definitions are in crates/capi/specs/ and crates/model/specs/.
  *
  * An image is the contents of the memory. A call reads the image and writes
- * what is to be done to it on a tape: operations, three words each. The
- * caller carries them out, in their order, or lets crpm_replay do so. Only
+ * what is to be done to it on a tape: operations, three words each. On a
+ * module the caller carries them out itself: every store, every flush (clwb)
+ * and every fence (sfence), in their order, before the next call. crpm_replay
+ * only stores into an image, for benches, dumps and simulation. Only
  * crpm_format and crpm_replay change an image.
  *
  * Document 01's words for what is named here: main segment: level; backup
  * segment: spare; block: frame; checkpoint: save; operation: order; session:
- * card; replay: player; format: laying-out; same checkpoint: likeness.
+ * card; trace: tape; replay: player; format: laying-out; same checkpoint:
+ * likeness.
  *
  * Rules for every call
  *  - A buffer is a pointer and a length: of bytes for an image and for the
@@ -63,9 +66,15 @@ extern "C" {
 #define CRPM_MAINS_AT 64   /* main segments: a word */
 #define CRPM_BACKUPS_AT 72 /* backup segments: a word */
 #define CRPM_BLOCKS_AT 80  /* blocks of a segment: a word */
-#define CRPM_STATES_AT 128 /* states for even epochs, then for odd epochs: 64 bytes each */
+#define CRPM_STATES_AT 128 /* states for even epochs, then (at 192) for odd epochs: 64 bytes each */
 #define CRPM_PAIRS_AT 256  /* for each of 64 backup segments its main segment: 64 bytes */
 #define CRPM_UNPAIRED 255  /* the pair byte of a backup segment that has none */
+
+/* The states of a main segment: its checkpoint is all zero, stands in itself,
+   stands in its backup segment. */
+#define CRPM_SS_INITIAL 0
+#define CRPM_SS_MAIN 1
+#define CRPM_SS_BACKUP 2
 
 /* Bytes of an image of M main segments, S backup segments and B blocks in
    each segment; M, S and B are each 1 to CRPM_MOST. */
@@ -107,8 +116,9 @@ enum crpm_status {
 
 /* ---- the calls */
 
-/* Formats an image: epoch 0, these sizes, no checkpoint, all bytes zero.
-   Refusals: 1, 2. */
+/* Formats an image: epoch 0, these sizes, every state 0, no backup segment
+   paired, every segment zero. Whatever was there is lost. A format is not safe
+   against a power cut: format again after one. Refusals: 1, 2. */
 uint64_t crpm_format(
     uint8_t *image, size_t image_length,
     uint64_t mains, uint64_t backups, uint64_t blocks);
@@ -144,8 +154,9 @@ uint64_t crpm_checkpoint(
     uint64_t *tape, size_t tape_length,
     uint64_t *out, size_t out_length);
 
-/* Carries out the first n operations of a tape, or all if there are fewer. A
-   flush and a fence change no byte. Hand over the part of the tape that holds
+/* Carries out the stores among the first n operations of a tape, or among all
+   if there are fewer. It flushes nothing and waits for nothing: on a module,
+   carry out the operations yourself. Hand over the part of the tape that holds
    operations: 3 words for each. Writes to `out` how many operations were
    carried out, and 0. Refusals: 2, 12. */
 uint64_t crpm_replay(

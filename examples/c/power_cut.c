@@ -5,7 +5,7 @@
  * each, opens it, writes the bytes a1 b2 c3 d4 at offset 6 of main segment 0,
  * and makes a checkpoint (document 01: the bench sheet). Then the power fails
  * after 15, 16, 17 and 18 operations of the checkpoint; each time the image
- * is opened again, and what the checkpoint read shows is printed.
+ * is opened again, and what the reads show is printed.
  *
  * After operation 15 all but the epoch is sure to have arrived. Operation 16
  * stores the epoch, 17 flushes its line and 18 is the fence that waits for
@@ -79,25 +79,54 @@ static void write_bytes(uint8_t *image, uint64_t *card)
     replay(image, tape, out[0], out[0]);
 }
 
-/* Prints what the checkpoint read shows of the written bytes. */
-static void show_checkpoint(const uint8_t *image)
-{
-    static const uint8_t zeros[CRPM_BLOCK_SIZE];
-    uint8_t written[CRPM_BLOCK_SIZE] = {0};
-    const uint8_t *block;
-    uint64_t out[CRPM_OUT_WORDS];
+static const uint8_t zeros[CRPM_BLOCK_SIZE];
 
-    memcpy(written + OFFSET, BYTES, sizeof BYTES);
+/* The block as of the last checkpoint, and as it stands now. */
+static const uint8_t *checkpoint_block(const uint8_t *image)
+{
+    uint64_t out[CRPM_OUT_WORDS];
     served("read", crpm_read_checkpoint(image, IMAGE_SIZE, MAINS, BACKUPS, BLOCKS, 0, 0,
                                         out, CRPM_OUT_WORDS));
-    block = out[1] == 0 ? zeros : image + out[0];
+    return out[1] == 0 ? zeros : image + out[0];
+}
+
+static const uint8_t *working_block(const uint8_t *image)
+{
+    uint64_t out[CRPM_OUT_WORDS];
+    served("read", crpm_read_working(image, IMAGE_SIZE, MAINS, BACKUPS, BLOCKS, 0, 0,
+                                     out, CRPM_OUT_WORDS));
+    if (out[1] != CRPM_BLOCK_SIZE)
+        fail("the working read found no block");
+    return image + out[0];
+}
+
+/* Whether two images have the same checkpoint. */
+static int same_checkpoint(const uint8_t *a, const uint8_t *b)
+{
+    uint64_t out[CRPM_OUT_WORDS];
+    served("comparison", crpm_same_checkpoint(a, IMAGE_SIZE, b, IMAGE_SIZE, MAINS, BACKUPS, BLOCKS,
+                                              out, CRPM_OUT_WORDS));
+    return out[0] == 1;
+}
+
+/* Prints what both reads show of the written bytes after an opening, and
+   whether that is the checkpoint of the image before. */
+static void show_checkpoint(const uint8_t *before, const uint8_t *image)
+{
+    uint8_t written[CRPM_BLOCK_SIZE] = {0};
+    const uint8_t *block = checkpoint_block(image);
+
+    memcpy(written + OFFSET, BYTES, sizeof BYTES);
+    if (memcmp(block, working_block(image), CRPM_BLOCK_SIZE) != 0)
+        fail("the two reads differ after an opening");
     if (memcmp(block, zeros, CRPM_BLOCK_SIZE) == 0)
-        printf("zeros\n");
+        printf("zeros");
     else if (memcmp(block, written, CRPM_BLOCK_SIZE) == 0)
-        printf("%02x %02x %02x %02x\n", block[OFFSET], block[OFFSET + 1], block[OFFSET + 2],
+        printf("%02x %02x %02x %02x", block[OFFSET], block[OFFSET + 1], block[OFFSET + 2],
                block[OFFSET + 3]);
     else
         fail("the block is neither the old one nor the new one");
+    printf(", %s\n", same_checkpoint(before, image) ? "the old checkpoint" : "the new checkpoint");
 }
 
 /* Loses power after n operations of the checkpoint, with the line of the
@@ -112,7 +141,7 @@ static void lose_power(const uint8_t *before, const uint64_t *tape, uint64_t ope
     if (!arrived)
         memcpy(image + CRPM_EPOCH_AT, before + CRPM_EPOCH_AT, CRPM_LINE_SIZE);
     reopen(image, card);
-    show_checkpoint(image);
+    show_checkpoint(before, image);
 }
 
 int main(void)

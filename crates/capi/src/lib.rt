@@ -15,13 +15,13 @@ ghost use Rattle.write.specs.Steps.{writeArgsOf};
 ghost use Rattle.capi.specs.Interface.{wordsOf, sessionOf, openReturned, checkpointReturned, Returns, WriteReturns, replayTold, replayImage, workingTold, checkpointTold, sameTold, Tells};
 
 // Words of a session: the three sizes, the dirty segments, and a word of dirty blocks for each main segment.
-pub const SESSION_WORDS: usize = 68;
+const SESSION_WORDS: usize = 68;
 
 // Words of a result.
-pub const RESULT_WORDS: usize = 2;
+const RESULT_WORDS: usize = 2;
 
 // The number of a call whose session or result has another length.
-pub const MISUSE: u64 = 255;
+const MISUSE: u64 = 255;
 
 // Where the words of dirty blocks start, and how many they are.
 const BLOCKS_AT: usize = 4;
@@ -31,7 +31,7 @@ const MOST: usize = Layout::MOST as usize;
 // ---- words
 
 // The session that stands in words.
-pub fn session_of(words: &[u64]) -> Session
+fn session_of(words: &[u64]) -> Session
     requires { ⌜ length (now words) ≡ 68 ⌝ }
     ensures { λ r. ⌜ r ≡ sessionOf (now (words .entry)) ⌝ }
 {
@@ -49,7 +49,7 @@ pub fn session_of(words: &[u64]) -> Session
 }
 
 // Puts a session into words.
-pub fn put_session(words: &mut [u64], session: Session)
+fn put_session(words: &mut [u64], session: Session)
     requires { ⌜ length (now words) ≡ 68 ⌝ }
     ensures { λ _. ⌜ now (words .exit) ≡ wordsOf session ⌝ }
 {
@@ -65,7 +65,7 @@ pub fn put_session(words: &mut [u64], session: Session)
 }
 
 // Puts the two words of a result.
-pub fn put_result(out: &mut [u64], first: u64, second: u64)
+fn put_result(out: &mut [u64], first: u64, second: u64)
     requires { ⌜ length (now out) ≡ 2 ⌝ }
     ensures { λ _. ⌜ now (out .exit) ≡ first ∷ second ∷ [] ⌝ }
 {
@@ -74,7 +74,7 @@ pub fn put_result(out: &mut [u64], first: u64, second: u64)
 }
 
 // Puts the session of an answer, and its number of operations. The number of its status.
-pub fn put_answer(session: &mut [u64], out: &mut [u64], answer: Answer) -> u64
+fn put_answer(session: &mut [u64], out: &mut [u64], answer: Answer) -> u64
     requires { ⌜ (length (now session) ≡ 68) × (length (now out) ≡ 2) ⌝ }
     ensures { λ r. ⌜ r ≡ codeOf (answer .status) ⌝ }
     ensures { λ _. ⌜ now (session .exit) ≡ wordsOf (answer .session) ⌝ }
@@ -88,7 +88,7 @@ pub fn put_answer(session: &mut [u64], out: &mut [u64], answer: Answer) -> u64
 }
 
 // The number of a read that found a part of this size: 0 where there is one.
-pub fn part_code(image: &[u8], layout: Layout, main: u64, block: u64, size: u64) -> u64
+fn part_code(image: &[u8], layout: Layout, main: u64, block: u64, size: u64) -> u64
     requires { ⌜ (size ≢ 0 → readStatus layout (now image) main block ≡ 0) ⌝ }
     ensures { λ r. ⌜ r ≡ readStatus layout (now (image .entry)) main block ⌝ }
 {
