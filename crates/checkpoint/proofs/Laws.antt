@@ -1,16 +1,17 @@
 -- Laws of a checkpoint: what its parts write is `checkpointOps`, and its refusals by the tests that the code makes.
-use Prim.Native.Nat.{ℕ, _+_, _-_, _*_, _^_, _≤_, _<_}
+use Prim.Native.Nat.{ℕ, _+_, _-_, _*_, _/_, _%_, _^_, _≤_, _<_}
 use mathlib.Core.Path.{_≡_, sym, ap, _∙_}
 use mathlib.Core.Logic.{_≢_}
 use mathlib.Core.Bool.{Bool, true, not}
 use mathlib.Core.List.{[], _∷_, _++_}
 use native.Mathlib.Omega.{arith}
-use native.Mathlib.Nat.{add-sub-cancel-left}
+use native.Mathlib.Nat.{add-assoc, add-sub-cancel-left}
 use lib.Dec.{ltb, eqb}
+use lib.Pow.{shr-shr}
 use lib.ListN.{length, getD, take, drop, length-append, length-take, length-drop}
 use borrow.Author.Tests.{lt-ltb, ltb-true, ltb-false, eqb-false}
 use Rattle.model.specs.declared.Session.{Session}
-use Rattle.model.specs.Words.{Image, byteAt, wordOf}
+use Rattle.model.specs.Words.{Image, byteAt, wordOf, wordAt}
 use Rattle.model.specs.Status.{firstError}
 use Rattle.model.specs.Container.{committedEpoch, activeLine, inactiveLine, activeState, containerErrors}
 use Rattle.model.specs.Session.{bit, dirtyWord, dirtySegment, validSession}
@@ -21,10 +22,42 @@ use Rattle.model.proofs.Refusals.{before-refused, served-cons}
 use Rattle.model.proofs.Metadata.{container-ok, container-passes, container-then}
 use Rattle.model.proofs.Places.{metadata-inside}
 use Rattle.model.proofs.Counts.{length-stores}
+use Rattle.words.proofs.Joined.{word-joined}
 use Rattle.trace.specs.Emit.{emit}
 use Rattle.trace.proofs.EmitLaws.{emitted-then, emitted-cons}
 use Rattle.session.proofs.Laws.{valid-session-part}
 use Rattle.trace.proofs.CallLaws.{sizes-known, code-within}
+
+-- ---- the next states
+
+-- the state of segment i by the line of states and the word of dirty segments
+abbrev next : Image → ℕ → ℕ → ℕ → ℕ
+next I line m i = nextState (byteAt I (line + i)) (eqb (bit m i) 1)
+
+-- the state of a segment that is not dirty stays
+state-stays : (I : Image) (line m i : ℕ) → m / 2 ^ i % 2 ≡ 0 → next I line m i ≡ byteAt I (line + i)
+unfolding bit nextState
+state-stays I line m i h = rw h
+
+later-stays : (I : Image) (line m p j : ℕ) → m / 2 ^ p / 2 ^ j % 2 ≡ 0 → next I line m (p + j) ≡ byteAt I (line + p + j)
+later-stays I line m p j h = state-stays I line m (p + j) (ap (λ (x : ℕ). x % 2) (sym (shr-shr m p j)) ∙ h) ∙ ap (byteAt I) (sym (add-assoc line p j))
+
+-- the word of eight segments of which none is dirty stays
+pub word-stays : (I : Image) (line m p : ℕ) → m / 2 ^ p % 256 ≡ 0 → wordAt I (line + p) ≡ wordOf (next I line m) p
+word-stays I line m p h = sym (word-joined (byteAt I) (line + p)) ∙ same ∙ word-joined (next I line m) p
+  where
+    same : wordAt (byteAt I (line + p) ∷ byteAt I (line + p + 1) ∷ byteAt I (line + p + 2) ∷ byteAt I (line + p + 3) ∷ byteAt I (line + p + 4) ∷ byteAt I (line + p + 5) ∷ byteAt I (line + p + 6) ∷ byteAt I (line + p + 7) ∷ []) 0
+        ≡ wordAt (next I line m p ∷ next I line m (p + 1) ∷ next I line m (p + 2) ∷ next I line m (p + 3) ∷ next I line m (p + 4) ∷ next I line m (p + 5) ∷ next I line m (p + 6) ∷ next I line m (p + 7) ∷ []) 0
+    same = rw (
+      state-stays I line m p (omega arith),
+      later-stays I line m p 1 (omega arith),
+      later-stays I line m p 2 (omega arith),
+      later-stays I line m p 3 (omega arith),
+      later-stays I line m p 4 (omega arith),
+      later-stays I line m p 5 (omega arith),
+      later-stays I line m p 6 (omega arith),
+      later-stays I line m p 7 (omega arith),
+    )
 
 -- ---- operations
 

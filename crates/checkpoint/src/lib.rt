@@ -71,12 +71,15 @@ pub fn next_state(image: &[u8], line: usize, segments: u64, i: usize) -> u8
     state
 }
 
-// Word k of the next states.
+// Word k of the next states: where none of its segments is dirty, the word as it stands.
 pub fn next_word(image: &[u8], line: usize, segments: u64, k: usize) -> u64
     requires { ⌜ (k < 8) × (line + 64 ≤ length (now image)) ⌝ }
     ensures { λ r. ⌜ r ≡ wordOf (λ i. nextState (byteAt (now (image .entry)) (line + i)) (eqb (bit segments i) 1)) (8 * k) ⌝ }
 {
     let i = WORD_SIZE * k;
+    if (segments >> i) % 256 == 0 {
+        return words::word_at(image, line + i);
+    }
     words::join(
         next_state(image, line, segments, i),
         next_state(image, line, segments, i + 1),

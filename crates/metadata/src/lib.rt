@@ -131,21 +131,20 @@ pub fn scan_pairs(image: &[u8], mains: u64, backups: usize) -> PairScan
     requires { ⌜ (mains ≤ 64) × (backups ≤ 64) × (320 ≤ length (now image)) ⌝ }
     ensures { λ r. ⌜ Scanned (backupToMain (now (image .entry))) mains backups r ⌝ }
 {
-    let mut paired = [false; 65];
-    let mut ok = true;
+    let mut scan = PairScan {
+        ok: true,
+        paired: [false; 65],
+    };
     let mut j = 0;
     while j < backups {
         let pair = image[Layout::PAIRS_AT as usize + j];
         let i = mark_of(pair, mains);
-        let taken = paired[i];
-        ok = ok & pair_fits(pair, mains, taken);
-        paired[i] = true;
+        let taken = scan.paired[i];
+        scan.ok = scan.ok & pair_fits(pair, mains, taken);
+        scan.paired[i] = true;
         j += 1;
     }
-    PairScan {
-        ok: ok,
-        paired: paired,
-    }
+    scan
 }
 
 // Whether a main segment may be in a state: 1 or 2 if it has a backup segment, else 0 or 1.
@@ -160,9 +159,9 @@ pub fn state_fits(state: u8, paired: bool) -> bool
 }
 
 // Whether the states of main segments fit their pairs.
-pub fn states_fit(image: &[u8], line: usize, mains: usize, paired: [bool; 65]) -> bool
+pub fn states_fit(image: &[u8], line: usize, mains: usize, paired: &[bool; 65]) -> bool
     requires { ⌜ (mains ≤ 64) × (line + 64 ≤ length (now image)) ⌝ }
-    ensures { λ r. ⌜ r ≡ allB mains (λ i. stateFits (getD paired i false) (byteAt (now (image .entry)) (line + i))) ⌝ }
+    ensures { λ r. ⌜ r ≡ allB mains (λ i. stateFits (getD (now (paired .entry)) i false) (byteAt (now (image .entry)) (line + i))) ⌝ }
 {
     let mut ok = true;
     let mut i = 0;
@@ -182,9 +181,8 @@ pub fn metadata_valid(image: &[u8], layout: Layout) -> bool
     let backups = layout.backups as usize;
     let line = active_at(image);
     let scan = scan_pairs(image, layout.mains, backups);
-    let paired = scan.paired;
     let pairs_ok = scan.ok & rest_is(image, Layout::PAIRS_AT as usize, backups, UNPAIRED);
-    let states_ok = states_fit(image, line, mains, paired)
+    let states_ok = states_fit(image, line, mains, &scan.paired)
         & rest_is(image, line, mains, SS_INITIAL);
     pairs_ok & states_ok
 }

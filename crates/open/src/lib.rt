@@ -131,11 +131,10 @@ pub fn count_treated(image: &[u8], layout: Layout) -> u64
     let mains = layout.mains as usize;
     let line = metadata::active_at(image);
     let scan = metadata::scan_pairs(image, layout.mains, layout.backups as usize);
-    let paired = scan.paired;
     let mut sum = 0;
     let mut i = 0;
     while i < mains {
-        sum += treats(recovery_action(image[line + i], paired[i]));
+        sum += treats(recovery_action(image[line + i], scan.paired[i]));
         i += 1;
     }
     sum
@@ -152,12 +151,19 @@ pub fn put_recovery(image: &[u8], layout: Layout, trace: &mut [u64]) -> usize
     let mains = layout.mains;
     let line = metadata::active_at(image);
     let scan = metadata::scan_pairs(image, mains, layout.backups as usize);
-    let paired = scan.paired;
     let mut next: usize = 0;
     let mut i = 0;
     while i < mains {
         let k = i as usize;
-        next = recover_segment(image, layout, image[line + k], paired[k], i, trace, next);
+        next = recover_segment(
+            image,
+            layout,
+            image[line + k],
+            scan.paired[k],
+            i,
+            trace,
+            next,
+        );
         i += 1;
     }
     trace::put_sfence(trace, next);

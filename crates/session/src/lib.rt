@@ -64,31 +64,31 @@ pub fn within(word: u64, n: u64) -> bool
 }
 
 // Whether each of the first `mains` words has no bit set from bit `blocks` on.
-pub fn blocks_within(words: [u64; 64], mains: usize, blocks: u64) -> bool
+pub fn blocks_within(words: &[u64; 64], mains: usize, blocks: u64) -> bool
     requires { ⌜ (mains ≤ 64) × (1 ≤ blocks) × (blocks ≤ 64) ⌝ }
-    ensures { λ r. ⌜ r ≡ allB mains (λ i. ltb (getD words i 0) (2 ^ blocks)) ⌝ }
+    ensures { λ r. ⌜ r ≡ allB mains (λ i. ltb (getD (now (words .entry)) i 0) (2 ^ blocks)) ⌝ }
 {
-    let mut ok = true;
+    let mut seen: u64 = 0;
     let mut i = 0;
     while i < mains {
-        ok = ok & within(words[i], blocks);
+        seen |= words[i];
         i += 1;
     }
-    ok
+    within(seen, blocks)
 }
 
 // Whether the words from `mains` on are 0.
-pub fn rest_clear(words: [u64; 64], mains: usize) -> bool
+pub fn rest_clear(words: &[u64; 64], mains: usize) -> bool
     requires { ⌜ mains ≤ 64 ⌝ }
-    ensures { λ r. ⌜ r ≡ allB 64 (λ i. ltb i mains || eqb (getD words i 0) 0) ⌝ }
+    ensures { λ r. ⌜ r ≡ allB 64 (λ i. ltb i mains || eqb (getD (now (words .entry)) i 0) 0) ⌝ }
 {
-    let mut ok = true;
+    let mut seen: u64 = 0;
     let mut i = mains;
     while i < MOST {
-        ok = ok & (words[i] == 0);
+        seen |= words[i];
         i += 1;
     }
-    ok
+    seen == 0
 }
 
 // Whether main segment i may stand in this state: it is not both dirty and in state 1.
@@ -124,7 +124,7 @@ pub fn session_valid(s: Session, states: &[u8]) -> bool
     let segments = s.dirty_segments;
     let words = s.dirty_blocks;
     let n = mains as usize;
-    let in_blocks = blocks_within(words, n, blocks) & rest_clear(words, n);
+    let in_blocks = blocks_within(&words, n, blocks) & rest_clear(&words, n);
     within(segments, mains) & in_blocks & none_in_main(segments, states, mains)
 }
 

@@ -391,24 +391,15 @@ pub fn early_status(
     0
 }
 
-// The number of the first of refusals 9 and 11 that applies, or 0, for a trace of `room` numbers.
-pub fn late_status(
-    session: Session,
-    main: u64,
-    plan: Plan,
-    at: usize,
-    len: usize,
-    room: usize,
-) -> u64
-    requires { ⌜ (main < 64) × (session .layout .blocks ≤ 64) × (1 ≤ len) × (at + len ≤ 2097664) ⌝ }
-    ensures { λ r. ⌜ r ≡ firstError (lateErrors (noneFree plan (session .layout .backups)) (ltb room (3 * (copyCount plan (session .layout .blocks) (dirtyWord session main) + spanWords at len)))) ⌝ }
+// The number of the first of refusals 9 and 11 that applies, or 0, for a word of dirty blocks and a trace of `room` numbers.
+pub fn late_status(layout: Layout, word: u64, plan: Plan, at: usize, len: usize, room: usize) -> u64
+    requires { ⌜ (layout .blocks ≤ 64) × (1 ≤ len) × (at + len ≤ 2097664) ⌝ }
+    ensures { λ r. ⌜ r ≡ firstError (lateErrors (noneFree plan (layout .backups)) (ltb room (3 * (copyCount plan (layout .blocks) word + spanWords at len)))) ⌝ }
 {
-    let layout = session.layout;
     if none_free(plan, layout.backups) {
         return 9;
     }
-    let i = main as usize;
-    let copied = copy_count(plan, layout.blocks, session.dirty_blocks[i]) as usize;
+    let copied = copy_count(plan, layout.blocks, word) as usize;
     if room < 3 * (copied + span_words(at, len)) {
         return 11;
     }
@@ -430,14 +421,13 @@ pub fn refuse(code: u64, session: Session) -> Answer
     }
 }
 
-// The session after a write: a copy clears the dirty blocks of the main segment; then segment and block are dirty.
-pub fn written_session(session: Session, copied: bool, main: u64, block: u64) -> Session
+// The session after a write to a main segment whose word of dirty blocks was `word`: a copy clears the dirty blocks of the
+// segment; then segment and block are dirty.
+pub fn written_session(session: Session, word: u64, copied: bool, main: u64, block: u64) -> Session
     requires { ⌜ (main < 64) × (block < session .layout .blocks) × (session .layout .blocks ≤ 64) ⌝ }
-    requires { ⌜ dirtyWord session main < 2 ^ session .layout .blocks ⌝ }
+    requires { ⌜ (word ≡ dirtyWord session main) × (word < 2 ^ session .layout .blocks) ⌝ }
     ensures { λ r. ⌜ r ≡ withDirty session main block (cond copied 0 (dirtyWord session main)) ⌝ }
 {
-    let i = main as usize;
-    let word = session.dirty_blocks[i];
     if copied {
         let cleared = session::clear_blocks(word, session.layout.blocks);
         return session::with_dirty(session, main, block, cleared);
@@ -482,12 +472,14 @@ pub fn write_checked(
 {
     let plan = plan_copy(image, session, main);
     let at = span_at(session.layout, main, block, offset);
-    let late = late_status(session, main, plan, at, bytes.len(), trace.len());
+    let i = main as usize;
+    let word = session.dirty_blocks[i];
+    let late = late_status(session.layout, word, plan, at, bytes.len(), trace.len());
     if late != 0 {
         return refuse(late, session);
     }
     let ops = put_write(image, session, main, plan, at, bytes, trace);
-    let next = written_session(session, plan.copy, main, block);
+    let next = written_session(session, word, plan.copy, main, block);
     Answer {
         status: Status::Served,
         session: next,

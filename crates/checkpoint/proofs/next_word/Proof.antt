@@ -1,9 +1,10 @@
-use Prim.Native.Nat.{ℕ, _+_}
+use Prim.Native.Nat.{ℕ, _+_, _*_}
 use mathlib.Core.Path.{_≡_, _∙_}
 use mathlib.Core.List.{[], _∷_}
 use borrow.Author.Needs.{needs}
 use Rattle.model.specs.Words.{wordOf, wordAt}
 use Rattle.words.proofs.Joined.{word-joined}
+use Rattle.checkpoint.proofs.Laws.{word-stays}
 use Rattle.checkpoint.proofs.next_word.Statement.{statement}
 use Rattle.checkpoint.proofs.next_word.Tie as tie
 
@@ -12,6 +13,18 @@ by-joined f p w e = e ∙ word-joined f p
 
 mul-i : tie.Need-mul-i
 mul-i c = search needs
+
+shr-if1 : tie.Need-shr-if1
+shr-if1 c = search needs
+
+add-word-at : tie.Need-add-word-at
+add-word-at c = search needs
+
+word-at-requires : tie.Need-word-at-requires
+word-at-requires c κs = search needs
+
+returns : tie.Need-returns
+returns c = let a = c .before .before .before .args in c .word-at .ensures ∙ word-stays (a .image .now) (a .line) (a .segments) (8 * a .k) (c .before .if1 .taken)
 
 next-state-requires : tie.Need-next-state-requires
 next-state-requires c κs = search needs
@@ -61,8 +74,8 @@ next-state-requires-8 c κs = search needs
 join-requires : tie.Need-join-requires
 join-requires c κs = search needs
 
-returns : tie.Need-returns
-returns c =
+returns-2 : tie.Need-returns-2
+returns-2 c =
     let p₇ = c .before in
     let p₆ = p₇ .before in
     let p₅ = p₆ .before in
@@ -87,6 +100,10 @@ next-word-spec =
     tie.close
     (tie.spec
     mul-i
+    shr-if1
+    add-word-at
+    word-at-requires
+    returns
     next-state-requires
     add-next-state
     next-state-requires-2
@@ -103,4 +120,4 @@ next-word-spec =
     add-next-state-7
     next-state-requires-8
     join-requires
-    returns)
+    returns-2)

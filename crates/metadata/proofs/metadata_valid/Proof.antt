@@ -21,8 +21,8 @@ rest-is-requires-2 c κs = search needs
 returns : tie.Need-returns
 returns c =
     let s = c .before in
-    let p = s .before .before in
-    let k = p .before .before in
+    let p = s .before .before .before in
+    let k = p .before in
     let a = k .before .before .before .args in
     valid-by-scan (a .layout) (a .image .now) _ _ _ _ _ (k .before .active-at .ensures .0) (k .scan-pairs .ensures) (p .rest-is .ensures) (s .states-fit .ensures) (c .rest-is2 .ensures)
 

@@ -14,12 +14,12 @@ use Rattle.metadata.proofs.scan_pairs.Statement.{statement}
 use Rattle.metadata.proofs.scan_pairs.Tie as tie
 
 abbrev Inv-loop : tie.InvT-loop
-Inv-loop image mains backups paired₀ ok₀ j₀ paired ok j =
-    (j ≤ backups) × (length paired ≡ 65) × (ok ≡ allB j (pairFits (backupToMain image) mains))
-    × ((i : ℕ) → i < mains → getD paired i false ≡ anyB j (λ n. eqb (backupToMain image n) i))
+Inv-loop image mains backups scan₀ j₀ scan j =
+    (j ≤ backups) × (length (scan .paired) ≡ 65) × (scan .ok ≡ allB j (pairFits (backupToMain image) mains))
+    × ((i : ℕ) → i < mains → getD (scan .paired) i false ≡ anyB j (λ n. eqb (backupToMain image n) i))
 
 abbrev μ-loop : tie.MeasureT-loop
-μ-loop image mains backups paired₀ ok₀ j₀ paired ok j = backups - j
+μ-loop image mains backups scan₀ j₀ scan j = backups - j
 
 loop-holds : tie.Need-loop-holds Inv-loop μ-loop
 loop-holds c = (search needs, search needs, all-none _, marks-none _ _ (omega arith))
@@ -33,14 +33,14 @@ shared-slice-read-pair c = search needs
 mark-of-requires : tie.Need-mark-of-requires Inv-loop μ-loop
 mark-of-requires c κs = search needs
 
-array-read-taken : tie.Need-array-read-taken Inv-loop μ-loop
-array-read-taken c = search needs
+element-copy-out-taken : tie.Need-element-copy-out-taken Inv-loop μ-loop
+element-copy-out-taken c = search needs
 
 pair-fits-requires : tie.Need-pair-fits-requires Inv-loop μ-loop
 pair-fits-requires c κs = search needs
 
-array-write-paired : tie.Need-array-write-paired Inv-loop μ-loop
-array-write-paired c = search needs
+element-write-scan : tie.Need-element-write-scan Inv-loop μ-loop
+element-write-scan c = search needs
 
 add-j : tie.Need-add-j Inv-loop μ-loop
 add-j c = search needs
@@ -50,15 +50,15 @@ loop-less c = search needs
 
 loop-again : tie.Need-loop-again Inv-loop μ-loop
 loop-again c =
-    let m = c .before in
+    let m = c .before .before in
     let b = m .before .before .before in
     let k = m .mark-of .ensures in
     let a = b .before .before .args in
     let pr = backupToMain (a .image .now) in (
       omega arith,
       rw length-set (b .loop .inv .1),
-      all-more (b .loop .j) _ (b .loop .inv .2) (pair-by-mark (b .loop .paired) pr (a .mains) (b .loop .j) _ _ (k .1) (b .loop .inv .3) (c .pair-fits .ensures)),
-      marks-more (b .loop .paired) pr (a .mains) (b .loop .j) _ (omega arith) (omega arith) (k .1) (k .2) (b .loop .inv .3),
+      all-more (b .loop .j) _ (b .loop .inv .2) (pair-by-mark (b .loop .scan .paired) pr (a .mains) (b .loop .j) _ _ (k .1) (b .loop .inv .3) (c .pair-fits .ensures)),
+      marks-more (b .loop .scan .paired) pr (a .mains) (b .loop .j) _ (omega arith) (omega arith) (k .1) (k .2) (b .loop .inv .3),
     )
 
 returns : tie.Need-returns Inv-loop μ-loop
@@ -77,9 +77,9 @@ scan-pairs-spec =
     add-pair
     shared-slice-read-pair
     mark-of-requires
-    array-read-taken
+    element-copy-out-taken
     pair-fits-requires
-    array-write-paired
+    element-write-scan
     add-j
     loop-less
     loop-again

@@ -25,8 +25,8 @@ add-state-fits c = search needs
 shared-slice-read-state-fits : tie.Need-shared-slice-read-state-fits Inv-loop μ-loop
 shared-slice-read-state-fits c = search needs
 
-array-read-state-fits : tie.Need-array-read-state-fits Inv-loop μ-loop
-array-read-state-fits c = search needs
+element-copy-out-state-fits : tie.Need-element-copy-out-state-fits Inv-loop μ-loop
+element-copy-out-state-fits c = search needs
 
 state-fits-requires : tie.Need-state-fits-requires Inv-loop μ-loop
 state-fits-requires c κs = search needs
@@ -38,7 +38,7 @@ loop-less : tie.Need-loop-less Inv-loop μ-loop
 loop-less c = search needs
 
 loop-again : tie.Need-loop-again Inv-loop μ-loop
-loop-again c = let b = c .before .before .before in (omega arith, all-more (b .loop .i) _ (b .loop .inv .1) (c .state-fits .ensures))
+loop-again c = let b = c .before .before .before .before in (omega arith, all-more (b .loop .i) _ (b .loop .inv .1) (c .state-fits .ensures))
 
 returns : tie.Need-returns Inv-loop μ-loop
 returns c = let e : c .before .loop .i ≡ c .before .before .before .args .mains = omega arith in rw e at (c .before .loop .inv .1)
@@ -52,7 +52,7 @@ states-fit-spec =
     loop-holds
     add-state-fits
     shared-slice-read-state-fits
-    array-read-state-fits
+    element-copy-out-state-fits
     state-fits-requires
     add-i
     loop-less

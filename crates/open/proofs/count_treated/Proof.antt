@@ -20,10 +20,10 @@ abbrev turn : Image → ℕ → List Bool → ℕ → ℕ
 turn image line paired i = acts (recoveryAction (byteAt image (line + i)) (getD paired i false))
 
 abbrev Inv-loop : tie.InvT-loop
-Inv-loop image mains line paired sum₀ i₀ sum i = (i ≤ mains) × (sum ≡ sumTo i (turn image line paired)) × (sum ≤ i)
+Inv-loop image mains line scan sum₀ i₀ sum i = (i ≤ mains) × (sum ≡ sumTo i (turn image line (scan .paired))) × (sum ≤ i)
 
 abbrev μ-loop : tie.MeasureT-loop
-μ-loop image mains line paired sum₀ i₀ sum i = mains - i
+μ-loop image mains line scan sum₀ i₀ sum i = mains - i
 
 active-at-requires : tie.Need-active-at-requires Inv-loop μ-loop
 active-at-requires c κs = search needs
@@ -40,14 +40,14 @@ add-recovery-action c = search needs
 shared-slice-read-recovery-action : tie.Need-shared-slice-read-recovery-action Inv-loop μ-loop
 shared-slice-read-recovery-action c = search needs
 
-array-read-recovery-action : tie.Need-array-read-recovery-action Inv-loop μ-loop
-array-read-recovery-action c = search needs
+element-copy-out-recovery-action : tie.Need-element-copy-out-recovery-action Inv-loop μ-loop
+element-copy-out-recovery-action c = search needs
 
 recovery-action-requires : tie.Need-recovery-action-requires Inv-loop μ-loop
 recovery-action-requires c κs =
     let b = c .before .before .before .before in
     let g = b .before .before .before in
-    rw (b .before .active-at .ensures .0) (g .pre .1 (c .before .before .loop .i) (omega arith))
+    rw (b .before .active-at .ensures .0) (g .pre .1 (c .before .before .before .loop .i) (omega arith))
 
 treats-requires : tie.Need-treats-requires Inv-loop μ-loop
 treats-requires c κs = search needs
@@ -63,8 +63,8 @@ loop-less c = search needs
 
 loop-again : tie.Need-loop-again Inv-loop μ-loop
 loop-again c =
-    let b = c .before .before .before .before in
-    let s = b .before .before in (
+    let b = c .before .before .before .before .before in
+    let s = b .before in (
       omega arith,
       omega (arith, c .treats .ensures .0 ∙ ap acts (c .before .recovery-action .ensures), sum-more (b .loop .i) (turn (s .before .before .before .args .image .now) (s .before .active-at .result) (s .scan-pairs .result .paired))),
       omega (arith, c .treats .ensures .1),
@@ -73,7 +73,7 @@ loop-again c =
 returns : tie.Need-returns Inv-loop μ-loop
 unfolding isPaired
 returns c =
-    let s = c .before .before .before in
+    let s = c .before .before in
     let g = s .before .before .before .args in
     let e : c .before .loop .i ≡ g .layout .mains = omega arith in
     (rw e at (c .before .loop .inv .1) ∙ treated-by (g .layout) (g .image .now) (s .before .active-at .result) (s .scan-pairs .result .paired) (s .before .active-at .ensures .0) (s .scan-pairs .ensures .found), omega arith)
@@ -89,7 +89,7 @@ count-treated-spec =
     loop-holds
     add-recovery-action
     shared-slice-read-recovery-action
-    array-read-recovery-action
+    element-copy-out-recovery-action
     recovery-action-requires
     treats-requires
     add-sum

@@ -22,14 +22,14 @@ abbrev turn : Layout → Image → ℕ → Ops
 turn layout image = recoverSegment layout image (activeLine image)
 
 abbrev Inv-loop : tie.InvT-loop
-Inv-loop image layout trace₀ mains line paired next₀ i₀ trace next i =
+Inv-loop image layout trace₀ mains line scan next₀ i₀ trace next i =
     (i ≤ mains)
     × (length trace ≡ length trace₀)
     × (next ≡ length (cat i (turn layout image)))
     × (trace ≡ emit trace₀ 0 (cat i (turn layout image)))
 
 abbrev μ-loop : tie.MeasureT-loop
-μ-loop image layout trace₀ mains line paired next₀ i₀ trace next i = mains - i
+μ-loop image layout trace₀ mains line scan next₀ i₀ trace next i = mains - i
 
 active-at-requires : tie.Need-active-at-requires Inv-loop μ-loop
 active-at-requires c κs = omega (arith, metadata-inside (c .before .before .args .layout))
@@ -44,23 +44,23 @@ add-recover-segment : tie.Need-add-recover-segment Inv-loop μ-loop
 add-recover-segment c = search needs
 
 shared-slice-read-recover-segment : tie.Need-shared-slice-read-recover-segment Inv-loop μ-loop
-shared-slice-read-recover-segment c = omega (arith, metadata-inside (c .before .before .before .before .before .before .before .before .args .layout))
+shared-slice-read-recover-segment c = omega (arith, metadata-inside (c .before .before .before .before .before .before .before .args .layout))
 
-array-read-recover-segment : tie.Need-array-read-recover-segment Inv-loop μ-loop
-array-read-recover-segment c = search needs
+element-copy-out-recover-segment : tie.Need-element-copy-out-recover-segment Inv-loop μ-loop
+element-copy-out-recover-segment c = search needs
 
 recover-segment-requires : tie.Need-recover-segment-requires Inv-loop μ-loop
 unfolding isPaired
 recover-segment-requires c κs =
-    let b = c .before .before .before in
-    let a = b .before .before .before .active-at .ensures .0 in
-    let g = b .before .before .before .before .before .before in
+    let b = c .before .before .before .before in
+    let a = b .before .before .active-at .ensures .0 in
+    let g = b .before .before .before .before .before in
     let l = g .args .layout in
     let I = g .args .image .now in
     let i = b .loop .i in (
       omega arith,
       (
-        (omega arith, rw a (g .pre .1 .0 i (omega arith)), ap (λ (n : ℕ). byteAt I (n + i)) a, b .before .before .scan-pairs .ensures .found i (omega arith)),
+        (omega arith, rw a (g .pre .1 .0 i (omega arith)), ap (λ (n : ℕ). byteAt I (n + i)) a, b .before .scan-pairs .ensures .found i (omega arith)),
         omega (arith, room-more i (l .mains) (turn l I) (omega arith), length-recovered l I (activeLine I)),
       ),
     )
@@ -74,8 +74,8 @@ loop-less c = search needs
 loop-again : tie.Need-loop-again Inv-loop μ-loop
 loop-again c =
     let f = c .before .before .recover-segment in
-    let b = c .before .before .before .before .before .before in
-    let g = b .before .before .before .before .before .before .args in (
+    let b = c .before .before .before .before .before .before .before in
+    let g = b .before .before .before .before .before .args in (
       omega arith,
       omega arith,
       omega (arith, f .ensures .1, length-more (b .loop .i) (turn (g .layout) (g .image .now))),
@@ -85,14 +85,14 @@ loop-again c =
 put-sfence-requires : tie.Need-put-sfence-requires Inv-loop μ-loop
 put-sfence-requires c κs =
     let b = c .before .before in
-    let g = b .before .before .before .before .before .before .args in
+    let g = b .before .before .before .before .before .args in
     let e : b .loop .i ≡ g .layout .mains = omega arith in
     omega (arith, rw e at (b .loop .inv .2), length-recovered (g .layout) (g .image .now) (activeLine (g .image .now)))
 
 add-result : tie.Need-add-result Inv-loop μ-loop
 add-result c =
     let b = c .before .before .before .before .before in
-    let g = b .before .before .before .before .before .before .args in
+    let g = b .before .before .before .before .before .args in
     let e : b .loop .i ≡ g .layout .mains = omega arith in
     omega (arith, rw e at (b .loop .inv .2), length-recovered (g .layout) (g .image .now) (activeLine (g .image .now)))
 
@@ -103,7 +103,7 @@ returns : tie.Need-returns Inv-loop μ-loop
 unfolding recoveryOps
 returns c =
     let b = c .before .before .before .before .before in
-    let g = b .before .before .before .before .before .before .args in
+    let g = b .before .before .before .before .before .args in
     let e : b .loop .i ≡ g .layout .mains = omega arith in
     let n : b .loop .next ≡ length (cat (g .layout .mains) (turn (g .layout) (g .image .now))) = rw e at (b .loop .inv .2) in (
       emitted-then _ _ _ _ _ _ (b .loop .next) (rw e at (b .loop .inv .3)) (c .before .before .put-sfence .ensures) (omega arith),
@@ -121,7 +121,7 @@ put-recovery-spec =
     loop-holds
     add-recover-segment
     shared-slice-read-recover-segment
-    array-read-recover-segment
+    element-copy-out-recover-segment
     recover-segment-requires
     add-i
     loop-less

@@ -11,12 +11,6 @@ none-free-requires c κs = search needs
 returns : tie.Need-returns
 returns c = first-holds 9 _ _ (sym (c .before .none-free .ensures) ∙ c .if1 .taken)
 
-mul-copy-count : tie.Need-mul-copy-count
-mul-copy-count c = search needs
-
-element-copy-out-copy-count : tie.Need-element-copy-out-copy-count
-element-copy-out-copy-count c = search needs
-
 copy-count-requires : tie.Need-copy-count-requires
 copy-count-requires c κs = search needs
 
@@ -30,11 +24,11 @@ mul-if2 : tie.Need-mul-if2
 mul-if2 c = search needs
 
 returns-2 : tie.Need-returns-2
-returns-2 c = first-fails 9 _ _ _ (sym (c .before .before .before .before .before .none-free .ensures) ∙ c .before .before .before .before .if1 .left)
+returns-2 c = first-fails 9 _ _ _ (sym (c .before .before .before .before .none-free .ensures) ∙ c .before .before .before .if1 .left)
     (first-holds 11 _ _ (lt-ltb _ _ (rw (c .before .before .copy-count .ensures .0, c .before .span-words .ensures) at (c .if2 .taken))))
 
 returns-3 : tie.Need-returns-3
-returns-3 c = first-fails 9 _ _ _ (sym (c .before .before .before .before .before .none-free .ensures) ∙ c .before .before .before .before .if1 .left)
+returns-3 c = first-fails 9 _ _ _ (sym (c .before .before .before .before .none-free .ensures) ∙ c .before .before .before .if1 .left)
     (first-fails 11 _ _ _ (le-ltb _ _ (rw (c .before .before .copy-count .ensures .0, c .before .span-words .ensures) at (c .if2 .left))) first-of-none)
 
 pub late-status-spec : {M : Type 1} → statement M
@@ -43,8 +37,6 @@ late-status-spec =
     (tie.spec
     none-free-requires
     returns
-    mul-copy-count
-    element-copy-out-copy-count
     copy-count-requires
     span-words-requires
     add-if2
