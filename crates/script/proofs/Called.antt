@@ -1,7 +1,7 @@
 -- Laws of a call made on the code's trace: it is the call on the blank trace, and its answer is printed.
 use Prim.Native.Nat.{ℕ}
 use Prim.Native.String.{String}
-use mathlib.Core.Path.{_≡_, sym, ap, ap₂, _∙_}
+use mathlib.Core.Path.{_≡_, sym, ap, _∙_}
 use mathlib.Core.Bool.{Bool, true, false}
 use mathlib.Core.List.{List, _++_}
 use lib.ListN.{length}
@@ -10,7 +10,7 @@ use Rattle.model.specs.declared.Answer.{Answer}
 use Rattle.model.specs.Words.{Image}
 use Rattle.model.specs.Status.{codeOf}
 use Rattle.model.specs.Ops.{Trace, Outcome}
-use Rattle.model.specs.History.{State, Call, outcome, step}
+use Rattle.model.specs.History.{State, Call, outcome}
 use Rattle.driver.specs.Stepped.{Stepped}
 use Rattle.parser.specs.Text.{text}
 use Rattle.printer.specs.Decimal.{decimal, Appended}

@@ -6,3 +6,4 @@ pub mod OpenLaws
 pub mod NextLaws
 pub mod Story
 pub mod SheetLaws
+pub mod Room

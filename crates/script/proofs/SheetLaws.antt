@@ -1,17 +1,17 @@
 -- A sheet: what its judgement and its header give, and its text at the start of the buffer.
 use Prim.Native.Nat.{ℕ, zero, suc, _+_, _*_, _≤_, _<_}
-use mathlib.Core.Path.{_≡_, refl, ap, ap₂, _∙_, subst}
+use mathlib.Core.Path.{_≡_, refl, sym, ap, ap₂, _∙_, subst}
 use mathlib.Core.Bool.{true}
-use mathlib.Core.List.{List}
+use mathlib.Core.List.{List, _++_}
 use native.Mathlib.Omega.{arith}
 use native.Mathlib.Nat.{mul-le-mul}
 use borrow.Author.Tests.{lt-ltb, le-ltb, le-leb}
-use lib.ListN.{length, take, length-take}
+use lib.ListN.{length, take, drop, length-take, take-append-drop}
 use Rattle.io.specs.Counts.{Counts}
 use Rattle.model.specs.declared.Layout.{Layout}
 use Rattle.model.specs.Layout.{sizesOk, inRange, imageSize}
 use Rattle.parser.specs.Text.{text, linesOf}
-use Rattle.parser.specs.Script.{Script, bad, good, Group, firstBad, groupsOf, blocksLine, sizesOf, judged, parse}
+use Rattle.parser.specs.Script.{Script, bad, good, Group, firstBad, groupsOf, blocksLine, judged, parse}
 use Rattle.parser.specs.declared.HeaderAt.{HeaderAt}
 use Rattle.parser.specs.Read.{ReadsHeader}
 use Rattle.parser.proofs.Groups.{GoodSizes, good-sizes}
@@ -81,15 +81,16 @@ pub refused-ran : (n : ℕ) (out out′ : List ℕ) (q : ℕ) → Appended out 0
 refused-ran n out out′ q f = (numberText (text "sheet=") n (text "\n"), refused n, f)
 
 -- what a caller learns
-abbrev pub Sheet : List ℕ → List ℕ → ℕ → Type 0
-Sheet input out q = Counts q out × ((t : List ℕ) × Prints (parse input) t × (take q out ≡ t))
+abbrev pub Sheet : List ℕ → List ℕ → List ℕ → ℕ → Type 0
+Sheet input out out′ q = Counts q out′ × ((t : List ℕ) × Prints (parse input) t × (q ≡ length t) × (out′ ≡ t ++ drop q out))
 
-pub sheet-ran : (input : List ℕ) (s : Script) (out out′ : List ℕ) (q : ℕ) → s ≡ parse input → ScriptRan s out out′ q → Sheet input out′ q
+pub sheet-ran : (input : List ℕ) (s : Script) (out out′ : List ℕ) (q : ℕ) → s ≡ parse input → ScriptRan s out out′ q → Sheet input out out′ q
 sheet-ran input s out out′ q e x =
     let size : q ≡ length (take q out′) = x .2 .place ∙ omega (arith, ap length (x .2 .holds)) in
-    ((omega (arith, size, length-take q out′), size), (x .0, subst (λ (y : Script). Prints y (x .0)) e (x .1), x .2 .holds))
+    let whole : out′ ≡ x .0 ++ drop q out = sym (take-append-drop q out′) ∙ ap₂ _++_ (x .2 .holds) (x .2 .rest) in
+    ((omega (arith, size, length-take q out′), size), (x .0, subst (λ (y : Script). Prints y (x .0)) e (x .1), omega (arith, x .2 .place), whole))
 
 pub sheet-bad : (input : List ℕ) (n : ℕ) (out out′ : List ℕ) (q : ℕ) → length input ≤ 4096 → n ≡ firstBad 0 0 (linesOf input) → (n ≡ 0 → ⊥)
-    → Appended out 0 (numberText (text "sheet=") n (text "\n")) out′ q → Sheet input out′ q
+    → Appended out 0 (numberText (text "sheet=") n (text "\n")) out′ q → Sheet input out out′ q
 sheet-bad input n out out′ q h e z f =
     sheet-ran input (bad n) out out′ q (judged-bad n input z ∙ parse-short input n h e) (refused-ran n out out′ q f)

@@ -1,2 +1,3 @@
 pub mod Prints
 pub mod Ran
+pub mod Room

@@ -2,7 +2,6 @@
 -- which free backup segment a write takes, so what is printed is said for some permitted choice at each write. Assumes nothing.
 use Prim.Native.Nat.{ℕ, suc, _+_}
 use Prim.Native.String.{String}
-use mathlib.Core.Path.{_≡_}
 use mathlib.Core.Bool.{Bool, cond}
 use mathlib.Core.List.{List, [], _∷_, _++_}
 use lib.ListN.{length, replicate}
@@ -11,7 +10,6 @@ use Rattle.model.specs.Container.{committedEpoch}
 use Rattle.model.specs.Format.{formatted}
 use Rattle.model.specs.Ops.{Trace, Outcome}
 use Rattle.model.specs.Open.{openOutcome}
-use Rattle.model.specs.Write.{WriteArgs}
 use Rattle.model.specs.History.{State, Call, callWrite, callCheckpoint, outcome, step, start, Permitted}
 use Rattle.parser.specs.Text.{text}
 use Rattle.parser.specs.Script.{Script, bad, good, Group}

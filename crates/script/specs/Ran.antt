@@ -12,7 +12,7 @@ use Rattle.model.specs.Words.{Image}
 use Rattle.model.specs.Format.{formatted}
 use Rattle.model.specs.History.{State, Call, outcome, step, start, Permitted}
 use Rattle.parser.specs.Text.{text, linesOf}
-use Rattle.parser.specs.Script.{Script, Group, groupKey, firstBad, groupOf, groupsOf}
+use Rattle.parser.specs.Script.{Script, Group, groupKey, firstBad, groupsOf}
 use Rattle.printer.specs.Decimal.{Appended}
 use Rattle.script.specs.declared.Ran.{Ran}
 use Rattle.script.specs.declared.Next.{Next}

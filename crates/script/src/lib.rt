@@ -4,7 +4,7 @@ use model::Session;
 ghost use Prim.Native.Nat.{ℕ, _+_, _≤_, _<_};
 ghost use mathlib.Core.Path.{_≡_};
 ghost use mathlib.Core.List.{List, _++_};
-ghost use lib.ListN.{length, take};
+ghost use lib.ListN.{length, drop};
 ghost use mathlib.Core.Bool.{true};
 ghost use Rattle.model.specs.Layout.{sizesOk, imageSize};
 ghost use Rattle.model.specs.History.{callWrite};
@@ -324,7 +324,7 @@ fn run_good(input: &[u8], out: &mut [u8]) -> usize
 // Runs a sheet, puts what it prints at the start of a buffer, and answers how many bytes that are.
 pub fn run_sheet(input: &[u8], out: &mut [u8; MOST_TEXT]) -> usize
     ensures { λ r. ⌜ Counts r (now (out .exit)) ⌝ }
-    ensures { λ r. ⌜ ((t : List ℕ) × Prints (parse (now (input .entry))) t × (take r (now (out .exit)) ≡ t)) ⌝ }
+    ensures { λ r. ⌜ ((t : List ℕ) × Prints (parse (now (input .entry))) t × (r ≡ length t) × (now (out .exit) ≡ t ++ drop r (now (out .entry)))) ⌝ }
 {
     if MOST_BYTES < input.len() {
         return put_number(out, 0, b"sheet=", 0, b"\n");
