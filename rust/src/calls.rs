@@ -76,7 +76,7 @@ impl fmt::Display for Sizes {
 }
 
 /// The session card.
-#[derive(Clone, PartialEq, Eq, Debug)]
+#[derive(Clone, Copy, PartialEq, Eq, Debug)]
 pub struct Card {
     pub sizes: Sizes,
     pub touched: u64,

@@ -91,7 +91,7 @@ impl<G: Calls, T: Calls> Calls for Compared<'_, G, T> {
     }
 
     fn open(&self, image: &[u8], sizes: Sizes, card: &mut Card, tape: &mut [u64]) -> Answer {
-        let (kept, mut tape_due, mut card_due) = (image.to_vec(), tape.to_vec(), card.clone());
+        let (kept, mut tape_due, mut card_due) = (image.to_vec(), tape.to_vec(), *card);
         let due = self.good.open(image, sizes, &mut card_due, &mut tape_due);
         let got = self.tested.open(image, sizes, card, tape);
         let same = due == got && *card == card_due && tape_due == tape && kept == image;
@@ -102,7 +102,7 @@ impl<G: Calls, T: Calls> Calls for Compared<'_, G, T> {
     }
 
     fn write(&self, image: &[u8], card: &mut Card, target: Target, bytes: &[u8], tape: &mut [u64]) -> Answer {
-        let (kept, mut tape_due, mut card_due) = (image.to_vec(), tape.to_vec(), card.clone());
+        let (kept, mut tape_due, mut card_due) = (image.to_vec(), tape.to_vec(), *card);
         let due = self.good.write(image, &mut card_due, target, bytes, &mut tape_due);
         let got = self.tested.write(image, card, target, bytes, tape);
         let same = due == got && *card == card_due && tape_due == tape && kept == image;
@@ -113,7 +113,7 @@ impl<G: Calls, T: Calls> Calls for Compared<'_, G, T> {
     }
 
     fn save(&self, image: &[u8], card: &mut Card, tape: &mut [u64]) -> Answer {
-        let (kept, mut tape_due, mut card_due) = (image.to_vec(), tape.to_vec(), card.clone());
+        let (kept, mut tape_due, mut card_due) = (image.to_vec(), tape.to_vec(), *card);
         let due = self.good.save(image, &mut card_due, &mut tape_due);
         let got = self.tested.save(image, card, tape);
         let same = due == got && *card == card_due && tape_due == tape && kept == image;

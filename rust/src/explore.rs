@@ -182,7 +182,7 @@ impl<'a, C: Calls> Explorer<'a, C> {
         deed: &Deed,
         tape: &mut [u64],
     ) -> Result<Answer, String> {
-        let mut unchanged = card.clone();
+        let mut unchanged = *card;
         let answer = match deed {
             Deed::Open(sizes) => {
                 unchanged = Card::zeros();

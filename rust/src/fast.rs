@@ -1,6 +1,7 @@
 //! The calls in safe Rust as one would write them for speed, for the
-//! benchmarks: no list of orders, straight onto the tape, with the same
-//! interface of slices as the library (card of 68 words, results of 2 words).
+//! benchmarks: no list of orders, straight onto the tape, with the library's
+//! interface of slices (card of 68 words, results of 2 words, 255 for other
+//! lengths) and the card by value behind it, as document 01 has it.
 //!
 //! The calls are not inlined, as the library's are not.
 //!
@@ -195,18 +196,13 @@ fn spare_of(image: &[u8], level: usize) -> usize {
     image[PAIRS..PAIRS + LINE].iter().position(|paired| *paired as usize == level).unwrap_or(0)
 }
 
-fn sizes_of(card: &[u64]) -> Sizes {
-    Sizes::new(card[0], card[1], card[2])
-}
-
-fn card_is_true(own: u64, card: &[u64]) -> bool {
-    let (levels, frames) = (card[0] as usize, card[2]);
-    let (touched, marks) = (card[3], &card[4..]);
+fn card_is_true(own: u64, card: &Card) -> bool {
+    let (below, beyond) = card.marks.split_at(card.sizes.levels as usize);
     let over = |bits: u64, size: u64| bits >> (size - 1) >> 1 != 0;
-    !over(touched, card[0])
-        && touched & own == 0
-        && !over(marks[..levels].iter().fold(0, |all, m| all | m), frames)
-        && marks[levels..].iter().fold(0, |all, m| all | m) == 0
+    !over(card.touched, card.sizes.levels)
+        && card.touched & own == 0
+        && !over(below.iter().fold(0, |all, m| all | m), card.sizes.frames)
+        && beyond.iter().fold(0, |all, m| all | m) == 0
 }
 
 #[inline(never)]
@@ -225,24 +221,39 @@ pub fn format(image: &mut [u8], sizes: Sizes) -> u64 {
     0
 }
 
-/// The number of a finished call; its orders go to the results.
-fn answered(result: Result<usize, u64>, out: &mut [u64]) -> u64 {
-    out[0] = result.unwrap_or(0) as u64;
-    out[1] = 0;
-    result.err().unwrap_or(0)
+/// What the interface answers to a card or results of another length.
+const MISUSE: u64 = 255;
+
+/// What opening, write and save answer.
+struct Served {
+    card: Card,
+    orders: usize,
+}
+
+/// Puts an answer into the card's words and the results; a refused call hands
+/// back this card.
+fn answered(
+    result: Result<Served, u64>,
+    refused: Card,
+    words: &mut [u64; CARD_WORDS],
+    out: &mut [u64; 2],
+) -> u64 {
+    let (number, card, orders) = match result {
+        Ok(served) => (0, served.card, served.orders),
+        Err(number) => (number, refused, 0),
+    };
+    *words = card.to_words();
+    *out = [orders as u64, 0];
+    number
 }
 
 #[inline(never)]
 pub fn open<F: Form>(image: &[u8], sizes: Sizes, card: &mut [u64], tape: &mut [u64], out: &mut [u64]) -> u64 {
-    card.fill(0);
-    let result = opening::<F>(image, sizes, tape);
-    if result.is_ok() {
-        card[..3].copy_from_slice(&[sizes.levels, sizes.spares, sizes.frames]);
-    }
-    answered(result, out)
+    let (Ok(words), Ok(out)) = (card.try_into(), out.try_into()) else { return MISUSE };
+    answered(opening::<F>(image, sizes, tape), Card::zeros(), words, out)
 }
 
-fn opening<F: Form>(image: &[u8], sizes: Sizes, tape: &mut [u64]) -> Result<usize, u64> {
+fn opening<F: Form>(image: &[u8], sizes: Sizes, tape: &mut [u64]) -> Result<Served, u64> {
     let sound = Sound::of(image, sizes)?;
     let (levels, frames) = (sizes.levels as usize, sizes.frames as usize);
     let untreated = sound.own & !sound.paired;
@@ -261,7 +272,7 @@ fn opening<F: Form>(image: &[u8], sizes: Sizes, tape: &mut [u64]) -> Result<usiz
         }
     }
     put(tape, count - 1, [3, 0, 0]);
-    Ok(count)
+    Ok(Served { card: Card::fresh(sizes), orders: count })
 }
 
 /// Copies frame after frame from the source's start to the place.
@@ -280,7 +291,11 @@ pub fn write<F: Form>(
     tape: &mut [u64],
     out: &mut [u64],
 ) -> u64 {
-    answered(writing::<F>(image, card, target, bytes, tape), out)
+    let (Ok(words), Ok(out)) = (<&mut [u64; CARD_WORDS]>::try_from(card), out.try_into()) else {
+        return MISUSE;
+    };
+    let card = Card::from_words(words);
+    answered(writing::<F>(image, card, target, bytes, tape), card, words, out)
 }
 
 /// What a write does before its own words.
@@ -292,15 +307,15 @@ enum Before {
 
 fn writing<F: Form>(
     image: &[u8],
-    card: &mut [u64],
+    mut card: Card,
     target: Target,
     bytes: &[u8],
     tape: &mut [u64],
-) -> Result<usize, u64> {
-    let sizes = sizes_of(card);
+) -> Result<Served, u64> {
+    let sizes = card.sizes;
     let sound = Sound::of(image, sizes)?;
     let length = bytes.len();
-    if !card_is_true(sound.own, card) {
+    if !card_is_true(sound.own, &card) {
         return Err(5);
     }
     if target.level >= sizes.levels {
@@ -313,9 +328,9 @@ fn writing<F: Form>(
         return Err(8);
     }
     let (level, frame, offset) = (target.level as usize, target.frame as usize, target.offset as usize);
-    let marks = card[4 + level];
+    let marks = card.marks[level];
     let pairs = &image[PAIRS..PAIRS + sizes.spares as usize];
-    let needs_copy = (sound.own & !card[3]) >> level & 1 == 1;
+    let needs_copy = (sound.own & !card.touched) >> level & 1 == 1;
     let before = match (needs_copy, sound.paired >> level & 1) {
         (false, _) => Before::Nothing,
         (true, 0) => Before::Pair(sound.free_spare(pairs).ok_or(9u64)?),
@@ -335,13 +350,13 @@ fn writing<F: Form>(
     }
     if copied > 0 {
         turn(image, sound.active, level, &mut tape[3 * (copied - 4)..]);
-        card[4 + level] = 0;
+        card.marks[level] = 0;
     }
     let first = sizes.in_level(level, frame) + offset;
     span(image, first, bytes, &mut tape[3 * copied..]);
-    card[3] |= 1 << level;
-    card[4 + level] |= 1 << frame;
-    Ok(copied + words)
+    card.touched |= 1 << level;
+    card.marks[level] |= 1 << frame;
+    Ok(Served { card, orders: copied + words })
 }
 
 fn byte_in_word(image: &[u8], at: usize, byte: u8) -> [u64; 3] {
@@ -395,22 +410,26 @@ fn span(image: &[u8], first: usize, bytes: &[u8], tape: &mut [u64]) {
 
 #[inline(never)]
 pub fn save(image: &[u8], card: &mut [u64], tape: &mut [u64], out: &mut [u64]) -> u64 {
-    answered(saving(image, card, tape), out)
+    let (Ok(words), Ok(out)) = (<&mut [u64; CARD_WORDS]>::try_from(card), out.try_into()) else {
+        return MISUSE;
+    };
+    let card = Card::from_words(words);
+    answered(saving(image, card, tape), card, words, out)
 }
 
-fn saving(image: &[u8], card: &mut [u64], tape: &mut [u64]) -> Result<usize, u64> {
-    let sizes = sizes_of(card);
+fn saving(image: &[u8], mut card: Card, tape: &mut [u64]) -> Result<Served, u64> {
+    let sizes = card.sizes;
     let sound = Sound::of(image, sizes)?;
-    if !card_is_true(sound.own, card) {
+    if !card_is_true(sound.own, &card) {
         return Err(5);
     }
     let epoch = sound.epoch.checked_add(1).ok_or(10u64)?;
     let levels = sizes.levels as usize;
-    let marked: u32 = card[4..4 + levels].iter().map(|m| m.count_ones()).sum();
+    let marked: u32 = card.marks[..levels].iter().map(|m| m.count_ones()).sum();
     let count = 4 * marked as usize + 14;
     let tape = tape.get_mut(..3 * count).ok_or(11u64)?;
     let mut at = 0;
-    for (l, &word) in card[4..4 + levels].iter().enumerate() {
+    for (l, &word) in card.marks[..levels].iter().enumerate() {
         let mut marks = word;
         while marks != 0 {
             flushes(tape, at, sizes.in_level(l, marks.trailing_zeros() as usize));
@@ -420,7 +439,7 @@ fn saving(image: &[u8], card: &mut [u64], tape: &mut [u64]) -> Result<usize, u64
     }
     let idle = EVEN_STATES + ODD_STATES - sound.active;
     let mut states: [u8; LINE] = image[sound.active..sound.active + LINE].try_into().unwrap_or([0; LINE]);
-    let mut touched = card[3];
+    let mut touched = card.touched;
     while touched != 0 {
         states[touched.trailing_zeros() as usize] = 1;
         touched &= touched - 1;
@@ -434,13 +453,16 @@ fn saving(image: &[u8], card: &mut [u64], tape: &mut [u64]) -> Result<usize, u64
     put(tape, at + 11, [1, 0, epoch]);
     put(tape, at + 12, [2, 0, 0]);
     put(tape, at + 13, [3, 0, 0]);
-    card[3] = 0;
-    Ok(count)
+    card.touched = 0;
+    Ok(Served { card, orders: count })
 }
 
 #[inline(never)]
 pub fn replay<F: Form>(image: &mut [u8], tape: &[u64], n: u64, out: &mut [u64]) -> u64 {
-    answered(playing::<F>(image, tape, n), out)
+    let Ok(out) = <&mut [u64; 2]>::try_from(out) else { return MISUSE };
+    let played = playing::<F>(image, tape, n);
+    *out = [played.unwrap_or(0) as u64, 0];
+    played.err().unwrap_or(0)
 }
 
 fn playing<F: Form>(image: &mut [u8], tape: &[u64], n: u64) -> Result<usize, u64> {
@@ -461,10 +483,9 @@ fn playing<F: Form>(image: &mut [u8], tape: &[u64], n: u64) -> Result<usize, u64
 
 #[inline(never)]
 pub fn read(page: Page, image: &[u8], sizes: Sizes, level: u64, frame: u64, out: &mut [u64]) -> u64 {
+    let Ok(out) = <&mut [u64; 2]>::try_from(out) else { return MISUSE };
     let found = reading(page, image, sizes, level, frame);
-    let start = found.unwrap_or(None);
-    out[0] = start.unwrap_or(0) as u64;
-    out[1] = start.map_or(0, |_| FRAME as u64);
+    *out = found.unwrap_or(None).map_or([0, 0], |start| [start as u64, FRAME as u64]);
     found.err().unwrap_or(0)
 }
 
@@ -487,9 +508,9 @@ fn reading(page: Page, image: &[u8], sizes: Sizes, level: u64, frame: u64) -> Re
 
 #[inline(never)]
 pub fn same(first: &[u8], second: &[u8], sizes: Sizes, out: &mut [u64]) -> u64 {
+    let Ok(out) = <&mut [u64; 2]>::try_from(out) else { return MISUSE };
     let alike = likeness(first, second, sizes);
-    out[0] = u64::from(alike.unwrap_or(false));
-    out[1] = 0;
+    *out = [u64::from(alike.unwrap_or(false)), 0];
     alike.err().unwrap_or(0)
 }
 

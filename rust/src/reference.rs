@@ -262,7 +262,7 @@ impl Reference {
             return Err(Refusal::Span);
         }
         let (level, frame) = (target.level as usize, target.frame as usize);
-        let mut next = card.clone();
+        let mut next = *card;
         let mut orders = Vec::new();
         if let (Level::Own { spare }, 0) = (board.levels[level], card.touched >> level & 1) {
             match spare {
@@ -354,7 +354,7 @@ impl Reference {
         orders.extend([Order::Flush { place: idle }, Order::Fence]);
         orders.push(Order::Store { place: EPOCH, word: epoch });
         orders.extend([Order::Flush { place: EPOCH }, Order::Fence]);
-        let mut next = card.clone();
+        let mut next = *card;
         next.touched = 0;
         if self.has(Fault::MarksClearedAtSave) {
             next.marks = [0; 64];

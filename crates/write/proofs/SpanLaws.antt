@@ -1,5 +1,5 @@
 -- Laws of a span: bytes and words of an image with the span's bytes laid over it, and the test of its end.
-use Prim.Native.Nat.{ℕ, zero, suc, _+_, _-_, _≤_, _<_}
+use Prim.Native.Nat.{ℕ, zero, suc, _+_, _-_, _*_, _≤_, _<_}
 use mathlib.Core.Path.{_≡_, refl, sym, ap, _∙_}
 use mathlib.Core.List.{List, [], _∷_}
 use native.Mathlib.Omega.{arith}
@@ -31,6 +31,11 @@ number-inside (suc n) f a bs p q h e l =
 pub word-inside : (f : ℕ → ℕ) (a : ℕ) (bs : List ℕ) (p : ℕ) → a ≤ p → p - a + 8 ≤ length bs → wordAt bs (p - a) ≡ wordOf (overlay f a bs) p
 unfolding wordOf
 word-inside f a bs p h l = number-inside 8 f a bs p (p - a) h refl l
+
+-- word k of bytes that start a word
+pub word-whole : (f : ℕ → ℕ) (a : ℕ) (bs : List ℕ) (k : ℕ) → 8 * k + 8 ≤ length bs → wordAt bs (8 * k) ≡ wordOf (overlay f a bs) (a + 8 * k)
+unfolding wordOf
+word-whole f a bs k l = number-inside 8 f a bs (a + 8 * k) (8 * k) (omega arith) (omega arith) l
 
 -- the span's end, tested without a sum
 pub span-over : (offset len : ℕ) → offset ≤ 256 → ltb (256 - offset) len ≡ ltb 256 (offset + len)

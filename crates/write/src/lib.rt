@@ -7,7 +7,7 @@ use model::Status;
 ghost use mathlib.Core.Path.{_≡_};
 ghost use mathlib.Core.Bool.{true, cond, _||_};
 ghost use mathlib.Core.List.{[], _∷_, _++_};
-ghost use Prim.Native.Nat.{ℕ, _+_, _*_, _%_, _^_, _≤_, _<_};
+ghost use Prim.Native.Nat.{ℕ, _+_, _*_, _/_, _%_, _^_, _≤_, _<_};
 ghost use lib.Dec.{eqb, ltb};
 ghost use lib.ListN.{length};
 ghost use Rattle.model.specs.Words.{byteAt, wordOf, overlay};
@@ -15,7 +15,7 @@ ghost use Rattle.model.specs.Layout.{mainAt, backupAt};
 ghost use Rattle.model.specs.Status.{codeOf, firstError};
 ghost use Rattle.model.specs.Container.{activeState};
 ghost use Rattle.model.specs.Session.{dirtyWord, withDirty, validSession};
-ghost use Rattle.model.specs.Ops.{sfence, storeByte, wordPlace, Gives};
+ghost use Rattle.model.specs.Ops.{sfence, storeByte, stores, wordPlace, Gives};
 ghost use Rattle.model.specs.Open.{copySegment};
 ghost use Rattle.model.specs.Write.{pairOps, copyDirty, backupOps, stateOps, spanWords, writeOutcome, Chosen};
 ghost use Rattle.model.specs.Counts.{dirtyCount};
@@ -128,6 +128,27 @@ pub fn span_at(layout: Layout, main: u64, block: u64, offset: u64) -> usize
     metadata::main_at(layout, main) + (Layout::BLOCK_SIZE * block + offset) as usize
 }
 
+// Stores bytes that are whole words, upward, from the start of a word on; they are not written back. What they are laid over
+// does not matter.
+pub fn put_words(at: usize, bytes: &[u8], trace: &mut [u64], n: usize)
+    requires { ⌜ at + length (now bytes) ≤ 4294967296 ⌝ }
+    requires { ⌜ 3 * (n + length (now bytes) / 8) ≤ length (now trace) ⌝ }
+    ensures { λ _. ⌜ ((f : ℕ → ℕ) → now (trace .exit) ≡ emit (now (trace .entry)) n (stores (length (now (bytes .entry)) / 8) at (λ k. wordOf (overlay f at (now (bytes .entry))) (at + 8 * k)))) ⌝ }
+{
+    let count = bytes.len() / WORD_SIZE;
+    let mut k: usize = 0;
+    while k < count {
+        let from = WORD_SIZE * k;
+        trace::put_store(
+            trace,
+            n + k,
+            (at + from) as u64,
+            words::word_at(bytes, from),
+        );
+        k += 1;
+    }
+}
+
 // Stores the words that a span meets, upward, with the bytes laid over what stands there; they are not written back. The
 // number of operations then on the trace.
 pub fn put_span(image: &[u8], at: usize, bytes: &[u8], trace: &mut [u64], n: usize) -> usize
@@ -138,6 +159,10 @@ pub fn put_span(image: &[u8], at: usize, bytes: &[u8], trace: &mut [u64], n: usi
     ensures { λ r. ⌜ r ≡ n + spanWords at (length (now (bytes .entry))) ⌝ }
 {
     let count = span_words(at, bytes.len());
+    if (at % WORD_SIZE == 0) & (bytes.len() % WORD_SIZE == 0) {
+        put_words(at, bytes, trace, n);
+        return n + count;
+    }
     let start = WORD_SIZE * (at / WORD_SIZE);
     let mut k: usize = 0;
     while k < count {

@@ -3,8 +3,8 @@
 //! many rounds; beside them the limits, a memset of the bytes that the tape
 //! takes and a memcpy of the image.
 //!
-//! Same machine, same inputs, same interface of slices, both built for
-//! release. All buffers are allocated and written before the first round and
+//! Same machine, same inputs, same interface of slices, the card by value on
+//! both sides, both built for release. All buffers are allocated and written before the first round and
 //! are not cleared between rounds. Before measuring, all sides must give the
 //! same answers. The last line is `worst: rust=R small=Q limit=L`: R is the
 //! greatest ratio of the library's time to Rust's over calls of 1,000 orders
@@ -42,7 +42,7 @@ mod with_library {
     use std::time::Instant;
 
     const SIZES: [Sizes; 3] = [Sizes::new(2, 1, 1), Sizes::new(16, 8, 16), Sizes::new(64, 64, 64)];
-    const ROUNDS: usize = 61;
+    const ROUNDS: usize = 151;
     const ROUND_NANOSECONDS: f64 = 200_000.0;
     const MANY_ORDERS: u64 = 1000;
 
@@ -228,6 +228,20 @@ mod with_library {
         memset: f64,
     }
 
+    impl Row {
+        /// The columns of the table; a call without orders has no tape.
+        fn told(&self) -> String {
+            let form = format!("{:?}", self.form).to_lowercase();
+            let ratio = self.library / self.rust;
+            let tape = match self.orders {
+                0 => format!("{:>11} {:>6}", "-", "-"),
+                _ => format!("{:>11.1} {:>6.2}", self.memset, self.library / self.memset),
+            };
+            let Row { orders, library, rust, .. } = self;
+            format!("{orders:>7} {library:>11.1} {rust:>11.1} {form:>8} {ratio:>6.2} {tape}")
+        }
+    }
+
     fn median(mut times: Vec<f64>) -> f64 {
         times.sort_by(f64::total_cmp);
         times[times.len() / 2]
@@ -272,7 +286,7 @@ mod with_library {
     }
 
     pub fn run() -> Result<(), String> {
-        let (mut worst, mut small, mut limit) = (0.0f64, 0.0f64, 0.0f64);
+        let (mut worst, mut small, mut limit, mut replay) = (0.0f64, 0.0f64, 0.0f64, 0.0f64);
         println!("times in nanoseconds a call; ratio = library / best Rust form; tape = library / memset");
         for sizes in SIZES {
             println!("sizes {sizes}: memcpy of the image {:.0}", memcpy_of_image(sizes));
@@ -282,22 +296,14 @@ mod with_library {
             );
             for case in &mut cases(sizes) {
                 let row = measure(case)?;
-                let ratio = row.library / row.rust;
-                let to_limit = if row.orders == 0 { 0.0 } else { row.library / row.memset };
-                println!(
-                    "  {:<26} {:>7} {:>11.1} {:>11.1} {:>8} {:>6.2} {:>11.1} {:>6.2}",
-                    case.name,
-                    row.orders,
-                    row.library,
-                    row.rust,
-                    format!("{:?}", row.form).to_lowercase(),
-                    ratio,
-                    row.memset,
-                    to_limit
-                );
+                let (ratio, to_limit) = (row.library / row.rust, row.library / row.memset);
+                println!("  {:<26} {}", case.name, row.told());
                 match row.replay || row.orders >= MANY_ORDERS {
                     true => worst = worst.max(ratio),
                     false => small = small.max(ratio),
+                }
+                if row.replay {
+                    replay = replay.max(ratio);
                 }
                 if sizes == SIZES[2] && matches!(case.action, Action::Open) {
                     limit = limit.max(to_limit);
@@ -305,6 +311,7 @@ mod with_library {
             }
         }
         workloads()?;
+        println!("replay: worst ratio {replay:.2}");
         println!("worst: rust={worst:.2} small={small:.2} limit={limit:.2}");
         Ok(())
     }

@@ -1,12 +1,15 @@
-use Prim.Native.Nat.{_+_, _-_, _*_, _≤_}
+use Prim.Native.Nat.{_+_, _-_, _*_, _/_, _%_, _≤_}
 use mathlib.Core.Path.{_≡_}
 use native.Mathlib.Omega.{arith}
+use lib.Dec.{eqb}
 use lib.ListN.{length}
+use borrow.Author.Tests.{eqb-true}
 use borrow.Author.Needs.{needs}
 use Rattle.model.specs.Words.{byteAt, wordOf, overlay}
 use Rattle.model.specs.Ops.{stores, wordPlace}
 use Rattle.model.specs.Write.{spanWords}
 use Rattle.model.proofs.Counts.{length-stores}
+use Rattle.model.proofs.Range.{and-left, and-right}
 use Rattle.trace.specs.Emit.{emit}
 use Rattle.trace.proofs.EmitLaws.{emitted-none, emitted-more}
 use Rattle.write.proofs.put_span.Statement.{statement}
@@ -23,6 +26,24 @@ abbrev μ-loop : tie.MeasureT-loop
 
 span-words-requires : tie.Need-span-words-requires Inv-loop μ-loop
 span-words-requires c κs = search needs
+
+put-words-requires : tie.Need-put-words-requires Inv-loop μ-loop
+put-words-requires c κs = search needs
+
+add-result : tie.Need-add-result Inv-loop μ-loop
+add-result c = search needs
+
+same-length : tie.Need-same-length Inv-loop μ-loop
+same-length c = search needs
+
+returns : tie.Need-returns Inv-loop μ-loop
+returns c = let a = c .before .before .before .before .before .before .before .before .before .args in
+    let t = c .before .before .before .before .if1 .taken in
+    let x : a .at % 8 ≡ 0 = eqb-true (a .at % 8) 0 (and-left (eqb (a .at % 8) 0) _ t) in
+    let y : length (a .bytes .now) % 8 ≡ 0 = eqb-true (length (a .bytes .now) % 8) 0 (and-right (eqb (a .at % 8) 0) _ t) in
+    let e : wordPlace (a .at) ≡ a .at = omega arith in
+    let d : spanWords (a .at) (length (a .bytes .now)) ≡ length (a .bytes .now) / 8 = omega arith in
+    (rw (e, d) (c .before .before .put-words .ensures (byteAt (a .image .now))), omega arith)
 
 mul-start : tie.Need-mul-start Inv-loop μ-loop
 mul-start c = search needs
@@ -55,22 +76,22 @@ loop-less c = search needs
 loop-again : tie.Need-loop-again Inv-loop μ-loop
 unfolding stores
 loop-again c = let l = c .before .before .before .before .before .before .loop in
-    let a = c .before .before .before .before .before .before .before .before .before .before .before .args in (
+    let a = c .before .before .before .before .before .before .before .before .before .before .before .before .args in (
       search needs,
       search needs,
       emitted-more _ _ _ _ _ _ _ (l .inv .2) (rw (c .before .before .before .span-word .ensures) at (c .before .before .put-store .ensures))
           (omega (arith, length-stores (l .k) (wordPlace (a .at)) (λ j. wordOf (overlay (byteAt (a .image .now)) (a .at) (a .bytes .now)) (wordPlace (a .at) + 8 * j)))),
     )
 
-add-result : tie.Need-add-result Inv-loop μ-loop
-add-result c = search needs
+add-result-2 : tie.Need-add-result-2 Inv-loop μ-loop
+add-result-2 c = search needs
 
-same-length : tie.Need-same-length Inv-loop μ-loop
-same-length c = search needs
+same-length-2 : tie.Need-same-length-2 Inv-loop μ-loop
+same-length-2 c = search needs
 
-returns : tie.Need-returns Inv-loop μ-loop
-returns c = let l = c .before .loop in
-    let a = c .before .before .before .before .before .before .args in
+returns-2 : tie.Need-returns-2 Inv-loop μ-loop
+returns-2 c = let l = c .before .loop in
+    let a = c .before .before .before .before .before .before .before .args in
     let e : l .k ≡ spanWords (a .at) (length (a .bytes .now)) = omega arith in
     (rw e at (l .inv .2), omega arith)
 
@@ -81,6 +102,10 @@ put-span-spec =
     Inv-loop
     μ-loop
     span-words-requires
+    put-words-requires
+    add-result
+    same-length
+    returns
     mul-start
     loop-holds
     mul-place
@@ -91,6 +116,6 @@ put-span-spec =
     add-k
     loop-less
     loop-again
-    add-result
-    same-length
-    returns)
+    add-result-2
+    same-length-2
+    returns-2)
