@@ -1,0 +1,115 @@
+use Prim.Native.Nat.{_≤_, _-_}
+use borrow.Author.Needs.{needs}
+use Rattle.bench.proofs.next_way.Statement.{statement}
+use Rattle.bench.proofs.next_way.Tie as tie
+use Rattle.bench.proofs.next_way.Reads as reads
+use Rattle.bench.proofs.next_way.Lts as lts
+use Rattle.bench.proofs.one_more.Reads as one-more-reads
+
+abbrev Inv-loop : tie.InvT-loop
+Inv-loop lines next₀ l₀ next l = l ≤ 20
+
+abbrev μ-loop : tie.MeasureT-loop
+μ-loop lines next₀ l₀ next l = 20 - l
+
+-- src/main.rt:247:5
+loop-holds : tie.Need-loop-holds Inv-loop μ-loop
+loop-holds c = search needs
+
+-- src/main.rt:248:12
+mul-if1 : tie.Need-mul-if1 Inv-loop μ-loop
+mul-if1 c = search needs
+
+-- src/main.rt:248:12
+array-read-if1 : tie.Need-array-read-if1 Inv-loop μ-loop
+array-read-if1 c = search needs
+
+-- src/main.rt:248:22
+mul-if1-2 : tie.Need-mul-if1-2 Inv-loop μ-loop
+mul-if1-2 c = search needs
+
+-- src/main.rt:248:22
+element-copy-out-if1 : tie.Need-element-copy-out-if1 Inv-loop μ-loop
+element-copy-out-if1 c = search needs
+
+-- src/main.rt:249:32
+mul-one-more : tie.Need-mul-one-more Inv-loop μ-loop
+mul-one-more c = search needs
+
+-- src/main.rt:249:32
+array-read-one-more : tie.Need-array-read-one-more Inv-loop μ-loop
+array-read-one-more c = search needs
+
+-- src/main.rt:249:23
+one-more-requires : tie.Need-one-more-requires Inv-loop μ-loop
+one-more-requires c κs = search needs
+
+-- src/main.rt:249:13
+mul-next : tie.Need-mul-next Inv-loop μ-loop
+mul-next c = search needs
+
+-- src/main.rt:249:13
+array-write-next : tie.Need-array-write-next Inv-loop μ-loop
+array-write-next c = search needs
+
+-- src/main.rt:250:13
+returns : tie.Need-returns Inv-loop μ-loop
+returns c = search needs
+
+-- src/main.rt:255:19
+mul-next-2 : tie.Need-mul-next-2 Inv-loop μ-loop
+mul-next-2 c = search needs
+
+-- src/main.rt:255:19
+element-copy-out-next : tie.Need-element-copy-out-next Inv-loop μ-loop
+element-copy-out-next c = search needs
+
+-- src/main.rt:255:9
+mul-next-3 : tie.Need-mul-next-3 Inv-loop μ-loop
+mul-next-3 c = search needs
+
+-- src/main.rt:255:9
+array-write-next-2 : tie.Need-array-write-next-2 Inv-loop μ-loop
+array-write-next-2 c = search needs
+
+-- src/main.rt:256:9
+add-l : tie.Need-add-l Inv-loop μ-loop
+add-l c = search needs
+
+-- src/main.rt:247:5
+loop-less : tie.Need-loop-less Inv-loop μ-loop
+loop-less c = search needs
+
+-- src/main.rt:247:5
+loop-again : tie.Need-loop-again Inv-loop μ-loop
+loop-again c = search needs
+
+-- src/main.rt:244:1
+returns-2 : tie.Need-returns-2 Inv-loop μ-loop
+returns-2 c = search needs
+
+pub next-way-spec : {M : Type 1} → statement M
+next-way-spec =
+    tie.close
+    (tie.spec
+    Inv-loop
+    μ-loop
+    loop-holds
+    mul-if1
+    array-read-if1
+    mul-if1-2
+    element-copy-out-if1
+    mul-one-more
+    array-read-one-more
+    one-more-requires
+    mul-next
+    array-write-next
+    returns
+    mul-next-2
+    element-copy-out-next
+    mul-next-3
+    array-write-next-2
+    add-l
+    loop-less
+    loop-again
+    returns-2)
