@@ -7,49 +7,36 @@ use Rattle.bench.proofs.cuts.Lts as lts
 use Rattle.bench.proofs.cut.Reads as cut-reads
 
 abbrev Inv-loop : tie.InvT-loop
-Inv-loop name held log bench first last orders₀ orders = first ≤ orders
+Inv-loop held log at book case end ops₀ ops = ops₀ ≤ ops
 
 abbrev μ-loop : tie.MeasureT-loop
-μ-loop name held log bench first last orders₀ orders = last - orders
+μ-loop held log at book case end ops₀ ops = end - ops
 
--- src/main.rt:314:5
+-- src/main.rt:357:5
 loop-holds : tie.Need-loop-holds Inv-loop μ-loop
 loop-holds c = search needs
 
--- src/main.rt:315:9
+-- src/main.rt:358:9
 cut-requires : tie.Need-cut-requires Inv-loop μ-loop
 cut-requires c κs = search needs
 
--- src/main.rt:316:9
-add-orders : tie.Need-add-orders Inv-loop μ-loop
-add-orders c = search needs
+-- src/main.rt:359:9
+add-ops : tie.Need-add-ops Inv-loop μ-loop
+add-ops c = search needs
 
--- src/main.rt:314:5
+-- src/main.rt:357:5
 loop-less : tie.Need-loop-less Inv-loop μ-loop
 loop-less c = search needs
 
--- src/main.rt:314:5
+-- src/main.rt:357:5
 loop-again : tie.Need-loop-again Inv-loop μ-loop
 loop-again c = search needs
 
--- src/main.rt:318:5
-cut-requires-2 : tie.Need-cut-requires-2 Inv-loop μ-loop
-cut-requires-2 c κs = search needs
-
--- src/main.rt:312:1
+-- src/main.rt:353:1
 returns : tie.Need-returns Inv-loop μ-loop
 returns c = search needs
 
 pub cuts-spec : {M : Type 1} → statement M
 cuts-spec =
     tie.close
-    (tie.spec
-    Inv-loop
-    μ-loop
-    loop-holds
-    cut-requires
-    add-orders
-    loop-less
-    loop-again
-    cut-requires-2
-    returns)
+    (tie.spec Inv-loop μ-loop loop-holds cut-requires add-ops loop-less loop-again returns)

@@ -1,0 +1,60 @@
+use Prim.Native.Nat.{_≤_, _-_}
+use borrow.Author.Needs.{needs}
+use Rattle.bench.proofs.history.Statement.{statement}
+use Rattle.bench.proofs.history.Tie as tie
+use Rattle.bench.proofs.history.Reads as reads
+use Rattle.bench.proofs.history.Lts as lts
+use Rattle.bench.proofs.step.Reads as step-reads
+
+abbrev Inv-loop : tie.InvT-loop
+Inv-loop image₀ log₀ book₀ held bench₀ i₀ image log book bench i = i ≤ 11
+
+abbrev μ-loop : tie.MeasureT-loop
+μ-loop image₀ log₀ book₀ held bench₀ i₀ image log book bench i = 11 - i
+
+-- src/main.rt:533:5
+loop-holds : tie.Need-loop-holds Inv-loop μ-loop
+loop-holds c = search needs
+
+-- src/main.rt:534:20
+mul-call : tie.Need-mul-call Inv-loop μ-loop
+mul-call c = search needs
+
+-- src/main.rt:534:20
+array-copy-out-call : tie.Need-array-copy-out-call Inv-loop μ-loop
+array-copy-out-call c = search needs
+
+-- src/main.rt:535:9
+step-requires : tie.Need-step-requires Inv-loop μ-loop
+step-requires c κs = search needs
+
+-- src/main.rt:536:9
+add-i : tie.Need-add-i Inv-loop μ-loop
+add-i c = search needs
+
+-- src/main.rt:533:5
+loop-less : tie.Need-loop-less Inv-loop μ-loop
+loop-less c = search needs
+
+-- src/main.rt:533:5
+loop-again : tie.Need-loop-again Inv-loop μ-loop
+loop-again c = search needs
+
+-- src/main.rt:521:1
+returns : tie.Need-returns Inv-loop μ-loop
+returns c = search needs
+
+pub history-spec : {M : Type 1} → statement M
+history-spec =
+    tie.close
+    (tie.spec
+    Inv-loop
+    μ-loop
+    loop-holds
+    mul-call
+    array-copy-out-call
+    step-requires
+    add-i
+    loop-less
+    loop-again
+    returns)
