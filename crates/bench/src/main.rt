@@ -10,6 +10,7 @@ use libc::STDOUT_FILENO;
 use model::Answer;
 use model::Layout;
 use model::Session;
+use std::num::wrapping_add_u64;
 ghost use Prim.Native.Nat.{_≤_, _<_};
 ghost use lib.ListN.{length};
 
@@ -28,8 +29,8 @@ const PAGE: usize = 512;
 // The lines of the image.
 const LINES: usize = 20;
 
-// The numbers of the log, on which the orders of the history stand one after the other.
-const LOG: usize = 600;
+// The numbers of the log, on which the orders of a history stand one after the other.
+const LOG: usize = 1200;
 
 // The most ways that are tried for a cut.
 const MOST_WAYS: u64 = 100000;
@@ -50,11 +51,16 @@ fn print_number(name: &[u8], n: u64) {
     io::print_decimal(STDOUT_FILENO, n);
 }
 
-// Prints how a call ended and how many orders it reports.
+// Prints how a call ended, how many orders it reports, and the card: the levels touched and the marks of levels 0 and 1, a bit
+// each.
 fn print_answer(name: &[u8], answer: Answer) {
     let status = answer.status;
+    let session = answer.session;
     print_number(name, status.code());
     print_number(b" orders=", answer.ops);
+    print_number(b" touched=", session.dirty_segments);
+    print_number(b" marks=", session.dirty_blocks[0]);
+    print_number(b",", session.dirty_blocks[1]);
 }
 
 // Prints an order: kind, place, and the word in hexadecimal.
@@ -74,31 +80,33 @@ fn print_ops(trace: &[u64], ops: u64) {
     }
 }
 
-// Prints the length of a saved read and, if there is one, where it starts.
-fn print_saved(name: &[u8], image: &[u8], main: u64) {
-    let saved = reads::crpm_read_checkpoint(image, MAINS, BACKUPS, BLOCKS, main, 0);
+// Prints the length of the saved read of a level's frame 0 and, if it is not 0, where it starts.
+fn print_saved(name: &[u8], image: &[u8], layout: Layout, main: u64) {
+    let part = reads::checkpoint_part(image, layout, main, 0);
+    let saved = reads::crpm_read_checkpoint(
+        image,
+        layout.mains,
+        layout.backups,
+        layout.blocks,
+        main,
+        0,
+    );
     print_number(name, saved.len() as u64);
     if saved.len() != 0 {
-        let layout = Layout::new(MAINS, BACKUPS, BLOCKS);
-        let part = reads::checkpoint_part(image, layout, main, 0);
         print_number(b"@", part.start);
     }
 }
 
-// Prints two bytes of an image.
-fn print_bytes(name: &[u8], image: &[u8], at: usize) {
-    print_number(name, byte_at(image, at));
-    print_number(b",", byte_at(image, std::num::wrapping_add_usize(at, 1)));
-}
-
-// Prints the epoch, the first two states of either line, the first pair, and both saved reads.
-fn print_image(image: &[u8]) {
+// Prints the epoch, the states of levels 0 and 1 on either line, the first pair, and the saved reads of levels 0 and 1.
+fn print_image(image: &[u8], layout: Layout) {
     print_number(b" epoch=", byte_at(image, 0));
-    print_bytes(b" at128=", image, 128);
-    print_bytes(b" at192=", image, 192);
+    print_number(b" at128=", byte_at(image, 128));
+    print_number(b",", byte_at(image, 129));
+    print_number(b" at192=", byte_at(image, 192));
+    print_number(b",", byte_at(image, 193));
     print_number(b" at256=", byte_at(image, 256));
-    print_saved(b" saved=", image, 0);
-    print_saved(b",", image, 1);
+    print_saved(b" saved=", image, layout, 0);
+    print_saved(b",", image, layout, 1);
     print(b"\n");
 }
 
@@ -111,16 +119,16 @@ fn number_at(trace: &[u64], at: usize) -> u64 {
 
 // A byte of an image, or 0 past its end.
 fn byte_at(image: &[u8], at: usize) -> u64 {
-    if at < image.len() { wide(image[at]) } else { 0 }
-}
-
-fn wide(byte: u8) -> u64 {
-    byte as u64
+    if at < image.len() {
+        metadata::wide(image[at])
+    } else {
+        0
+    }
 }
 
 // The place on the log after some orders that start at a place, if the log goes so far.
 fn after(at: usize, ops: u64) -> usize
-    ensures { λ r. ⌜ r ≤ 2400 ⌝ }
+    ensures { λ r. ⌜ r ≤ 4800 ⌝ }
 {
     if LOG <= at {
         return LOG;
@@ -136,11 +144,6 @@ fn within(log: &[u64], at: usize) -> usize
     ensures { λ r. ⌜ r ≤ length (now (log .entry)) ⌝ }
 {
     if at < log.len() { at } else { log.len() }
-}
-
-// One more, of a number that no run brings near its end.
-fn one_more(n: u64) -> u64 {
-    std::num::wrapping_add_u64(n, 1)
 }
 
 // The line that holds a place of the image.
@@ -165,7 +168,7 @@ fn counted(lines: Lines, kind: u64, place: u64) -> Lines {
     let l = line_of(place);
     let mut next = lines;
     if kind == trace::OP_STORE {
-        next.stores[l] = one_more(next.stores[l]);
+        next.stores[l] = wrapping_add_u64(next.stores[l], 1);
     }
     if kind == trace::OP_CLWB {
         next.flushed[l] = next.stores[l];
@@ -236,19 +239,15 @@ fn shows_main(image: &[u8], part: &[u8], main: u64) -> bool {
     same(saved, part)
 }
 
-// Whether both reads show, in every level, the page that starts at a place of the book.
-fn shows(image: &[u8], book: &[u8], page: usize) -> bool {
-    if PAGE < page {
+// Whether both reads show a page in every level.
+fn shows(image: &[u8], page: &[u8]) -> bool {
+    if page.len() < PAGE {
         return false;
     }
-    if book.len() < page + PAGE {
+    if !shows_main(image, &page[0..BLOCK], 0) {
         return false;
     }
-    let second = page + BLOCK;
-    if !shows_main(image, &book[page..second], 0) {
-        return false;
-    }
-    shows_main(image, &book[second..second + BLOCK], 1)
+    shows_main(image, &page[BLOCK..PAGE], 1)
 }
 
 // What the ways of a cut show.
@@ -259,26 +258,26 @@ struct Tally {
     other: u64,
 }
 
-// Opens an image that a crash left, and counts which page of the book it shows.
-fn judged(tally: Tally, image: &mut [u8], book: &[u8]) -> Tally {
+// Opens an image that a crash left, and counts which page it shows.
+fn judged(tally: Tally, image: &mut [u8], old: [u8; 512], new: [u8; 512]) -> Tally {
     let mut trace = [0u64; 219];
     let mut next = tally;
-    next.stages = one_more(next.stages);
+    next.stages = wrapping_add_u64(next.stages, 1);
     let opened = driver::step_open(image, MAINS, BACKUPS, BLOCKS, &mut trace);
     let status = opened.status;
     if status.code() != 0 {
-        next.other = one_more(next.other);
+        next.other = wrapping_add_u64(next.other, 1);
         return next;
     }
-    if shows(image, book, 0) {
-        next.old = one_more(next.old);
+    if shows(image, &old) {
+        next.old = wrapping_add_u64(next.old, 1);
         return next;
     }
-    if shows(image, book, PAGE) {
-        next.new = one_more(next.new);
+    if shows(image, &new) {
+        next.new = wrapping_add_u64(next.new, 1);
         return next;
     }
-    next.other = one_more(next.other);
+    next.other = wrapping_add_u64(next.other, 1);
     next
 }
 
@@ -294,7 +293,7 @@ fn next_way(takes: [u64; 20], lines: Lines) -> Way {
     let mut l = 0;
     while l < LINES {
         if next[l] < lines.stores[l] {
-            next[l] = one_more(next[l]);
+            next[l] = wrapping_add_u64(next[l], 1);
             return Way {
                 takes: next,
                 found: true,
@@ -310,14 +309,16 @@ fn next_way(takes: [u64; 20], lines: Lines) -> Way {
 }
 
 // One way: the image that it leaves, opened and judged.
-fn try_way(tally: Tally, held: [u8; 1280], ops: &[u64], takes: [u64; 20], book: &[u8]) -> Tally {
+fn try_way(tally: Tally, held: [u8; 1280], ops: &[u64], takes: [u64; 20], bench: Bench) -> Tally {
     let mut image = held;
+    let old = bench.saved;
+    let new = bench.working;
     arrive_all(&mut image, ops, takes);
-    judged(tally, &mut image, book)
+    judged(tally, &mut image, old, new)
 }
 
 // Every way, from the least that each line holds to all its stores.
-fn try_ways(held: [u8; 1280], ops: &[u64], book: &[u8]) -> Tally {
+fn try_ways(held: [u8; 1280], ops: &[u64], bench: Bench) -> Tally {
     let lines = count_lines(ops);
     let mut tally = Tally {
         stages: 0,
@@ -328,7 +329,7 @@ fn try_ways(held: [u8; 1280], ops: &[u64], book: &[u8]) -> Tally {
     let mut takes = lines.durable;
     let mut left = MOST_WAYS;
     while 0 < left {
-        tally = try_way(tally, held, ops, takes, book);
+        tally = try_way(tally, held, ops, takes, bench);
         let way = next_way(takes, lines);
         if !way.found {
             return tally;
@@ -339,10 +340,10 @@ fn try_ways(held: [u8; 1280], ops: &[u64], book: &[u8]) -> Tally {
     tally
 }
 
-// Cuts a call after some of its orders, which start at a place of the log.
-fn cut(case: u64, held: [u8; 1280], log: &[u64], at: usize, ops: u64, book: &[u8]) {
-    let end = within(log, after(at, ops));
-    let tally = try_ways(held, &log[0..end], book);
+// Cuts a call after some of its orders, where the history stood at `bench` before the call.
+fn cut(case: u64, held: [u8; 1280], log: &[u64], bench: Bench, ops: u64) {
+    let end = within(log, after(bench.used, ops));
+    let tally = try_ways(held, &log[0..end], bench);
     print_number(b"P", case);
     print_number(b" cut=", ops);
     print_number(b" stages=", tally.stages);
@@ -353,76 +354,37 @@ fn cut(case: u64, held: [u8; 1280], log: &[u64], at: usize, ops: u64, book: &[u8
 }
 
 // Takes the cuts of a call.
-fn cuts(call: Call, held: [u8; 1280], log: &[u64], at: usize, book: &[u8]) {
+fn cuts(call: Call, held: [u8; 1280], log: &[u64], bench: Bench) {
     let case = call.case;
     let end = call.end;
     let mut ops = call.first;
     while ops < end {
-        cut(case, held, log, at, ops, book);
+        cut(case, held, log, bench, ops);
         ops += 1;
     }
 }
 
-// ---- the book
+// ---- histories
 
-// Puts a byte into the book, if it goes so far.
-fn put_byte(book: &mut [u8], at: usize, byte: u8) {
-    if at < book.len() {
-        book[at] = byte;
-    }
-}
-
-// Puts bytes into the book from a place on.
-fn put(book: &mut [u8], at: usize, bytes: &[u8]) {
-    let mut i = 0;
-    while i < bytes.len() {
-        put_byte(book, std::num::wrapping_add_usize(at, i), bytes[i]);
-        i += 1;
-    }
-}
-
-// Copies the working page, the book's second, to the saved one.
-fn copy_page(book: &mut [u8]) {
-    let mut i = 0;
-    while i < PAGE {
-        let byte = byte_at(book, i + PAGE);
-        put_byte(book, i, (byte % 256) as u8);
-        i += 1;
-    }
-}
-
-// The book after a call. A served write lies within its frame, so no remainder here changes a place.
-fn keep_book(book: &mut [u8], call: Call, bytes: &[u8], code: u64) {
-    if code != 0 {
-        return;
-    }
-    if call.checkpoint {
-        copy_page(book);
-        return;
-    }
-    let place = call.main % MAINS * BLOCK as u64 + call.offset % BLOCK as u64;
-    put(book, PAGE + place as usize, bytes);
-}
-
-// ---- the history
-
-// A call of the history: a save, or a write of so many bytes to the one frame of a level. It is cut after each number of
-// orders from `first` on and below `end`.
+// A call: a save, or a write of so many bytes. It is cut after each number of orders from `first` on and below `end`.
 struct Call {
     case: u64,
     checkpoint: bool,
     main: u64,
+    block: u64,
     offset: u64,
     length: usize,
     first: u64,
     end: u64,
 }
 
-const CALLS: [Call; 11] = [
+// P3 to P9 are one history, and P10 is another.
+const CALLS: [Call; 16] = [
     Call {
         case: 3,
         checkpoint: false,
         main: 0,
+        block: 0,
         offset: 6,
         length: 4,
         first: 0,
@@ -432,6 +394,7 @@ const CALLS: [Call; 11] = [
         case: 4,
         checkpoint: true,
         main: 0,
+        block: 0,
         offset: 0,
         length: 0,
         first: 0,
@@ -441,6 +404,7 @@ const CALLS: [Call; 11] = [
         case: 5,
         checkpoint: false,
         main: 0,
+        block: 0,
         offset: 0,
         length: 8,
         first: 34,
@@ -450,6 +414,7 @@ const CALLS: [Call; 11] = [
         case: 6,
         checkpoint: false,
         main: 0,
+        block: 0,
         offset: 8,
         length: 8,
         first: 0,
@@ -459,6 +424,7 @@ const CALLS: [Call; 11] = [
         case: 7,
         checkpoint: false,
         main: 1,
+        block: 0,
         offset: 0,
         length: 8,
         first: 0,
@@ -468,6 +434,7 @@ const CALLS: [Call; 11] = [
         case: 8,
         checkpoint: true,
         main: 0,
+        block: 0,
         offset: 0,
         length: 0,
         first: 0,
@@ -477,6 +444,7 @@ const CALLS: [Call; 11] = [
         case: 8,
         checkpoint: false,
         main: 1,
+        block: 0,
         offset: 8,
         length: 8,
         first: 34,
@@ -486,6 +454,7 @@ const CALLS: [Call; 11] = [
         case: 8,
         checkpoint: false,
         main: 0,
+        block: 0,
         offset: 16,
         length: 8,
         first: 0,
@@ -495,6 +464,7 @@ const CALLS: [Call; 11] = [
         case: 9,
         checkpoint: false,
         main: 1,
+        block: 0,
         offset: 255,
         length: 1,
         first: 0,
@@ -504,6 +474,7 @@ const CALLS: [Call; 11] = [
         case: 9,
         checkpoint: false,
         main: 1,
+        block: 0,
         offset: 256,
         length: 1,
         first: 0,
@@ -513,17 +484,70 @@ const CALLS: [Call; 11] = [
         case: 9,
         checkpoint: false,
         main: 1,
+        block: 0,
         offset: 0,
         length: 0,
         first: 0,
         end: 0,
     },
+    Call {
+        case: 10,
+        checkpoint: false,
+        main: 0,
+        block: 2,
+        offset: 0,
+        length: 8,
+        first: 0,
+        end: 0,
+    },
+    Call {
+        case: 10,
+        checkpoint: true,
+        main: 0,
+        block: 0,
+        offset: 0,
+        length: 0,
+        first: 0,
+        end: 0,
+    },
+    Call {
+        case: 10,
+        checkpoint: false,
+        main: 0,
+        block: 3,
+        offset: 0,
+        length: 8,
+        first: 0,
+        end: 0,
+    },
+    Call {
+        case: 10,
+        checkpoint: true,
+        main: 0,
+        block: 0,
+        offset: 0,
+        length: 0,
+        first: 0,
+        end: 0,
+    },
+    Call {
+        case: 10,
+        checkpoint: false,
+        main: 0,
+        block: 1,
+        offset: 0,
+        length: 8,
+        first: 0,
+        end: 0,
+    },
 ];
 
-// Where the history stands: the card, and how many numbers of the log hold orders.
+// Where a history stands: the card, how many numbers of the log hold orders, and the two pages of the book.
 struct Bench {
     session: Session,
     used: usize,
+    saved: [u8; 512],
+    working: [u8; 512],
 }
 
 // The first n bytes, or all if there are fewer.
@@ -531,86 +555,97 @@ fn first_of(bytes: &[u8], n: usize) -> &[u8] {
     if n < bytes.len() { &bytes[0..n] } else { bytes }
 }
 
-// A save.
-fn save(image: &mut [u8], trace: &mut [u64], session: Session) -> Answer {
-    let answer = driver::step_checkpoint(image, session, trace);
-    print_answer(b" save=", answer);
-    answer
+// A page with bytes put on it from a place of a level on. They lie within a page, so no remainder here changes a place.
+fn page_after(page: [u8; 512], main: u64, offset: u64, bytes: &[u8]) -> [u8; 512] {
+    let start = (main % MAINS * BLOCK as u64 + offset % BLOCK as u64) as usize;
+    let mut next = page;
+    let mut i = 0;
+    while i < bytes.len() {
+        next[(start + i) % PAGE] = bytes[i];
+        i += 1;
+    }
+    next
 }
 
-// A write.
-fn write(
-    image: &mut [u8],
-    trace: &mut [u64],
-    session: Session,
-    call: Call,
-    bytes: &[u8],
-) -> Answer {
-    print_number(b" level=", call.main);
-    print_number(b" at=", call.offset);
-    print_number(b" length=", bytes.len() as u64);
-    let answer = driver::step_write(image, session, call.main, 0, call.offset, bytes, trace);
-    print_answer(b" write=", answer);
-    answer
+// Where a history stands after a call: the book is fed what the call was given and whether it was served.
+fn kept(bench: Bench, call: Call, answer: Answer, bytes: &[u8]) -> Bench {
+    let status = answer.status;
+    let mut next = bench;
+    let session = answer.session;
+    let working = bench.working;
+    next.session = session;
+    next.used = after(bench.used, answer.ops);
+    if status.code() != 0 {
+        return next;
+    }
+    if call.checkpoint {
+        next.saved = working;
+        return next;
+    }
+    let page = page_after(working, call.main, call.offset, bytes);
+    next.working = page;
+    next
 }
 
-// A call of the history, with its orders.
+// Makes a call.
 fn make(image: &mut [u8], trace: &mut [u64], session: Session, call: Call, bytes: &[u8]) -> Answer {
     print_number(b"P", call.case);
     if call.checkpoint {
-        return save(image, trace, session);
+        let saved = driver::step_checkpoint(image, session, trace);
+        print_answer(b" save=", saved);
+        return saved;
     }
-    write(image, trace, session, call, bytes)
+    print_number(b" level=", call.main);
+    print_number(b" frame=", call.block);
+    print_number(b" at=", call.offset);
+    print_number(b" length=", bytes.len() as u64);
+    let written = driver::step_write(
+        image,
+        session,
+        call.main,
+        call.block,
+        call.offset,
+        bytes,
+        trace,
+    );
+    print_answer(b" write=", written);
+    written
 }
 
-// Prints what a call left, and takes its cuts.
-fn look(image: &[u8], log: &[u64], at: usize, held: [u8; 1280], call: Call, ops: u64, book: &[u8]) {
-    let from = within(log, at);
-    print_ops(&log[from..], ops);
-    print_image(image);
-    cuts(call, held, log, at, book);
-}
-
-// A call of the history: it is made, looked at and cut, and then the book is kept.
-fn step(
-    image: &mut [u8],
-    log: &mut [u64],
-    book: &mut [u8],
-    held: [u8; 1280],
-    bench: Bench,
-    call: Call,
-) -> Bench {
+// A call of a history, on what is left of the log: made, looked at and cut.
+fn step(image: &mut [u8], log: &mut [u64], held: [u8; 1280], bench: Bench, call: Call) -> Bench {
     let bytes = BYTES;
     let given = first_of(&bytes, call.length);
-    let before = bench.session;
+    let session = bench.session;
     let at = within(log, bench.used);
-    let answer = make(image, &mut log[at..], before, call, given);
-    let status = answer.status;
-    let session = answer.session;
-    look(image, log, at, held, call, answer.ops, book);
-    keep_book(book, call, given, status.code());
-    Bench {
-        session: session,
-        used: after(at, answer.ops),
-    }
+    let answer = make(image, &mut log[at..], session, call, given);
+    print_ops(&log[at..], answer.ops);
+    print_image(image, session.layout);
+    cuts(call, held, log, bench);
+    kept(bench, call, answer, given)
 }
 
-// P3 to P9 are one history.
+// The calls of the table from one on and below another, from a finished opening on, with all held.
 fn history(
-    image: &mut [u8; 1280],
-    log: &mut [u64; 600],
-    book: &mut [u8; 1024],
+    image: &mut [u8],
+    log: &mut [u64],
     held: [u8; 1280],
     session: Session,
-) {
+    from: usize,
+    to: usize,
+)
+    requires { ⌜ to ≤ 16 ⌝ }
+{
     let mut bench = Bench {
         session: session,
         used: 0,
+        saved: [0; 512],
+        working: [0; 512],
     };
-    let mut i = 0;
-    while i < 11 {
+    let mut i = from;
+    while i < to {
         let call = CALLS[i];
-        bench = step(image, log, book, held, bench, call);
+        bench = step(image, log, held, bench, call);
         i += 1;
     }
 }
@@ -649,85 +684,59 @@ fn p1() {
     print(b"\n");
 }
 
-// Opens with a tape.
-fn open(image: &mut [u8], trace: &mut [u64]) -> Session {
+// A fresh opening with a tape.
+fn open(image: &mut [u8], layout: Layout, trace: &mut [u64]) -> Session {
+    format::crpm_format(image, layout.mains, layout.backups, layout.blocks);
     print_number(b" tape=", trace.len() as u64);
-    let answer = driver::step_open(image, MAINS, BACKUPS, BLOCKS, trace);
+    let answer = driver::step_open(image, layout.mains, layout.backups, layout.blocks, trace);
     print_answer(b" open=", answer);
     answer.session
 }
 
-// P2: a fresh opening with a tape too short by one, and with one that is just long enough.
+// P2: a tape too short by one, and one that is just long enough.
 fn p2(image: &mut [u8]) -> Session {
     let mut short = [0u64; 218];
     let mut fitting = [0u64; 219];
-    format::crpm_format(image, MAINS, BACKUPS, BLOCKS);
+    let layout = Layout::new(MAINS, BACKUPS, BLOCKS);
     print(b"P2");
-    open(image, &mut short);
-    let session = open(image, &mut fitting);
+    open(image, layout, &mut short);
+    let session = open(image, layout, &mut fitting);
     print(b"\n");
     session
 }
 
-// A fresh opening of an image with four frames.
-fn open_four(image: &mut [u8], trace: &mut [u64]) -> Session {
-    format::crpm_format(image, 1, 1, 4);
-    let answer = driver::step_open(image, 1, 1, 4, trace);
-    answer.session
-}
-
-// A word to a frame of it, and a save.
-fn save_four(image: &mut [u8], trace: &mut [u64], session: Session, block: u64) -> Session {
-    let bytes = BYTES;
-    let written = driver::step_write(image, session, 0, block, 0, &bytes, trace);
-    let next = written.session;
-    let saved = driver::step_checkpoint(image, next, trace);
-    saved.session
-}
-
-// A word to its frame 1, and how the level stood before.
-fn write_four(image: &mut [u8], trace: &mut [u64], session: Session) {
-    let bytes = BYTES;
-    print_number(b"P10 epoch=", byte_at(image, 0));
-    print_number(b" state=", byte_at(image, 128));
-    print_number(b" pair=", byte_at(image, 256));
-    print_number(b" touched=", session.dirty_segments);
-    print_number(b" marks=", session::dirty_count(session.dirty_blocks[0]));
-    let answer = driver::step_write(image, session, 0, 1, 0, &bytes, trace);
-    print_answer(b" write=", answer);
-    print_ops(trace, answer.ops);
-    print(b"\n");
-}
-
-// P10: the level is paired, in state 1 and untouched, with one mark.
+// P10: before the last call of its history the level is paired, in state 1 and untouched, with one mark.
 fn p10() {
     let mut image = [7u8; 2560];
-    let mut trace = [0u64; 453];
-    let opened = open_four(&mut image, &mut trace);
-    let first = save_four(&mut image, &mut trace, opened, 2);
-    let second = save_four(&mut image, &mut trace, first, 3);
-    write_four(&mut image, &mut trace, second);
+    let mut log = [0u64; 1200];
+    print(b"P10");
+    let session = open(&mut image, Layout::new(1, 1, 4), &mut log);
+    print(b"\n");
+    history(&mut image, &mut log, [0; 1280], session, 11, 16);
 }
 
 // P5's write with a flush in the place of the fence after its copy, cut once its state 2 is flushed: the cuts find the fault.
-fn p5_unfenced(held: [u8; 1280], log: [u64; 600]) {
-    let mut book = [0u8; 1024];
+fn p5_unfenced(held: [u8; 1280], log: [u64; 1200], session: Session) {
+    let page = page_after([0; 512], 0, 6, b"\xa1\xb2\xc3\xd4");
+    let bench = Bench {
+        session: session,
+        used: 60,
+        saved: page,
+        working: page,
+    };
     let mut ops = log;
-    put(&mut book, 6, b"\xa1\xb2\xc3\xd4");
-    put(&mut book, 518, b"\xa1\xb2\xc3\xd4");
     ops[174] = trace::OP_CLWB;
     print(b"unfenced ");
-    cut(5, held, &ops, 60, 41, &book);
+    cut(5, held, &ops, bench, 41);
 }
 
 fn main() {
     let mut image = [7u8; 1280];
-    let mut log = [0u64; 600];
-    let mut book = [0u8; 1024];
+    let mut log = [0u64; 1200];
     p1();
     let session = p2(&mut image);
     let held = image;
-    history(&mut image, &mut log, &mut book, held, session);
+    history(&mut image, &mut log, held, session, 0, 11);
     p10();
-    p5_unfenced(held, log);
+    p5_unfenced(held, log, session);
 }

@@ -7,10 +7,10 @@ use Rattle.bench.proofs.cuts.Lts as lts
 use Rattle.bench.proofs.cut.Reads as cut-reads
 
 abbrev Inv-loop : tie.InvT-loop
-Inv-loop held log at book case end ops₀ ops = ops₀ ≤ ops
+Inv-loop held log bench case end ops₀ ops = ops₀ ≤ ops
 
 abbrev μ-loop : tie.MeasureT-loop
-μ-loop held log at book case end ops₀ ops = end - ops
+μ-loop held log bench case end ops₀ ops = end - ops
 
 -- src/main.rt:357:5
 loop-holds : tie.Need-loop-holds Inv-loop μ-loop

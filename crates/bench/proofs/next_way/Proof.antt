@@ -4,7 +4,6 @@ use Rattle.bench.proofs.next_way.Statement.{statement}
 use Rattle.bench.proofs.next_way.Tie as tie
 use Rattle.bench.proofs.next_way.Reads as reads
 use Rattle.bench.proofs.next_way.Lts as lts
-use Rattle.bench.proofs.one_more.Reads as one-more-reads
 
 abbrev Inv-loop : tie.InvT-loop
 Inv-loop lines next₀ l₀ next l = l ≤ 20
@@ -33,16 +32,16 @@ element-copy-out-if1 : tie.Need-element-copy-out-if1 Inv-loop μ-loop
 element-copy-out-if1 c = search needs
 
 -- src/main.rt:294:32
-mul-one-more : tie.Need-mul-one-more Inv-loop μ-loop
-mul-one-more c = search needs
+mul-wrapping-add-u64 : tie.Need-mul-wrapping-add-u64 Inv-loop μ-loop
+mul-wrapping-add-u64 c = search needs
 
 -- src/main.rt:294:32
-array-read-one-more : tie.Need-array-read-one-more Inv-loop μ-loop
-array-read-one-more c = search needs
+array-read-wrapping-add-u64 : tie.Need-array-read-wrapping-add-u64 Inv-loop μ-loop
+array-read-wrapping-add-u64 c = search needs
 
 -- src/main.rt:294:23
-one-more-requires : tie.Need-one-more-requires Inv-loop μ-loop
-one-more-requires c κs = search needs
+wrapping-add-u64-requires : tie.Need-wrapping-add-u64-requires Inv-loop μ-loop
+wrapping-add-u64-requires c κs = search needs
 
 -- src/main.rt:294:13
 mul-next : tie.Need-mul-next Inv-loop μ-loop
@@ -99,9 +98,9 @@ next-way-spec =
     array-read-if1
     mul-if1-2
     element-copy-out-if1
-    mul-one-more
-    array-read-one-more
-    one-more-requires
+    mul-wrapping-add-u64
+    array-read-wrapping-add-u64
+    wrapping-add-u64-requires
     mul-next
     array-write-next
     returns
