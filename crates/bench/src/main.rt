@@ -337,6 +337,8 @@ fn try_ways(held: [u8; 1280], ops: &[u64], bench: Bench) -> Tally {
         takes = way.takes;
         left -= 1;
     }
+    // Not every way was tried: this shows in the line.
+    tally.other = u64::MAX;
     tally
 }
 
@@ -373,174 +375,45 @@ struct Call {
     main: u64,
     block: u64,
     offset: u64,
-    length: usize,
+    length: u64,
     first: u64,
     end: u64,
 }
 
-// P3 to P9 are one history, and P10 is another.
-const CALLS: [Call; 16] = [
-    Call {
-        case: 3,
-        checkpoint: false,
-        main: 0,
-        block: 0,
-        offset: 6,
-        length: 4,
-        first: 0,
-        end: 3,
-    },
-    Call {
-        case: 4,
-        checkpoint: true,
-        main: 0,
-        block: 0,
-        offset: 0,
-        length: 0,
-        first: 0,
-        end: 19,
-    },
-    Call {
-        case: 5,
-        checkpoint: false,
-        main: 0,
-        block: 0,
-        offset: 0,
-        length: 8,
-        first: 34,
-        end: 44,
-    },
-    Call {
-        case: 6,
-        checkpoint: false,
-        main: 0,
-        block: 0,
-        offset: 8,
-        length: 8,
-        first: 0,
-        end: 2,
-    },
-    Call {
-        case: 7,
-        checkpoint: false,
-        main: 1,
-        block: 0,
-        offset: 0,
-        length: 8,
-        first: 0,
-        end: 2,
-    },
-    Call {
-        case: 8,
-        checkpoint: true,
-        main: 0,
-        block: 0,
-        offset: 0,
-        length: 0,
-        first: 0,
-        end: 23,
-    },
-    Call {
-        case: 8,
-        checkpoint: false,
-        main: 1,
-        block: 0,
-        offset: 8,
-        length: 8,
-        first: 34,
-        end: 44,
-    },
-    Call {
-        case: 8,
-        checkpoint: false,
-        main: 0,
-        block: 0,
-        offset: 16,
-        length: 8,
-        first: 0,
-        end: 0,
-    },
-    Call {
-        case: 9,
-        checkpoint: false,
-        main: 1,
-        block: 0,
-        offset: 255,
-        length: 1,
-        first: 0,
-        end: 0,
-    },
-    Call {
-        case: 9,
-        checkpoint: false,
-        main: 1,
-        block: 0,
-        offset: 256,
-        length: 1,
-        first: 0,
-        end: 0,
-    },
-    Call {
-        case: 9,
-        checkpoint: false,
-        main: 1,
-        block: 0,
-        offset: 0,
-        length: 0,
-        first: 0,
-        end: 0,
-    },
-    Call {
-        case: 10,
-        checkpoint: false,
-        main: 0,
-        block: 2,
-        offset: 0,
-        length: 8,
-        first: 0,
-        end: 0,
-    },
-    Call {
-        case: 10,
-        checkpoint: true,
-        main: 0,
-        block: 0,
-        offset: 0,
-        length: 0,
-        first: 0,
-        end: 0,
-    },
-    Call {
-        case: 10,
-        checkpoint: false,
-        main: 0,
-        block: 3,
-        offset: 0,
-        length: 8,
-        first: 0,
-        end: 0,
-    },
-    Call {
-        case: 10,
-        checkpoint: true,
-        main: 0,
-        block: 0,
-        offset: 0,
-        length: 0,
-        first: 0,
-        end: 0,
-    },
-    Call {
-        case: 10,
-        checkpoint: false,
-        main: 0,
-        block: 1,
-        offset: 0,
-        length: 8,
-        first: 0,
-        end: 0,
-    },
+// The calls of P3 to P9, which are one history, and of P10, which are another: case, 1 for a save, level, frame, offset, length,
+// and the first and the end of the cuts.
+const CALLS: [[u64; 8]; 16] = [
+    [3, 0, 0, 0, 6, 4, 0, 3],
+    [4, 1, 0, 0, 0, 0, 0, 19],
+    [5, 0, 0, 0, 0, 8, 34, 44],
+    [6, 0, 0, 0, 8, 8, 0, 2],
+    [7, 0, 1, 0, 0, 8, 0, 2],
+    [8, 1, 0, 0, 0, 0, 0, 23],
+    [8, 0, 1, 0, 8, 8, 34, 44],
+    [8, 0, 0, 0, 16, 8, 0, 0],
+    [9, 0, 1, 0, 255, 1, 0, 0],
+    [9, 0, 1, 0, 256, 1, 0, 0],
+    [9, 0, 1, 0, 0, 0, 0, 0],
+    [10, 0, 0, 2, 0, 8, 0, 0],
+    [10, 1, 0, 0, 0, 0, 0, 0],
+    [10, 0, 0, 3, 0, 8, 0, 0],
+    [10, 1, 0, 0, 0, 0, 0, 0],
+    [10, 0, 0, 1, 0, 8, 0, 0],
 ];
+
+// The call of a row.
+fn call_of(row: [u64; 8]) -> Call {
+    Call {
+        case: row[0],
+        checkpoint: row[1] == 1,
+        main: row[2],
+        block: row[3],
+        offset: row[4],
+        length: row[5],
+        first: row[6],
+        end: row[7],
+    }
+}
 
 // Where a history stands: the card, how many numbers of the log hold orders, and the two pages of the book.
 struct Bench {
@@ -551,8 +424,13 @@ struct Bench {
 }
 
 // The first n bytes, or all if there are fewer.
-fn first_of(bytes: &[u8], n: usize) -> &[u8] {
-    if n < bytes.len() { &bytes[0..n] } else { bytes }
+fn first_of(bytes: &[u8], n: u64) -> &[u8] {
+    let end = n as usize;
+    if end < bytes.len() {
+        &bytes[0..end]
+    } else {
+        bytes
+    }
 }
 
 // A page with bytes put on it from a place of a level on. They lie within a page, so no remainder here changes a place.
@@ -644,7 +522,7 @@ fn history(
     };
     let mut i = from;
     while i < to {
-        let call = CALLS[i];
+        let call = call_of(CALLS[i]);
         bench = step(image, log, held, bench, call);
         i += 1;
     }
@@ -705,7 +583,7 @@ fn p2(image: &mut [u8]) -> Session {
     session
 }
 
-// P10: before the last call of its history the level is paired, in state 1 and untouched, with one mark.
+// P10: before the last call of its history the level is paired, in state 1 and untouched, with one mark. It is not cut.
 fn p10() {
     let mut image = [7u8; 2560];
     let mut log = [0u64; 1200];
@@ -716,16 +594,17 @@ fn p10() {
 }
 
 // P5's write with a flush in the place of the fence after its copy, cut once its state 2 is flushed: the cuts find the fault.
+// P3 and P4 left 20 orders before it, and the fence is its order 39.
 fn p5_unfenced(held: [u8; 1280], log: [u64; 1200], session: Session) {
     let page = page_after([0; 512], 0, 6, b"\xa1\xb2\xc3\xd4");
     let bench = Bench {
         session: session,
-        used: 60,
+        used: 3 * 20,
         saved: page,
         working: page,
     };
     let mut ops = log;
-    ops[174] = trace::OP_CLWB;
+    ops[3 * (20 + 38)] = trace::OP_CLWB;
     print(b"unfenced ");
     cut(5, held, &ops, bench, 41);
 }

@@ -3,9 +3,6 @@ use lib.ListN.{length}
 use borrow.Author.Needs.{needs}
 use Rattle.bench.proofs.count_lines.Statement.{statement}
 use Rattle.bench.proofs.count_lines.Tie as tie
-use Rattle.bench.proofs.count_lines.Reads as reads
-use Rattle.bench.proofs.count_lines.Lts as lts
-use Rattle.bench.proofs.counted.Reads as counted-reads
 
 abbrev Inv-loop : tie.InvT-loop
 Inv-loop ops lines₀ k₀ lines k = k ≤ length ops / 3
@@ -13,51 +10,39 @@ Inv-loop ops lines₀ k₀ lines k = k ≤ length ops / 3
 abbrev μ-loop : tie.MeasureT-loop
 μ-loop ops lines₀ k₀ lines k = length ops / 3 - k
 
--- src/main.rt:188:5
 loop-holds : tie.Need-loop-holds Inv-loop μ-loop
 loop-holds c = search needs
 
--- src/main.rt:189:18
 mul-at : tie.Need-mul-at Inv-loop μ-loop
 mul-at c = search needs
 
--- src/main.rt:190:32
 mul-counted : tie.Need-mul-counted Inv-loop μ-loop
 mul-counted c = search needs
 
--- src/main.rt:190:32
 shared-slice-read-counted : tie.Need-shared-slice-read-counted Inv-loop μ-loop
 shared-slice-read-counted c = search needs
 
--- src/main.rt:190:45
 add-counted : tie.Need-add-counted Inv-loop μ-loop
 add-counted c = search needs
 
--- src/main.rt:190:41
 mul-counted-2 : tie.Need-mul-counted-2 Inv-loop μ-loop
 mul-counted-2 c = search needs
 
--- src/main.rt:190:41
 shared-slice-read-counted-2 : tie.Need-shared-slice-read-counted-2 Inv-loop μ-loop
 shared-slice-read-counted-2 c = search needs
 
--- src/main.rt:190:9
 counted-requires : tie.Need-counted-requires Inv-loop μ-loop
 counted-requires c κs = search needs
 
--- src/main.rt:191:9
 add-k : tie.Need-add-k Inv-loop μ-loop
 add-k c = search needs
 
--- src/main.rt:188:5
 loop-less : tie.Need-loop-less Inv-loop μ-loop
 loop-less c = search needs
 
--- src/main.rt:188:5
 loop-again : tie.Need-loop-again Inv-loop μ-loop
 loop-again c = search needs
 
--- src/main.rt:181:1
 returns : tie.Need-returns Inv-loop μ-loop
 returns c = search needs
 

@@ -2,8 +2,6 @@ use Prim.Native.Nat.{_≤_, _-_}
 use borrow.Author.Needs.{needs}
 use Rattle.bench.proofs.next_way.Statement.{statement}
 use Rattle.bench.proofs.next_way.Tie as tie
-use Rattle.bench.proofs.next_way.Reads as reads
-use Rattle.bench.proofs.next_way.Lts as lts
 
 abbrev Inv-loop : tie.InvT-loop
 Inv-loop lines next₀ l₀ next l = l ≤ 20
@@ -11,79 +9,60 @@ Inv-loop lines next₀ l₀ next l = l ≤ 20
 abbrev μ-loop : tie.MeasureT-loop
 μ-loop lines next₀ l₀ next l = 20 - l
 
--- src/main.rt:292:5
 loop-holds : tie.Need-loop-holds Inv-loop μ-loop
 loop-holds c = search needs
 
--- src/main.rt:293:12
 mul-if1 : tie.Need-mul-if1 Inv-loop μ-loop
 mul-if1 c = search needs
 
--- src/main.rt:293:12
 array-read-if1 : tie.Need-array-read-if1 Inv-loop μ-loop
 array-read-if1 c = search needs
 
--- src/main.rt:293:22
 mul-if1-2 : tie.Need-mul-if1-2 Inv-loop μ-loop
 mul-if1-2 c = search needs
 
--- src/main.rt:293:22
 element-copy-out-if1 : tie.Need-element-copy-out-if1 Inv-loop μ-loop
 element-copy-out-if1 c = search needs
 
--- src/main.rt:294:32
 mul-wrapping-add-u64 : tie.Need-mul-wrapping-add-u64 Inv-loop μ-loop
 mul-wrapping-add-u64 c = search needs
 
--- src/main.rt:294:32
 array-read-wrapping-add-u64 : tie.Need-array-read-wrapping-add-u64 Inv-loop μ-loop
 array-read-wrapping-add-u64 c = search needs
 
--- src/main.rt:294:23
 wrapping-add-u64-requires : tie.Need-wrapping-add-u64-requires Inv-loop μ-loop
 wrapping-add-u64-requires c κs = search needs
 
--- src/main.rt:294:13
 mul-next : tie.Need-mul-next Inv-loop μ-loop
 mul-next c = search needs
 
--- src/main.rt:294:13
 array-write-next : tie.Need-array-write-next Inv-loop μ-loop
 array-write-next c = search needs
 
--- src/main.rt:295:13
 returns : tie.Need-returns Inv-loop μ-loop
 returns c = search needs
 
--- src/main.rt:300:19
 mul-next-2 : tie.Need-mul-next-2 Inv-loop μ-loop
 mul-next-2 c = search needs
 
--- src/main.rt:300:19
 element-copy-out-next : tie.Need-element-copy-out-next Inv-loop μ-loop
 element-copy-out-next c = search needs
 
--- src/main.rt:300:9
 mul-next-3 : tie.Need-mul-next-3 Inv-loop μ-loop
 mul-next-3 c = search needs
 
--- src/main.rt:300:9
 array-write-next-2 : tie.Need-array-write-next-2 Inv-loop μ-loop
 array-write-next-2 c = search needs
 
--- src/main.rt:301:9
 add-l : tie.Need-add-l Inv-loop μ-loop
 add-l c = search needs
 
--- src/main.rt:292:5
 loop-less : tie.Need-loop-less Inv-loop μ-loop
 loop-less c = search needs
 
--- src/main.rt:292:5
 loop-again : tie.Need-loop-again Inv-loop μ-loop
 loop-again c = search needs
 
--- src/main.rt:289:1
 returns-2 : tie.Need-returns-2 Inv-loop μ-loop
 returns-2 c = search needs
 
