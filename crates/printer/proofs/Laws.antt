@@ -1,5 +1,5 @@
 -- Laws of decimal text and of texts appended to a buffer.
-use Prim.Native.Nat.{ℕ, zero, suc, _+_, _-_, _*_, _/_, _%_, _^_, _≤_, _<_}
+use Prim.Native.Nat.{ℕ, zero, suc, _+_, _-_, _/_, _%_, _^_, _≤_, _<_}
 use mathlib.Core.Path.{_≡_, refl, sym, ap, ap₂, _∙_}
 use mathlib.Core.Bool.{Bool, cond}
 use mathlib.Core.List.{List, [], _∷_, _++_, append-assoc, append-nil}
@@ -7,8 +7,8 @@ use native.Mathlib.Omega.{arith}
 use native.Mathlib.Nat.{pow-suc, pow-le-pow-right}
 use native.Mathlib.Decide.{decLt, decLe}
 use borrow.Author.Tests.{lt-ltb, le-ltb}
-use lib.Dec.{ltb, lit<}
-use lib.ListN.{length, take, drop, length-append, length-set}
+use lib.Dec.{ltb}
+use lib.ListN.{length, take, length-append}
 use lib.Seq.{paste, take-paste, take-all, length-paste}
 use Rattle.io.specs.Digits.{digits, glyph, Fewest}
 use Rattle.printer.specs.Decimal.{decimalIn, decimal, Appended}

@@ -1,17 +1,15 @@
 -- The group at a place of a good input is run, and the rest of the input is good.
-use Prim.Native.Nat.{ℕ, _+_, _-_, _*_, _≤_, _<_}
-use mathlib.Core.Path.{_≡_, refl, sym, ap, _∙_, subst}
+use Prim.Native.Nat.{ℕ, _+_, _-_, _≤_, _<_}
+use mathlib.Core.Path.{_≡_, sym, ap, _∙_, subst}
 use mathlib.Core.Bool.{true}
 use mathlib.Core.List.{List, _∷_}
-use native.Mathlib.Omega.{arith}
 use lib.ListN.{length, take, drop}
-use lib.Seq.{length-take-le}
 use Rattle.model.specs.declared.Session.{Session}
 use Rattle.model.specs.Words.{Image}
 use Rattle.parser.specs.Text.{linesOf, hexPairs, hexBytes}
-use Rattle.parser.specs.Script.{Group, groupOf, groupsOf, groupLines, valueOf, lineAt}
+use Rattle.parser.specs.Script.{Group, groupOf, groupsOf}
 use Rattle.parser.specs.declared.GroupAt.{GroupAt}
-use Rattle.parser.specs.Read.{ReadsGroup, Decodes}
+use Rattle.parser.specs.Read.{ReadsGroup}
 use Rattle.parser.proofs.Groups.{GoodGroup, group-here, group-next, group-rest}
 use Rattle.script.specs.declared.Next.{Next}
 use Rattle.script.specs.Ran.{GoodFrom, groupOfParts, GroupRan, NextRan}

@@ -2,7 +2,7 @@
 use Prim.Native.Nat.{ℕ}
 use mathlib.Core.Path.{_≡_, refl, sym, _∙_}
 use mathlib.Core.Bool.{true}
-use mathlib.Core.List.{List, [], _++_}
+use mathlib.Core.List.{List, []}
 use lib.ListN.{length}
 use borrow.Author.Tests.{eq-eqb}
 use Rattle.model.specs.declared.Layout.{Layout}
@@ -16,7 +16,7 @@ use Rattle.parser.specs.Text.{text}
 use Rattle.printer.specs.Decimal.{Appended}
 use Rattle.printer.proofs.Laws.{appended-then}
 use Rattle.script.specs.declared.Ran.{Ran}
-use Rattle.script.specs.Prints.{blank, answerText, openText}
+use Rattle.script.specs.Prints.{blank, openText}
 use Rattle.script.specs.Ran.{Called, Opened}
 
 -- a format of a right length with right sizes is served

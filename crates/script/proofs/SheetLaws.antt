@@ -11,7 +11,7 @@ use Rattle.io.specs.Counts.{Counts}
 use Rattle.model.specs.declared.Layout.{Layout}
 use Rattle.model.specs.Layout.{sizesOk, inRange, imageSize}
 use Rattle.parser.specs.Text.{text, linesOf}
-use Rattle.parser.specs.Script.{Script, bad, good, Group, firstBad, groupsOf, blocksLine, sizesOf, judged, parse}
+use Rattle.parser.specs.Script.{Script, bad, good, Group, firstBad, groupsOf, blocksLine, judged, parse}
 use Rattle.parser.specs.declared.HeaderAt.{HeaderAt}
 use Rattle.parser.specs.Read.{ReadsHeader}
 use Rattle.parser.proofs.Groups.{GoodSizes, good-sizes}

@@ -1,17 +1,17 @@
 -- The story of a loop over groups: what they printed so far is continued by whatever the groups that are left may print.
 use Prim.Native.Nat.{ℕ, suc}
-use mathlib.Core.Path.{_≡_, ap, _∙_, subst, sym}
+use mathlib.Core.Path.{_≡_, subst, sym}
 use mathlib.Core.List.{List, [], _∷_, _++_, append-assoc, append-nil}
 use Rattle.model.specs.declared.Layout.{Layout}
 use Rattle.model.specs.declared.Session.{Session}
 use Rattle.model.specs.Words.{Image}
 use Rattle.model.specs.Format.{formatted}
 use Rattle.model.specs.History.{State, start}
-use Rattle.parser.specs.Script.{Script, good, Group}
+use Rattle.parser.specs.Script.{good, Group}
 use Rattle.printer.specs.Decimal.{Appended}
 use Rattle.printer.proofs.Laws.{appended-none, appended-then}
 use Rattle.script.specs.declared.Ran.{Ran}
-use Rattle.script.specs.Prints.{blank, afterGroup, groupText, GroupsPrint, none, more, openText, Prints, ran}
+use Rattle.script.specs.Prints.{blank, afterGroup, groupText, GroupsPrint, none, more, openText, ran}
 use Rattle.script.specs.Ran.{Stands, Opened, GroupRan, GroupsRan, ScriptRan}
 
 -- the groups gs were to be run from the image I, the session s and the place p of the buffer on; the groups gs′ are left, the
