@@ -10,30 +10,32 @@ const SIZE: usize = script::MOST_BYTES + 1;
 fn main() {
     whole_sheets();
     four_groups();
+    bad_lines();
+    values();
+    digits();
+    full_sheets();
+    spoiled_sheets();
+}
+
+fn bad_lines() {
     bad_bytes();
+    bad_spaces();
     bad_order();
+    bad_groups();
     broken_off();
-    long_lines();
-    let mut space = [0u8; SIZE];
-    made_sheets(&mut space);
+    broken_groups();
 }
 
-// The sheets that are put together in a lent buffer.
-fn made_sheets(sheet: &mut [u8]) {
-    bad_values(sheet);
-    bad_sizes(sheet);
-    good_sizes(sheet);
-    good_places(sheet);
-    good_offsets(sheet);
-    long_values(sheet);
-}
-
-// The same, with the longer ones.
-fn long_values(sheet: &mut [u8]) {
-    bytes(sheet);
-    saves(sheet);
-    digits(sheet);
-    full_sheet(sheet);
+fn values() {
+    bad_values();
+    bad_signs();
+    bad_sizes();
+    large_sizes();
+    good_sizes();
+    good_places();
+    good_offsets();
+    bytes();
+    checkpoints();
 }
 
 // ---- a sheet run
@@ -133,12 +135,17 @@ fn put_lines(sheet: &mut [u8], from: usize, first: u64, other: u64, value: &[u8]
 }
 
 // A sheet of one group with the usual values but for that of one key, behind that key and value.
-fn show_value(sheet: &mut [u8], k: u64, value: &[u8]) {
+fn value_in(sheet: &mut [u8], k: u64, value: &[u8]) {
     let start = put_key(sheet, 0, k);
     let label = put(sheet, start, value);
     io::write_all(1, &sheet[..label]);
     let end = put_lines(sheet, 0, 0, k, value);
     show(b"", &sheet[..end]);
+}
+
+fn show_value(k: u64, value: &[u8]) {
+    let mut space = [0u8; SIZE];
+    value_in(&mut space, k, value);
 }
 
 // ---- whole sheets
@@ -161,11 +168,11 @@ fn whole_sheets() {
 fn four_groups() {
     show(
         b"four groups, one spare",
-        b"mains=2\nspares=1\nframes=1\nlevel=0\nframe=0\nat=0\nbytes=0102030405060708\nsave=0\nlevel=1\nframe=0\nat=0\nbytes=0102030405060708\nsave=1\nlevel=0\nframe=0\nat=0\nbytes=0102030405060708\nsave=0\nlevel=1\nframe=0\nat=0\nbytes=0102030405060708\nsave=0\n",
+        b"mains=2\nspares=1\nframes=1\nlevel=0\nframe=0\nat=0\nbytes=00\nsave=0\nlevel=1\nframe=0\nat=0\nbytes=00\nsave=1\nlevel=0\nframe=0\nat=0\nbytes=00\nsave=0\nlevel=1\nframe=0\nat=0\nbytes=00\nsave=0\n",
     );
     show(
         b"four groups, spares left out",
-        b"mains=2\nframes=1\nlevel=0\nframe=0\nat=0\nbytes=0102030405060708\nsave=0\nlevel=1\nframe=0\nat=0\nbytes=0102030405060708\nsave=1\nlevel=0\nframe=0\nat=0\nbytes=0102030405060708\nsave=0\nlevel=1\nframe=0\nat=0\nbytes=0102030405060708\nsave=0\n",
+        b"mains=2\nframes=1\nlevel=0\nframe=0\nat=0\nbytes=00\nsave=0\nlevel=1\nframe=0\nat=0\nbytes=00\nsave=1\nlevel=0\nframe=0\nat=0\nbytes=00\nsave=0\nlevel=1\nframe=0\nat=0\nbytes=00\nsave=0\n",
     );
 }
 
@@ -179,6 +186,9 @@ fn bad_bytes() {
         b"mains=2\nspares=1\nframes=1\n\n",
     );
     show(b"a space before the key", b" mains=2\nspares=1\nframes=1\n");
+}
+
+fn bad_spaces() {
     show(b"a space behind the key", b"mains =2\nspares=1\nframes=1\n");
     show(
         b"a space before the value",
@@ -203,6 +213,9 @@ fn bad_order() {
     show(b"mains twice", b"mains=2\nmains=2\nframes=1\n");
     show(b"spares twice", b"mains=2\nspares=1\nspares=1\nframes=1\n");
     show(b"spares behind frames", b"mains=2\nframes=1\nspares=1\n");
+}
+
+fn bad_groups() {
     show(b"spares first", b"spares=1\nmains=2\nframes=1\n");
     show(
         b"level twice",
@@ -222,6 +235,9 @@ fn broken_off() {
     show(b"mains alone", b"mains=2\n");
     show(b"mains and spares", b"mains=2\nspares=1\n");
     show(b"no byte 10 at the end", b"mains=2\nspares=1\nframes=1");
+}
+
+fn broken_groups() {
     show(
         b"a group of one line",
         b"mains=2\nspares=1\nframes=1\nlevel=0\n",
@@ -243,84 +259,98 @@ fn broken_off() {
 // ---- values
 
 // A value that is no number, for every key that has one.
-fn show_bad(sheet: &mut [u8], value: &[u8]) {
-    show_value(sheet, 0, value);
-    show_value(sheet, 1, value);
-    show_value(sheet, 2, value);
-    show_value(sheet, 3, value);
-    show_value(sheet, 4, value);
-    show_value(sheet, 5, value);
-    show_value(sheet, 7, value);
+fn show_bad(value: &[u8]) {
+    show_value(0, value);
+    show_value(1, value);
+    show_value(2, value);
+    show_bad_number(value);
 }
 
-fn bad_values(sheet: &mut [u8]) {
-    show_bad(sheet, b"");
-    show_bad(sheet, b"00");
-    show_bad(sheet, b"01");
-    show_bad(sheet, b"007");
-    show_bad(sheet, b"1000");
-    show_bad(sheet, b"+1");
-    show_bad(sheet, b"1a");
+fn show_bad_number(value: &[u8]) {
+    show_value(3, value);
+    show_value(4, value);
+    show_value(5, value);
+    show_value(7, value);
 }
 
-fn bad_sizes(sheet: &mut [u8]) {
-    show_value(sheet, 0, b"0");
-    show_value(sheet, 1, b"0");
-    show_value(sheet, 2, b"0");
-    show_value(sheet, 0, b"5");
-    show_value(sheet, 1, b"5");
-    show_value(sheet, 2, b"5");
+fn bad_values() {
+    show_bad(b"");
+    show_bad(b"00");
+    show_bad(b"01");
+    show_bad(b"007");
 }
 
-fn good_sizes(sheet: &mut [u8]) {
-    show_value(sheet, 0, b"1");
-    show_value(sheet, 0, b"4");
-    show_value(sheet, 1, b"4");
-    show_value(sheet, 2, b"4");
+fn bad_signs() {
+    show_bad(b"1000");
+    show_bad(b"+1");
+    show_bad(b"1a");
 }
 
-fn good_places(sheet: &mut [u8]) {
-    show_value(sheet, 3, b"1");
-    show_value(sheet, 3, b"2");
-    show_value(sheet, 3, b"999");
-    show_value(sheet, 4, b"1");
-    show_value(sheet, 4, b"999");
+fn bad_sizes() {
+    show_value(0, b"0");
+    show_value(1, b"0");
+    show_value(2, b"0");
 }
 
-fn good_offsets(sheet: &mut [u8]) {
-    show_value(sheet, 5, b"0");
-    show_value(sheet, 5, b"255");
-    show_value(sheet, 5, b"256");
-    show_value(sheet, 5, b"999");
+fn large_sizes() {
+    show_value(0, b"5");
+    show_value(1, b"5");
+    show_value(2, b"5");
 }
 
-fn bytes(sheet: &mut [u8]) {
-    show_value(sheet, 6, b"");
-    show_value(sheet, 6, b"0");
-    show_value(sheet, 6, b"0a0");
-    show_value(sheet, 6, b"0A");
-    show_value(sheet, 6, b"0g");
+fn good_sizes() {
+    show_value(0, b"1");
+    show_value(0, b"4");
+    show_value(1, b"4");
+    show_value(2, b"4");
 }
 
-fn saves(sheet: &mut [u8]) {
-    show_value(sheet, 7, b"1");
-    show_value(sheet, 7, b"2");
-    show_value(sheet, 7, b"10");
+fn good_places() {
+    show_value(3, b"1");
+    show_value(3, b"2");
+    show_value(3, b"999");
+    show_value(4, b"1");
+    show_value(4, b"999");
+}
+
+fn good_offsets() {
+    show_value(5, b"0");
+    show_value(5, b"255");
+    show_value(5, b"256");
+    show_value(5, b"999");
+}
+
+fn bytes() {
+    show_value(6, b"");
+    show_value(6, b"0");
+    show_value(6, b"0a0");
+    show_value(6, b"0A");
+    show_value(6, b"0g");
+}
+
+fn checkpoints() {
+    show_value(7, b"1");
+    show_value(7, b"2");
+    show_value(7, b"10");
 }
 
 // ---- lengths
 
 // A group with these digits.
-fn show_digits(sheet: &mut [u8], label: &[u8], digits: &[u8]) {
+fn digits_in(sheet: &mut [u8], label: &[u8], digits: &[u8]) {
     let end = put_lines(sheet, 0, 0, 6, digits);
     show(label, &sheet[..end]);
 }
 
+fn show_digits(label: &[u8], digits: &[u8]) {
+    let mut space = [0u8; SIZE];
+    digits_in(&mut space, label, digits);
+}
+
 // As many hexadecimal digits as a value may have, and more.
-fn digits(sheet: &mut [u8]) {
-    show_digits(sheet, b"512 digits", &[b'0'; 512]);
-    show_digits(sheet, b"513 digits", &[b'0'; 513]);
-    show_digits(sheet, b"514 digits", &[b'0'; 514]);
+fn digits() {
+    show_digits(b"512 digits", &[b'0'; 512]);
+    show_digits(b"514 digits", &[b'0'; 514]);
 }
 
 // Puts seven groups of 512 digits.
@@ -353,9 +383,10 @@ fn put_full(sheet: &mut [u8]) -> usize
     put_lines(sheet, groups, 3, 6, &[b'0'; 206])
 }
 
-// A full sheet whose bytes from a place on are replaced by a text.
-fn show_full(sheet: &mut [u8], label: &[u8], from: usize, text: &[u8]) {
+// A full sheet that starts with another text, and whose bytes from a place on are replaced by a third.
+fn full_in(sheet: &mut [u8], label: &[u8], start: &[u8], from: usize, text: &[u8]) {
     let full = put_full(sheet);
+    put(sheet, 0, start);
     if full < from {
         return;
     }
@@ -363,16 +394,19 @@ fn show_full(sheet: &mut [u8], label: &[u8], from: usize, text: &[u8]) {
     show(label, &sheet[..end]);
 }
 
-fn full_sheet(sheet: &mut [u8]) {
-    show_full(sheet, b"a full sheet", 4096, b"");
-    show_full(sheet, b"a byte more", 4096, b"\n");
-    show_full(sheet, b"no byte 10 at the end of a full sheet", 4095, b"x");
-    show_full(sheet, b"a full sheet cut short", 4095, b"");
+fn show_full(label: &[u8], start: &[u8], from: usize, text: &[u8]) {
+    let mut space = [0u8; SIZE];
+    full_in(&mut space, label, start, from, text);
 }
 
-// One long line, bad itself, of as many bytes as a sheet may have and of one more.
-fn long_lines() {
-    let line = [b'x'; SIZE];
-    show(b"4096 bytes of one line", &line[..4096]);
-    show(b"4097 bytes of one line", &line);
+fn full_sheets() {
+    show_full(b"a full sheet", b"", 4096, b"");
+    show_full(b"a byte more", b"", 4096, b"\n");
+    show_full(b"no byte 10 at its end", b"", 4095, b"x");
+}
+
+fn spoiled_sheets() {
+    show_full(b"cut short", b"", 4095, b"");
+    show_full(b"a bad first line", b"x", 4096, b"");
+    show_full(b"and a byte more", b"x", 4096, b"\n");
 }

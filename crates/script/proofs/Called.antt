@@ -17,7 +17,7 @@ use Rattle.printer.specs.Decimal.{decimal, Appended}
 use Rattle.printer.proofs.Laws.{appended-as}
 use Rattle.script.specs.declared.Ran.{Ran}
 use Rattle.script.specs.Prints.{answerText, checkpointCall, checkpointed, checkpointText}
-use Rattle.script.specs.Ran.{Called, Saved}
+use Rattle.script.specs.Ran.{Called, Checkpointed}
 use Rattle.script.proofs.TraceLength.{Alike, step-same}
 
 -- the text that is put
@@ -45,11 +45,11 @@ called key c d I s r t I′ k out out′ p code ran a stepped ek ec es f h stand
 -- ---- a checkpoint, if it is wanted
 
 module _ (I : Image) (s : Session) (wanted : Bool) (out : List ℕ) (p : ℕ) (I′ : Image) (out′ : List ℕ) (ran : Ran) where
-  pub saved-made : wanted ≡ true → Called I s checkpointCall "save=" out p I′ out′ ran → Saved I s wanted out p I′ out′ ran
+  pub checkpoint-made : wanted ≡ true → Called I s checkpointCall "save=" out p I′ out′ ran → Checkpointed I s wanted out p I′ out′ ran
   unfolding checkpointText checkpointed
-  saved-made e q = rw e (λ h stands. let x = q h stands in (x .1, x .2))
+  checkpoint-made e q = rw e (λ h stands. let x = q h stands in (x .1, x .2))
 
-  pub saved-none : wanted ≡ false → I′ ≡ I → ran .session ≡ s → Appended out p (text "save=- orders=0") out′ (ran .place)
-      → Saved I s wanted out p I′ out′ ran
+  pub checkpoint-none : wanted ≡ false → I′ ≡ I → ran .session ≡ s → Appended out p (text "save=- orders=0") out′ (ran .place)
+      → Checkpointed I s wanted out p I′ out′ ran
   unfolding checkpointText checkpointed
-  saved-none e ei es f = rw e (λ h stands. (f, (stands .0 ∙ sym ei, stands .1 ∙ sym es)))
+  checkpoint-none e ei es f = rw e (λ h stands. (f, (stands .0 ∙ sym ei, stands .1 ∙ sym es)))

@@ -12,7 +12,7 @@ use Rattle.printer.specs.Decimal.{decimal, Appended}
 use Rattle.printer.proofs.Laws.{appended-then, appended-as}
 use Rattle.script.specs.declared.Ran.{Ran}
 use Rattle.script.specs.Prints.{answerText, writeOf, checkpointText, afterGroup, groupText}
-use Rattle.script.specs.Ran.{Called, Saved, CallsRan, GroupRan}
+use Rattle.script.specs.Ran.{Called, Checkpointed, CallsRan, GroupRan}
 
 -- a number between two texts
 abbrev pub numberText : List ℕ → ℕ → List ℕ → List ℕ
@@ -32,7 +32,7 @@ group-text h n g j epoch e = rw e (simp append-assoc)
 pub calls-ran : (I : Image) (s : Session) (g : Group) (j : ℕ) (out out₁ out₂ out₃ : List ℕ) (p q : ℕ) (w : Ran) (I₁ I₂ : Image) (r : Ran)
     → Called I s (writeOf g j) "write=" out p I₁ out₁ w
     → Appended out₁ (w .place) (text " ") out₂ q
-    → Saved I₁ (w .session) (g .checkpoint) out₂ q I₂ out₃ r
+    → Checkpointed I₁ (w .session) (g .checkpoint) out₂ q I₂ out₃ r
     → CallsRan I s g out p I₂ out₃ r
 unfolding afterGroup
 calls-ran I s g j out out₁ out₂ out₃ p q w I₁ I₂ r a b c = (

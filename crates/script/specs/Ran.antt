@@ -36,8 +36,8 @@ Called I s c key out p I′ out′ r =
     (h : State) → Stands h I s → Permitted h c × Printed out p (answerText key (outcome h c)) out′ r × Stands (step h c) I′ (r .session)
 
 -- a checkpoint, if it is wanted, and its text
-abbrev pub Saved : Image → Session → Bool → List ℕ → ℕ → Image → List ℕ → Ran → Type 0
-Saved I s wanted out p I′ out′ r =
+abbrev pub Checkpointed : Image → Session → Bool → List ℕ → ℕ → Image → List ℕ → Ran → Type 0
+Checkpointed I s wanted out p I′ out′ r =
     (h : State) → Stands h I s → Printed out p (checkpointText h wanted) out′ r × Stands (checkpointed h wanted) I′ (r .session)
 
 -- a group of these parts

@@ -3,9 +3,9 @@ use model::Layout;
 use model::Session;
 ghost use Prim.Native.Nat.{ℕ, _+_, _≤_, _<_};
 ghost use mathlib.Core.Path.{_≡_};
+ghost use mathlib.Core.Bool.{true};
 ghost use mathlib.Core.List.{List, _++_};
 ghost use lib.ListN.{length, drop};
-ghost use mathlib.Core.Bool.{true};
 ghost use Rattle.model.specs.Layout.{sizesOk, imageSize};
 ghost use Rattle.model.specs.History.{callWrite};
 ghost use Rattle.write.specs.Steps.{writeArgsOf};
@@ -14,7 +14,7 @@ ghost use Rattle.parser.specs.Text.{text, linesOf};
 ghost use Rattle.parser.specs.Script.{good, judged, firstBad, parse};
 ghost use Rattle.io.specs.Counts.{Counts};
 ghost use Rattle.script.specs.Prints.{room, blank, Prints};
-ghost use Rattle.script.specs.Ran.{Opened, Called, Saved, groupOfParts, CallsRan, GroupRan, GoodFrom, groupsFrom, NextRan, GroupsRan, ScriptRan};
+ghost use Rattle.script.specs.Ran.{Opened, Called, Checkpointed, groupOfParts, CallsRan, GroupRan, GoodFrom, groupsFrom, NextRan, GroupsRan, ScriptRan};
 
 // The most bytes of a sheet, and those of its printed text.
 pub const MOST_BYTES: usize = 4096;
@@ -124,7 +124,7 @@ fn run_checkpoint(
     from: usize,
 ) -> Ran
     requires { ⌜ (length (now trace) ≡ room) × (from + 53 ≤ length (now out)) ⌝ }
-    ensures { λ r. ⌜ Saved (now (image .entry)) session wanted (now (out .entry)) from (now (image .exit)) (now (out .exit)) r ⌝ }
+    ensures { λ r. ⌜ Checkpointed (now (image .entry)) session wanted (now (out .entry)) from (now (image .exit)) (now (out .exit)) r ⌝ }
     ensures { λ r. ⌜ r .place ≤ from + 53 ⌝ }
 {
     if !wanted {
@@ -134,10 +134,10 @@ fn run_checkpoint(
             place: end,
         };
     }
-    let saved = driver::step_checkpoint(image, session, trace);
-    let status = saved.status;
-    let next = saved.session;
-    let place = put_answer(out, from, b"save=", status.code(), saved.ops);
+    let checkpointed = driver::step_checkpoint(image, session, trace);
+    let status = checkpointed.status;
+    let next = checkpointed.session;
+    let place = put_answer(out, from, b"save=", status.code(), checkpointed.ops);
     Ran {
         session: next,
         place: place,
@@ -162,8 +162,8 @@ fn run_calls(
     ensures { λ r. ⌜ r .place ≤ from + 108 ⌝ }
 {
     let written = run_write(image, session, main, block, offset, bytes, trace, out, from);
-    let save = printer::put_text(out, written.place, b" ");
-    run_checkpoint(image, written.session, wanted, trace, out, save)
+    let second = printer::put_text(out, written.place, b" ");
+    run_checkpoint(image, written.session, wanted, trace, out, second)
 }
 
 // Group n: its calls and its line.

@@ -7,7 +7,7 @@ use Rattle.printer.proofs.Laws.{appended-as}
 use Rattle.script.specs.Prints.{checkpointCall}
 use Rattle.script.proofs.Texts.{save-text, no-save-text}
 use Rattle.script.proofs.TraceLength.{checkpoint-alike}
-use Rattle.script.proofs.Called.{called, saved-made, saved-none}
+use Rattle.script.proofs.Called.{called, checkpoint-made, checkpoint-none}
 use Rattle.script.proofs.run_checkpoint.Statement.{statement}
 use Rattle.script.proofs.run_checkpoint.Tie as tie
 
@@ -23,7 +23,7 @@ same-length c = search needs
 returns : tie.Need-returns
 returns c =
     let p = c .before .before in
-    (saved-none _ _ _ _ _ _ _ _ (not-true _ (p .before .before .before .if1 .taken)) refl refl (appended-as no-save-text (p .put-text .ensures)), search needs)
+    (checkpoint-none _ _ _ _ _ _ _ _ (not-true _ (p .before .before .before .if1 .taken)) refl refl (appended-as no-save-text (p .put-text .ensures)), search needs)
 
 step-checkpoint-requires : tie.Need-step-checkpoint-requires
 step-checkpoint-requires c κs = search needs
@@ -52,7 +52,7 @@ returns-2 c =
     let w = p .before .before .before .before .before .before .before .before .before in
     let s = w .before .before .before .before .before .before .before in
     let t = s .args .trace .now in (
-      saved-made _ _ _ _ _ _ _ _ (not-false _ (w .before .before .before .if1 .left))
+      checkpoint-made _ _ _ _ _ _ _ _ (not-false _ (w .before .before .before .if1 .left))
           (called "save=" (callCheckpoint t) checkpointCall _ _ (w .step-checkpoint .result) _ _ _ _ _ _ (p .before .code .result) _
           (checkpoint-alike t (s .pre .0)) (w .step-checkpoint .ensures) save-text (p .before .code .ensures) refl (p .put-answer .ensures .0)),
       omega arith,
