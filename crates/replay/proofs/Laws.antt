@@ -49,7 +49,7 @@ judged-stop size t n k l h = go (allWellFormed size t n) refl
     go true e = absurd (true≢false (sym (judged-at size t n e k l) ∙ h))
     go false e = sym e
 
--- what is judged of a store, of a write-back and of another operation
+-- what is judged of a store, and of another operation
 pub judged-store : (size kind p w : ℕ) → kind ≡ 1 → (ltb p size && eqb (p % 8) 0) ≡ wellFormed size kind p w
 unfolding wellFormed
 judged-store size kind p w e = rw e (ap (λ (b : Bool). ltb p size && b) (go (eqb (p % 8) 0)))
@@ -58,18 +58,10 @@ judged-store size kind p w e = rw e (ap (λ (b : Bool). ltb p size && b) (go (eq
     go true = refl
     go false = refl
 
-pub judged-clwb : (size kind p w : ℕ) → kind ≡ 2 → (ltb p size && (eqb (p % 64) 0 && eqb w 0)) ≡ wellFormed size kind p w
+pub judged-other : (size kind p w : ℕ) → kind ≢ 1
+    → (ltb p size && (eqb kind 2 && eqb (p % 64) 0 && eqb w 0 || eqb kind 3 && eqb p 0 && eqb w 0)) ≡ wellFormed size kind p w
 unfolding wellFormed
-judged-clwb size kind p w e = rw e (ap (λ (b : Bool). ltb p size && b) (go (eqb (p % 64) 0 && eqb w 0)))
-  where
-    go : (b : Bool) → b ≡ (b || false)
-    go true = refl
-    go false = refl
-
-pub judged-sfence : (size kind p w : ℕ) → kind ≢ 1 → kind ≢ 2
-    → (ltb p size && (eqb kind 3 && eqb p 0 && eqb w 0)) ≡ wellFormed size kind p w
-unfolding wellFormed
-judged-sfence size kind p w h k = rw (ne-eqb kind 1 h, ne-eqb kind 2 k)
+judged-other size kind p w h = rw (ne-eqb kind 1 h)
 
 -- a well-formed store lies in the image
 pub store-inside : (size kind p w : ℕ) → kind ≡ 1 → size % 64 ≡ 0 → wellFormed size kind p w ≡ true → p + 8 ≤ size

@@ -22,10 +22,9 @@ pub fn op_well_formed(size: u64, kind: u64, place: u64, word: u64) -> bool
     if kind == trace::OP_STORE {
         return (place < size) & (place % Layout::WORD_SIZE == 0);
     }
-    if kind == trace::OP_CLWB {
-        return (place < size) & ((place % Layout::LINE_SIZE == 0) & (word == 0));
-    }
-    (place < size) & ((kind == trace::OP_SFENCE) & (place == 0) & (word == 0))
+    let clwb = (kind == trace::OP_CLWB) & (place % Layout::LINE_SIZE == 0) & (word == 0);
+    let sfence = (kind == trace::OP_SFENCE) & (place == 0) & (word == 0);
+    (place < size) & (clwb | sfence)
 }
 
 // Whether the first `count` operations of a trace are well formed on an image of so many bytes.

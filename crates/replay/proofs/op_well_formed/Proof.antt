@@ -1,4 +1,4 @@
-use Rattle.replay.proofs.Laws.{judged-store, judged-clwb, judged-sfence}
+use Rattle.replay.proofs.Laws.{judged-store, judged-other}
 use Rattle.replay.proofs.op_well_formed.Statement.{statement}
 use Rattle.replay.proofs.op_well_formed.Tie as tie
 
@@ -6,10 +6,7 @@ returns : tie.Need-returns
 returns c = judged-store _ _ _ _ (c .if1 .taken)
 
 returns-2 : tie.Need-returns-2
-returns-2 c = judged-clwb _ _ _ _ (c .if2 .taken)
-
-returns-3 : tie.Need-returns-3
-returns-3 c = judged-sfence _ _ _ _ (c .before .if1 .left) (c .if2 .left)
+returns-2 c = judged-other _ _ _ _ (c .if1 .left)
 
 pub op-well-formed-spec : {M : Type 1} → statement M
-op-well-formed-spec = tie.close (tie.spec returns returns-2 returns-3)
+op-well-formed-spec = tie.close (tie.spec returns returns-2)
