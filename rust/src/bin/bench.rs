@@ -4,13 +4,14 @@
 //! takes and a memcpy of the image.
 //!
 //! Same machine, same inputs, same interface of slices, the card by value on
-//! both sides, both built for release. All buffers are allocated and written before the first round and
-//! are not cleared between rounds. Before measuring, all sides must give the
-//! same answers. The last line is `worst: rust=R small=Q limit=L`: R is the
-//! greatest ratio of the library's time to Rust's over calls of 1,000 orders
-//! or more and over replay, Q over all other calls, L the greatest ratio to
-//! memset of an opening at 64,64,64. Exit status 1 if answers differ, 2
-//! without a library.
+//! both sides, both built for release. All buffers are allocated and written
+//! before the first round and are not cleared between rounds; rounds run at 25
+//! depths of the stack, since its place in its page alone moves a small call.
+//! Before measuring, all sides must give the same answers. The last line is
+//! `worst: rust=R small=Q limit=L`: R is the greatest ratio of the library's
+//! time to Rust's over calls of 1,000 orders or more and over replay, Q over
+//! all other calls, L the greatest ratio to memset of an opening at 64,64,64.
+//! Exit status 1 if answers differ, 2 without a library.
 
 use std::process::ExitCode;
 
@@ -42,7 +43,8 @@ mod with_library {
     use std::time::Instant;
 
     const SIZES: [Sizes; 3] = [Sizes::new(2, 1, 1), Sizes::new(16, 8, 16), Sizes::new(64, 64, 64)];
-    const ROUNDS: usize = 151;
+    const ROUNDS: usize = 200;
+    const DEPTHS: usize = 25;
     const ROUND_NANOSECONDS: f64 = 200_000.0;
     const MANY_ORDERS: u64 = 1000;
 
@@ -255,7 +257,7 @@ mod with_library {
         for round in 0..ROUNDS {
             for turn in 0..SIDES.len() {
                 let side = (round + turn) % SIDES.len();
-                times[side].push(case.time(SIDES[side], calls));
+                times[side].push(at_depth(round % DEPTHS, &mut || case.time(SIDES[side], calls)));
             }
         }
         let mut bytes = vec![0u8; 24 * case.orders() as usize];
@@ -268,6 +270,16 @@ mod with_library {
         };
         let replay = matches!(case.action, Action::Replay);
         Ok(Row { orders: case.orders(), replay, library, rust, form, memset })
+    }
+
+    /// Runs so many frames down the stack. Times move with the stack's place in
+    /// its page; over the depths each side meets every place.
+    #[inline(never)]
+    fn at_depth(depth: usize, run: &mut dyn FnMut() -> f64) -> f64 {
+        let pad = black_box([0u8; 112]);
+        let time = if depth == 0 { run() } else { at_depth(depth - 1, run) };
+        black_box(&pad);
+        time
     }
 
     fn time_of(calls: usize, mut call: impl FnMut()) -> f64 {
