@@ -8,7 +8,7 @@
 //! Written from document 01 alone. The places that write or read many orders
 //! exist in two forms, by index and by chunks; the benchmark takes the better
 //! one of each measurement. Both are checked against the reference
-//! (`selftest`) and against the library (`bench`, before it measures).
+//! (`selftest`) and against the library (`speed`, before it measures).
 
 use crate::calls::*;
 
