@@ -1,6 +1,6 @@
 -- Laws of replay for its two passes: what a well-formed store may touch, one operation more, and what each status leaves.
 use Prim.Native.Nat.{ℕ, zero, suc, _+_, _*_, _%_, _≤_, _<_}
-use mathlib.Core.Path.{_≡_, refl, sym, ap, ap₂, _∙_}
+use mathlib.Core.Path.{_≡_, refl, sym, ap, _∙_}
 use mathlib.Core.Logic.{_≢_, ⊎-elim}
 use mathlib.Core.Bool.{Bool, true, false, not, cond, _&&_, _||_, true≢false, false≢true}
 use mathlib.Core.List.{[], _∷_, _++_}
@@ -31,10 +31,14 @@ pub judged-none : (size : ℕ) (t : Trace) → true ≡ allWellFormed size t 0
 unfolding allWellFormed allB
 judged-none size t = refl
 
-pub judged-more : (size : ℕ) (t : Trace) (k : ℕ) {a b : Bool}
-    → a ≡ allWellFormed size t k → b ≡ wellFormedAt size t k → (a && b) ≡ allWellFormed size t (k + 1)
+-- a well-formed operation at the end decides nothing
+pub judged-less : (size : ℕ) (t : Trace) (n k : ℕ) → n ≡ suc k → wellFormedAt size t k ≡ true → allWellFormed size t n ≡ allWellFormed size t k
 unfolding allWellFormed allB
-judged-more size t k p q = rw add-one (ap₂ (λ (x y : Bool). x && y) p q)
+judged-less size t n k e h = rw (e, h) (go (allB k (wellFormedAt size t)))
+  where
+    go : (b : Bool) → (b && true) ≡ b
+    go true = refl
+    go false = refl
 
 pub judged-at : (size : ℕ) (t : Trace) (n : ℕ) → allWellFormed size t n ≡ true → (k : ℕ) → k < n
     → wellFormedAt size t k ≡ true

@@ -27,18 +27,19 @@ pub fn op_well_formed(size: u64, kind: u64, place: u64, word: u64) -> bool
     (place < size) & (clwb | sfence)
 }
 
-// Whether the first `count` operations of a trace are well formed on an image of so many bytes.
+// Whether the first `count` operations of a trace are well formed on an image of so many bytes. They are judged downward, so that
+// the first of them are still in the cache when they are played.
 pub fn all_well_formed(size: u64, trace: &[u64], count: usize) -> bool
     requires { ⌜ 3 * count ≤ length (now trace) ⌝ }
     ensures { λ r. ⌜ r ≡ allWellFormed size (now (trace .entry)) count ⌝ }
 {
-    let mut k = 0;
-    while k < count {
+    let mut k = count;
+    while 0 < k {
+        k -= 1;
         let at = 3 * k;
         if !op_well_formed(size, trace[at], trace[at + 1], trace[at + 2]) {
             return false;
         }
-        k += 1;
     }
     true
 }

@@ -1,22 +1,24 @@
 use Prim.Native.Nat.{_-_, _≤_}
-use mathlib.Core.Path.{_≡_, sym, _∙_}
-use mathlib.Core.Bool.{true}
+use mathlib.Core.Path.{_≡_, refl, sym, _∙_}
 use native.Mathlib.Omega.{arith}
 use Rattle.model.specs.Replay.{allWellFormed}
-use Rattle.replay.proofs.Laws.{judged-none, judged-more, judged-stop}
+use Rattle.replay.proofs.Laws.{judged-none, judged-less, judged-stop}
 use borrow.Author.Tests.{not-true, not-false}
 use borrow.Author.Needs.{needs}
 use Rattle.replay.proofs.all_well_formed.Statement.{statement}
 use Rattle.replay.proofs.all_well_formed.Tie as tie
 
 abbrev Inv-loop : tie.InvT-loop
-Inv-loop size trace count k₀ k = (k ≤ count) × (true ≡ allWellFormed size trace k)
+Inv-loop size trace count k₀ k = (k ≤ count) × (allWellFormed size trace count ≡ allWellFormed size trace k)
 
 abbrev μ-loop : tie.MeasureT-loop
-μ-loop size trace count k₀ k = count - k
+μ-loop size trace count k₀ k = k
 
 loop-holds : tie.Need-loop-holds Inv-loop μ-loop
-loop-holds c = (search needs, judged-none _ _)
+loop-holds c = (search needs, refl)
+
+sub-k : tie.Need-sub-k Inv-loop μ-loop
+sub-k c = search needs
 
 mul-at : tie.Need-mul-at Inv-loop μ-loop
 mul-at c = search needs
@@ -51,21 +53,21 @@ op-well-formed-requires c κs = search needs
 returns : tie.Need-returns Inv-loop μ-loop
 returns c =
     let b = c .before .before .before .before .before in
-    judged-stop _ _ _ (b .before .loop .k) (b .loop-test .taken) (sym (c .before .op-well-formed .ensures) ∙ not-true _ (c .if1 .taken))
-
-add-k : tie.Need-add-k Inv-loop μ-loop
-add-k c = search needs
+    judged-stop _ _ _ (b .before .loop .k - 1) (omega (arith, b .loop-test .taken, b .before .loop .inv .0)) (sym (c .before .op-well-formed .ensures) ∙ not-true _ (c .if1 .taken))
 
 loop-less : tie.Need-loop-less Inv-loop μ-loop
 loop-less c = search needs
 
 loop-again : tie.Need-loop-again Inv-loop μ-loop
 loop-again c =
-    let b = c .before .before .before .before .before .before in
-    (omega arith, judged-more _ _ (b .loop .k) (b .loop .inv .1) (sym (not-false _ (c .if1 .left)) ∙ c .before .op-well-formed .ensures))
+    let b = c .before .before .before .before .before .before .loop in
+    let w = sym (c .before .op-well-formed .ensures) ∙ not-false _ (c .if1 .left) in
+    (omega arith, b .inv .1 ∙ judged-less _ _ (b .k) (b .k - 1) (omega (arith, c .before .before .before .before .before .loop-test .taken)) w)
 
 returns-2 : tie.Need-returns-2 Inv-loop μ-loop
-returns-2 c = let e : c .before .loop .k ≡ c .before .before .before .args .count = omega arith in rw e at (c .before .loop .inv .1)
+returns-2 c =
+    let e : c .before .loop .k ≡ 0 = omega (arith, c .loop-test .left) in
+    judged-none _ _ ∙ sym (rw e at (c .before .loop .inv .1))
 
 pub all-well-formed-spec : {M : Type 1} → statement M
 all-well-formed-spec =
@@ -74,6 +76,7 @@ all-well-formed-spec =
     Inv-loop
     μ-loop
     loop-holds
+    sub-k
     mul-at
     mul-op-well-formed
     shared-slice-read-op-well-formed
@@ -85,7 +88,6 @@ all-well-formed-spec =
     shared-slice-read-op-well-formed-3
     op-well-formed-requires
     returns
-    add-k
     loop-less
     loop-again
     returns-2)
