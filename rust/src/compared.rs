@@ -1,7 +1,8 @@
 //! Two implementations of the calls run side by side on equal inputs.
 //!
 //! Every call goes to both; answer, card, tape and image are compared byte for
-//! byte, and the first difference is kept. The caller gets what the tested one gave,
+//! byte (the images of reads and likeness where they are small), and the first
+//! difference is kept. The caller gets what the tested one gave,
 //! so the explorer over a `Compared` is a history through the tested one, held
 //! against the other step by step. The numbers that each call knows are
 //! document 01's.
@@ -20,6 +21,18 @@ const LISTED: [(&str, &[u64]); 7] = [
     ("save", &[0, 1, 2, 3, 4, 5, 10, 11]),
     ("write", &[0, 1, 2, 3, 4, 5, 6, 7, 8, 9, 11]),
 ];
+
+/// The longest image that is kept beside each read and each likeness.
+const SMALL: usize = 4096;
+
+/// A copy of a small image, and whether the image is as its copy.
+fn small(image: &[u8]) -> Option<Vec<u8>> {
+    (image.len() <= SMALL).then(|| image.to_vec())
+}
+
+fn unchanged(kept: Option<Vec<u8>>, image: &[u8]) -> bool {
+    kept.is_none_or(|kept| kept == image)
+}
 
 pub struct Compared<'a, G: Calls, T: Calls> {
     good: &'a G,
@@ -134,18 +147,21 @@ impl<G: Calls, T: Calls> Calls for Compared<'_, G, T> {
     }
 
     fn read(&self, page: Page, image: &[u8], sizes: Sizes, level: u64, frame: u64) -> Part {
+        let kept = small(image);
         let due = self.good.read(page, image, sizes, level, frame);
         let got = self.tested.read(page, image, sizes, level, frame);
-        self.judge("read", due.number, due == got, || {
+        self.judge("read", due.number, due == got && unchanged(kept, image), || {
             format!("{page:?} read {sizes} {level},{frame}: {got:?}, due {due:?}")
         });
         got
     }
 
     fn like(&self, first: &[u8], second: &[u8], sizes: Sizes) -> (u64, bool) {
+        let kept = (small(first), small(second));
         let due = self.good.like(first, second, sizes);
         let got = self.tested.like(first, second, sizes);
-        self.judge("like", due.0, due == got, || format!("like {sizes}: {got:?}, due {due:?}"));
+        let same = due == got && unchanged(kept.0, first) && unchanged(kept.1, second);
+        self.judge("like", due.0, same, || format!("like {sizes}: {got:?}, due {due:?}"));
         got
     }
 }

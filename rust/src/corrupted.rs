@@ -15,15 +15,15 @@ use std::cell::Cell;
 pub enum Spoil {
     LaidOutNumber,
     LaidOutImage,
-    Number(Deed),
-    Orders(Deed),
-    CardSizes(Deed),
-    CardTouched(Deed),
-    CardMarks(Deed),
-    TapeKind(Deed),
-    TapePlace(Deed),
-    TapeWord(Deed),
-    TapeBehind(Deed),
+    Number(CallKind),
+    Orders(CallKind),
+    CardSizes(CallKind),
+    CardTouched(CallKind),
+    CardMarks(CallKind),
+    TapeKind(CallKind),
+    TapePlace(CallKind),
+    TapeWord(CallKind),
+    TapeBehind(CallKind),
     PlayedNumber,
     PlayedOrders,
     PlayedImage,
@@ -35,7 +35,7 @@ pub enum Spoil {
 }
 
 #[derive(Clone, Copy, PartialEq, Eq, Debug)]
-pub enum Deed {
+pub enum CallKind {
     Open,
     Write,
     Save,
@@ -47,7 +47,7 @@ impl Spoil {
         use Spoil::*;
         let mut all = vec![LaidOutNumber, LaidOutImage, PlayedNumber, PlayedOrders, PlayedImage];
         all.extend([ReadNumber, ReadStart, ReadLength, LikeNumber, Likeness]);
-        for deed in [Deed::Open, Deed::Write, Deed::Save] {
+        for deed in [CallKind::Open, CallKind::Write, CallKind::Save] {
             all.extend([Number, Orders, CardSizes, CardTouched, CardMarks].map(|kind| kind(deed)));
             all.extend([TapeKind, TapePlace, TapeWord, TapeBehind].map(|kind| kind(deed)));
         }
@@ -85,7 +85,7 @@ impl<'a, C: Calls> Corrupted<'a, C> {
     }
 
     /// Spoils what opening, write or save answers and leaves.
-    fn answered(&self, deed: Deed, answer: Answer, card: &mut Card, tape: &mut [u64]) -> Answer {
+    fn answered(&self, deed: CallKind, answer: Answer, card: &mut Card, tape: &mut [u64]) -> Answer {
         let end = (3 * answer.orders as usize).min(tape.len());
         let (last, behind) = (end.saturating_sub(3), end < tape.len());
         let mut tape_at = |spoil, at: usize, can| {
@@ -124,17 +124,17 @@ impl<C: Calls> Calls for Corrupted<'_, C> {
 
     fn open(&self, image: &[u8], sizes: Sizes, card: &mut Card, tape: &mut [u64]) -> Answer {
         let answer = self.calls.open(image, sizes, card, tape);
-        self.answered(Deed::Open, answer, card, tape)
+        self.answered(CallKind::Open, answer, card, tape)
     }
 
     fn write(&self, image: &[u8], card: &mut Card, target: Target, bytes: &[u8], tape: &mut [u64]) -> Answer {
         let answer = self.calls.write(image, card, target, bytes, tape);
-        self.answered(Deed::Write, answer, card, tape)
+        self.answered(CallKind::Write, answer, card, tape)
     }
 
     fn save(&self, image: &[u8], card: &mut Card, tape: &mut [u64]) -> Answer {
         let answer = self.calls.save(image, card, tape);
-        self.answered(Deed::Save, answer, card, tape)
+        self.answered(CallKind::Save, answer, card, tape)
     }
 
     fn play(&self, image: &mut [u8], tape: &[u64], n: u64) -> Answer {

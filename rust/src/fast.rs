@@ -127,18 +127,18 @@ impl Form for Chunked {
     }
 }
 
-/// What sound metadata say: the epoch, the active state line, and as masks of
-/// levels those in state 1, those in state 2 and those with a spare.
-struct Sound {
+/// What sound metadata say: the epoch, where the active states and the pairs
+/// stand, and which levels have a spare.
+struct Sound<'a> {
     epoch: u64,
     active: usize,
-    own: u64,
-    in_spare: u64,
-    paired: u64,
+    states: &'a [u8],
+    pairs: &'a [u8],
+    paired: [bool; LINE],
 }
 
-impl Sound {
-    fn of(image: &[u8], sizes: Sizes) -> Result<Sound, u64> {
+impl<'a> Sound<'a> {
+    fn of(image: &'a [u8], sizes: Sizes) -> Result<Sound<'a>, u64> {
         if !sizes.in_range() {
             return Err(1);
         }
@@ -154,53 +154,45 @@ impl Sound {
         let (levels, spares) = (sizes.levels as usize, sizes.spares as usize);
         let (states, beyond) = image[active..active + LINE].split_at(levels);
         let (pairs, behind) = image[PAIRS..PAIRS + LINE].split_at(spares);
-        let all_zero = beyond.iter().fold(0, |all, state| all | state) == 0;
-        let all_unpaired = behind.iter().fold(UNPAIRED, |all, level| all & level) == UNPAIRED;
-        let paired = masked(pairs, levels).ok_or(4u64)?;
-        let (mut own, mut in_spare, mut greatest) = (0, 0, 0);
-        for (level, &state) in states.iter().enumerate() {
-            own |= u64::from(state == 1) << level;
-            in_spare |= u64::from(state == 2) << level;
-            greatest = state.max(greatest);
+        let mut good = beyond.iter().fold(0, |all, state| all | state) == 0;
+        good &= behind.iter().fold(UNPAIRED, |all, level| all & level) == UNPAIRED;
+        let mut paired = [false; LINE];
+        for &level in pairs {
+            let (some, at) = (level != UNPAIRED, level as usize % LINE);
+            good &= !some | ((level as usize) < levels) & !paired[at];
+            paired[at] |= some;
         }
-        let states_fit = greatest <= 2 && in_spare & !paired == 0 && paired & !(own | in_spare) == 0;
-        match all_zero && all_unpaired && states_fit {
-            true => Ok(Sound { epoch, active, own, in_spare, paired }),
+        for (&state, &paired) in states.iter().zip(&paired) {
+            good &= (state == 1) | (state == 0) & !paired | (state == 2) & paired;
+        }
+        match good {
+            true => Ok(Sound { epoch, active, states, pairs, paired }),
             false => Err(4),
         }
     }
 
-    fn free_spare(&self, pairs: &[u8]) -> Option<usize> {
-        let unpaired = pairs.iter().position(|level| *level == UNPAIRED);
-        unpaired.or_else(|| pairs.iter().position(|level| self.in_spare >> level & 1 == 0))
+    /// Is no touched level in state 1?
+    fn none_own(&self, touched: u64) -> bool {
+        let touches = |level: usize| touched >> level & 1 == 1;
+        self.states.iter().enumerate().fold(true, |all, (level, &state)| all & !((state == 1) & touches(level)))
+    }
+
+    fn free_spare(&self) -> Option<usize> {
+        let unpaired = self.pairs.iter().position(|level| *level == UNPAIRED);
+        unpaired.or_else(|| self.pairs.iter().position(|level| self.states[*level as usize] != 2))
+    }
+
+    /// The spare of a paired level.
+    fn spare_of(&self, level: usize) -> usize {
+        self.pairs.iter().position(|paired| *paired as usize == level).unwrap_or(0)
     }
 }
 
-/// The mask of the levels that these pairs name, each below the end and once.
-fn masked(pairs: &[u8], levels: usize) -> Option<u64> {
-    let mut paired = 0;
-    for &level in pairs {
-        if level == UNPAIRED {
-            continue;
-        }
-        if level as usize >= levels || paired >> level & 1 == 1 {
-            return None;
-        }
-        paired |= 1 << level;
-    }
-    Some(paired)
-}
-
-/// The spare of a paired level.
-fn spare_of(image: &[u8], level: usize) -> usize {
-    image[PAIRS..PAIRS + LINE].iter().position(|paired| *paired as usize == level).unwrap_or(0)
-}
-
-fn card_is_true(own: u64, card: &Card) -> bool {
+fn card_is_true(sound: &Sound, card: &Card) -> bool {
     let (below, beyond) = card.marks.split_at(card.sizes.levels as usize);
     let over = |bits: u64, size: u64| bits >> (size - 1) >> 1 != 0;
     !over(card.touched, card.sizes.levels)
-        && card.touched & own == 0
+        && sound.none_own(card.touched)
         && !over(below.iter().fold(0, |all, m| all | m), card.sizes.frames)
         && beyond.iter().fold(0, |all, m| all | m) == 0
 }
@@ -256,18 +248,18 @@ pub fn open<F: Form>(image: &[u8], sizes: Sizes, card: &mut [u64], tape: &mut [u
 fn opening<F: Form>(image: &[u8], sizes: Sizes, tape: &mut [u64]) -> Result<Served, u64> {
     let sound = Sound::of(image, sizes)?;
     let (levels, frames) = (sizes.levels as usize, sizes.frames as usize);
-    let untreated = sound.own & !sound.paired;
-    let treated = levels - untreated.count_ones() as usize;
+    let treats = |l: usize| sound.states[l] != 1 || sound.paired[l];
+    let treated = (0..levels).filter(|l| treats(*l)).count();
     let count = 36 * frames * treated + 1;
     let tape = tape.get_mut(..3 * count).ok_or(11u64)?;
     let mut level_parts = tape.chunks_exact_mut(FRAME_NUMBERS * frames);
-    for l in (0..levels).filter(|l| untreated >> l & 1 == 0) {
+    for l in (0..levels).filter(|l| treats(*l)) {
         let parts = level_parts.next().ok_or(11u64)?.chunks_exact_mut(FRAME_NUMBERS);
         let own = sizes.in_level(l, 0);
-        let spare = sizes.in_spare(spare_of(image, l), 0);
-        match (sound.own >> l & 1, sound.in_spare >> l & 1) {
-            (1, _) => copy_all::<F>(parts, &image[own..], spare),
-            (_, 1) => copy_all::<F>(parts, &image[spare..], own),
+        let spare = || sizes.in_spare(sound.spare_of(l), 0);
+        match sound.states[l] {
+            1 => copy_all::<F>(parts, &image[own..], spare()),
+            2 => copy_all::<F>(parts, &image[spare()..], own),
             _ => parts.enumerate().for_each(|(f, part)| F::fill(part, own + FRAME * f)),
         }
     }
@@ -315,7 +307,7 @@ fn writing<F: Form>(
     let sizes = card.sizes;
     let sound = Sound::of(image, sizes)?;
     let length = bytes.len();
-    if !card_is_true(sound.own, &card) {
+    if !card_is_true(&sound, &card) {
         return Err(5);
     }
     if target.level >= sizes.levels {
@@ -329,12 +321,11 @@ fn writing<F: Form>(
     }
     let (level, frame, offset) = (target.level as usize, target.frame as usize, target.offset as usize);
     let marks = card.marks[level];
-    let pairs = &image[PAIRS..PAIRS + sizes.spares as usize];
-    let needs_copy = (sound.own & !card.touched) >> level & 1 == 1;
-    let before = match (needs_copy, sound.paired >> level & 1) {
+    let needs_copy = sound.states[level] == 1 && card.touched >> level & 1 == 0;
+    let before = match (needs_copy, sound.paired[level]) {
         (false, _) => Before::Nothing,
-        (true, 0) => Before::Pair(sound.free_spare(pairs).ok_or(9u64)?),
-        (true, _) => Before::Marked(spare_of(image, level)),
+        (true, false) => Before::Pair(sound.free_spare().ok_or(9u64)?),
+        (true, true) => Before::Marked(sound.spare_of(level)),
     };
     let copied = match before {
         Before::Nothing => 0,
@@ -420,7 +411,7 @@ pub fn save(image: &[u8], card: &mut [u64], tape: &mut [u64], out: &mut [u64]) -
 fn saving(image: &[u8], mut card: Card, tape: &mut [u64]) -> Result<Served, u64> {
     let sizes = card.sizes;
     let sound = Sound::of(image, sizes)?;
-    if !card_is_true(sound.own, &card) {
+    if !card_is_true(&sound, &card) {
         return Err(5);
     }
     let epoch = sound.epoch.checked_add(1).ok_or(10u64)?;
@@ -498,11 +489,11 @@ fn reading(page: Page, image: &[u8], sizes: Sizes, level: u64, frame: u64) -> Re
         return Err(7);
     }
     let (level, frame) = (level as usize, frame as usize);
-    let state = if page == Page::Working { 1 } else { image[sound.active + level] };
+    let state = if page == Page::Working { 1 } else { sound.states[level] };
     Ok(match state {
         0 => None,
         1 => Some(sizes.in_level(level, frame)),
-        _ => Some(sizes.in_spare(spare_of(image, level), frame)),
+        _ => Some(sizes.in_spare(sound.spare_of(level), frame)),
     })
 }
 
@@ -517,15 +508,15 @@ pub fn same(first: &[u8], second: &[u8], sizes: Sizes, out: &mut [u64]) -> u64 {
 fn likeness(first: &[u8], second: &[u8], sizes: Sizes) -> Result<bool, u64> {
     let (a, b) = (Sound::of(first, sizes)?, Sound::of(second, sizes)?);
     let length = FRAME * sizes.frames as usize;
-    let saved = |image: &[u8], state: u8, l: usize| match state {
+    let saved = |sound: &Sound, l: usize| match sound.states[l] {
         1 => sizes.in_level(l, 0),
-        _ => sizes.in_spare(spare_of(image, l), 0),
+        _ => sizes.in_spare(sound.spare_of(l), 0),
     };
-    let agree = |l: usize| match (first[a.active + l], second[b.active + l]) {
+    let agree = |l: usize| match (a.states[l], b.states[l]) {
         (0, 0) => true,
-        (0, s) => second[saved(second, s, l)..][..length].iter().all(|byte| *byte == 0),
-        (s, 0) => first[saved(first, s, l)..][..length].iter().all(|byte| *byte == 0),
-        (s, t) => first[saved(first, s, l)..][..length] == second[saved(second, t, l)..][..length],
+        (0, _) => second[saved(&b, l)..][..length].iter().all(|byte| *byte == 0),
+        (_, 0) => first[saved(&a, l)..][..length].iter().all(|byte| *byte == 0),
+        _ => first[saved(&a, l)..][..length] == second[saved(&b, l)..][..length],
     };
     Ok((0..sizes.levels as usize).all(agree))
 }

@@ -41,8 +41,8 @@ fn laid_out<C: Calls>(calls: &C, sizes: Sizes) -> Result<Vec<u8>, String> {
 /// P1 to P10 and the cut line of P4.
 pub fn bench_cases<C: Calls>(calls: &C) -> Outcome {
     let sizes = Sizes::new(2, 1, 1);
-    due("P1 length", sizes.image_length(), 1280)?;
-    due("P1 greatest", Sizes::new(64, 64, 64).image_length(), 2_097_664)?;
+    due("P1 length", calls.lay_out(&mut [0; 1280], sizes), 0)?;
+    due("P1 greatest", calls.lay_out(&mut vec![0; 2_097_664], Sizes::new(64, 64, 64)), 0)?;
     due("P1 M=65", calls.lay_out(&mut [0; 1280], Sizes::new(65, 1, 1)), 1)?;
     let image = laid_out(calls, sizes)?;
     let mut card = Card::zeros();
@@ -133,9 +133,9 @@ pub fn waiting_lines<C: Calls>(calls: &C) -> Outcome {
         explorer.step(&mut history, &call, Plan::ALL)?;
         due("images", history.module.cut().count(), 2 << line)?;
     }
-    let before = explorer.distinct();
+    let distinct = explorer.distinct();
     Ok(format!(
-        "ten waiting lines give {} images, {before} distinct opened again",
+        "ten waiting lines give {} images, {distinct} distinct opened again",
         history.module.cut().count()
     ))
 }

@@ -1,5 +1,5 @@
-//! A small generator with a fixed seed (splitmix64), so that every run of the
-//! tests sees the same inputs.
+//! A small generator (splitmix64). Its callers give it fixed seeds, so that
+//! every run of the tests sees the same inputs.
 
 pub struct Rng(u64);
 

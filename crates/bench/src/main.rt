@@ -1,7 +1,7 @@
 // Document 01's bench cases P1 to P10, run on the library, with cuts of the calls of their history. Each line has what was
 // measured. The file `stdout` has the expected lines, worked out by hand from document 01.
 //
-// A cut line counts the images that a crash may leave after so many orders of a call. `stages` is the number of ways to take,
+// A cut line counts the images that a crash may leave after so many orders of a call. `ways` is the number of ways to take,
 // for every line of the image on its own, a permitted first part of the stores to it (two ways may leave the same bytes).
 // After each the image is opened, the opening played whole, and every frame read with both reads. `old` counts the ways
 // after which both reads show the saved page as it was before the call, `new` the working page, `other` anything else.
@@ -97,7 +97,7 @@ fn print_saved(name: &[u8], image: &[u8], layout: Layout, main: u64) {
     }
 }
 
-// Prints the epoch, the states of levels 0 and 1 on either line, the first pair, and the saved reads of levels 0 and 1.
+// Prints the first byte of the epoch, the states of levels 0 and 1 on either line, the first pair, and the saved reads of levels 0 and 1.
 fn print_image(image: &[u8], layout: Layout) {
     print_number(b" epoch=", byte_at(image, 0));
     print_number(b" at128=", byte_at(image, 128));
@@ -252,7 +252,7 @@ fn shows(image: &[u8], page: &[u8]) -> bool {
 
 // What the ways of a cut show.
 struct Tally {
-    stages: u64,
+    ways: u64,
     old: u64,
     new: u64,
     other: u64,
@@ -262,7 +262,7 @@ struct Tally {
 fn judged(tally: Tally, image: &mut [u8], old: [u8; 512], new: [u8; 512]) -> Tally {
     let mut trace = [0u64; 219];
     let mut next = tally;
-    next.stages = wrapping_add_u64(next.stages, 1);
+    next.ways = wrapping_add_u64(next.ways, 1);
     let opened = driver::step_open(image, MAINS, BACKUPS, BLOCKS, &mut trace);
     let status = opened.status;
     if status.code() != 0 {
@@ -321,7 +321,7 @@ fn try_way(tally: Tally, held: [u8; 1280], ops: &[u64], takes: [u64; 20], bench:
 fn try_ways(held: [u8; 1280], ops: &[u64], bench: Bench) -> Tally {
     let lines = count_lines(ops);
     let mut tally = Tally {
-        stages: 0,
+        ways: 0,
         old: 0,
         new: 0,
         other: 0,
@@ -348,7 +348,7 @@ fn cut(case: u64, held: [u8; 1280], log: &[u64], bench: Bench, ops: u64) {
     let tally = try_ways(held, &log[0..end], bench);
     print_number(b"P", case);
     print_number(b" cut=", ops);
-    print_number(b" stages=", tally.stages);
+    print_number(b" ways=", tally.ways);
     print_number(b" old=", tally.old);
     print_number(b" new=", tally.new);
     print_number(b" other=", tally.other);
@@ -433,7 +433,8 @@ fn first_of(bytes: &[u8], n: u64) -> &[u8] {
     }
 }
 
-// A page with bytes put on it from a place of a level on. They lie within a page, so no remainder here changes a place.
+// A page with bytes put on it from a place of a level on. They lie within a page, so no remainder here changes a place (of P10, which
+// has other sizes and is not cut, no page is looked at).
 fn page_after(page: [u8; 512], main: u64, offset: u64, bytes: &[u8]) -> [u8; 512] {
     let start = (main % MAINS * BLOCK as u64 + offset % BLOCK as u64) as usize;
     let mut next = page;

@@ -1,4 +1,4 @@
-// The C interface (include/crpm.h): each call of the library under its plain name, over slices and numbers. A session goes in
+// The C interface (include/crpm.h): eight calls of the library under their own names, over slices and numbers. A session goes in
 // and out as 68 words (document 01: the card), a result goes out as 2 words, and the number of the answer is returned.
 use model::Answer;
 use model::Layout;
@@ -24,7 +24,7 @@ const RESULT_WORDS: usize = 2;
 const MISUSE: u64 = 255;
 
 // Where the words of dirty blocks start, and how many they are.
-const BLOCKS_AT: usize = 4;
+const DIRTY_BLOCKS_AT: usize = 4;
 
 const MOST: usize = Layout::MOST as usize;
 
@@ -38,7 +38,7 @@ fn session_of(words: &[u64]) -> Session
     let mut blocks = [0u64; 64];
     let mut i = 0;
     while i < MOST {
-        blocks[i] = words[BLOCKS_AT + i];
+        blocks[i] = words[DIRTY_BLOCKS_AT + i];
         i += 1;
     }
     Session {
@@ -59,7 +59,7 @@ fn put_session(words: &mut [u64], session: Session)
     words[3] = session.dirty_segments;
     let mut i = 0;
     while i < MOST {
-        words[BLOCKS_AT + i] = session.dirty_blocks[i];
+        words[DIRTY_BLOCKS_AT + i] = session.dirty_blocks[i];
         i += 1;
     }
 }
@@ -73,7 +73,7 @@ fn put_result(out: &mut [u64], first: u64, second: u64)
     out[1] = second;
 }
 
-// Puts the session of an answer, and its number of operations. The number of its status.
+// Puts the session of an answer, and its number of operations, and answers with the number of its status.
 fn put_answer(session: &mut [u64], out: &mut [u64], answer: Answer) -> u64
     requires { ⌜ (length (now session) ≡ 68) × (length (now out) ≡ 2) ⌝ }
     ensures { λ r. ⌜ r ≡ codeOf (answer .status) ⌝ }

@@ -13,7 +13,7 @@ use lib.Seq.{drop-cons, drop-length, take-take, take-all, drop-drop}
 use borrow.Author.Tests.{eq-eqb, ne-eqb, le-leb, lt-leb, not-true, not-false}
 use Rattle.parser.specs.Text.{startsWith, Line, numberOf, hexPairs}
 use Rattle.parser.specs.Script.{key, named, valueOf, isBytes, goodLine, keyFor, following}
-use Rattle.parser.specs.declared.Span.{Span}
+use Rattle.parser.specs.declared.ValueAt.{ValueAt}
 use Rattle.parser.specs.Read.{ReadsValue}
 
 -- ---- names
@@ -79,7 +79,7 @@ take-drop-take m (suc s) (suc n) [] h = refl
 take-drop-take m (suc s) (suc n) (x ∷ l) h = take-drop-take m s n l (omega arith)
 
 -- the part that holds the value of a line, taken from the whole input
-pub value-part : (k : ℕ) (input : List ℕ) («at» end : ℕ) (r : Span) → «at» ≤ end → end ≤ length input → ReadsValue k «at» end r
+pub value-part : (k : ℕ) (input : List ℕ) («at» end : ℕ) (r : ValueAt) → «at» ≤ end → end ≤ length input → ReadsValue k «at» end r
     → take (r .end - r .start) (drop (r .start) input) ≡ valueOf k (take (end - «at») (drop «at» input))
 unfolding valueOf
 value-part k input «at» end r h i v =
@@ -97,10 +97,10 @@ value-part k input «at» end r h i v =
     go (no p) = let e : end - «at» - 1 - length (key k .name) ≡ 0 = omega arith in rw e
 
 -- and from the line by itself
-pub value-whole : (k : ℕ) (l : Line) (r : Span) → ReadsValue k 0 (length l) r → take (r .end - r .start) (drop (r .start) l) ≡ valueOf k l
+pub value-whole : (k : ℕ) (l : Line) (r : ValueAt) → ReadsValue k 0 (length l) r → take (r .end - r .start) (drop (r .start) l) ≡ valueOf k l
 value-whole k l r v = value-part k l 0 (length l) r (omega arith) (omega arith) v ∙ ap (valueOf k) (take-all (length l - 0) l (omega arith))
 
-pub value-inside : (k «at» end : ℕ) (r : Span) → «at» ≤ end → ReadsValue k «at» end r → («at» ≤ r .start) × (r .start ≤ r .end) × (r .end ≤ end)
+pub value-inside : (k «at» end : ℕ) (r : ValueAt) → «at» ≤ end → ReadsValue k «at» end r → («at» ≤ r .start) × (r .start ≤ r .end) × (r .end ≤ end)
 value-inside k «at» end r h v = (omega (arith, v .start), omega (arith, v .size), omega (arith, v .start, v .size))
 
 -- ---- good values

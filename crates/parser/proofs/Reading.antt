@@ -12,9 +12,9 @@ use lib.Seq.{drop-drop, getD-drop}
 use borrow.Author.Tests.{not-true, not-false}
 use Rattle.model.specs.declared.Layout.{Layout}
 use Rattle.model.specs.Layout.{layoutOf}
-use Rattle.parser.specs.Text.{Line, linesOf, lineLength, numberOf}
+use Rattle.parser.specs.Text.{Line, linesOf, lineLength, numberOf, lineAfter, lineStart}
 use Rattle.parser.specs.Script.{named, valueOf, lineAt, numberIn, groupOf, defaultBackups, blocksLine, sizesOf}
-use Rattle.parser.specs.declared.Span.{Span}
+use Rattle.parser.specs.declared.ValueAt.{ValueAt}
 use Rattle.parser.specs.Read.{ReadsValue, ReadsHeader, ReadsGroup}
 use Rattle.parser.proofs.Lines.{next-rest, next-part}
 use Rattle.parser.proofs.Keys.{value-part, value-inside}
@@ -84,7 +84,7 @@ module _ (input : List ℕ) (s t m : ℕ) (es : Ends input 0 s) (et : Ends input
 
 -- ---- a group
 
-pub group-read : (input : List ℕ) («at» s t u v w : ℕ) {m b o x : ℕ} {d : Span}
+pub group-read : (input : List ℕ) («at» s t u v w : ℕ) {m b o x : ℕ} {d : ValueAt}
     → Ends input «at» s → Ends input s t → Ends input t u → Ends input u v → Ends input v w
     → m ≡ numberOf (valueOf 3 (take (s - «at») (drop «at» input)))
     → b ≡ numberOf (valueOf 4 (take (t - s) (drop s input)))
@@ -92,7 +92,7 @@ pub group-read : (input : List ℕ) («at» s t u v w : ℕ) {m b o x : ℕ} {d 
     → ReadsValue 6 u v d
     → x ≡ numberOf (valueOf 7 (take (w - v) (drop v input)))
     → ReadsGroup input «at» (record { main = m; block = b; offset = o; digits = d .start; «digits_end» = d .end; checkpoint = eqb x 1; next = w })
-unfolding groupOf
+unfolding groupOf lineStart
 group-read input «at» s t u v w {d = d} es et eu ev ew em eb eo ed ex =
     let ls = linesOf (drop «at» input) in
     let h1 : linesOf (drop s input) ≡ drop 1 ls = past-line input ls 0 «at» s refl es in
@@ -100,11 +100,16 @@ group-read input «at» s t u v w {d = d} es et eu ev ew em eb eo ed ex =
     let h3 : linesOf (drop u input) ≡ drop 3 ls = past-line input ls 2 t u h2 eu in
     let h4 : linesOf (drop v input) ≡ drop 4 ls = past-line input ls 3 u v h3 ev in
     let i = value-inside 6 u v d (omega (arith, ev .0)) ed in
+    let p1 : s ≡ lineStart input «at» 1 = es .0 in
+    let p2 : t ≡ lineStart input «at» 2 = et .0 ∙ ap (lineAfter input) p1 in
+    let p3 : u ≡ lineStart input «at» 3 = eu .0 ∙ ap (lineAfter input) p2 in
+    let p4 : v ≡ lineStart input «at» 4 = ev .0 ∙ ap (lineAfter input) p3 in
     record {
       main = line-number input ls 0 «at» s refl es 3 em;
       block = line-number input ls 1 s t h1 et 4 eb;
       offset = line-number input ls 2 t u h2 eu 5 eo;
       checkpoint = ap (λ (n : ℕ). eqb n 1) (line-number input ls 4 v w h4 ew 7 ex);
+      place = rw (p3, p4) at ed;
       digits = value-part 6 input u v d (omega (arith, ev .0)) (ev .1) ed ∙ ap (valueOf 6) (line-part input ls 3 u v h3 ev);
       ordered = (i .1, omega (arith, i .2, ew .0));
       inside = ew .1;

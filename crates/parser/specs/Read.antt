@@ -4,14 +4,14 @@ use Prim.Native.Nat.{ℕ, suc, _+_, _-_, _≤_, min}
 use mathlib.Core.Path.{_≡_}
 use mathlib.Core.List.{List}
 use lib.ListN.{length, take, drop}
-use Rattle.parser.specs.Text.{linesOf, hexBytes}
+use Rattle.parser.specs.Text.{lineStart, linesOf, hexBytes}
 use Rattle.parser.specs.Script.{key, bytesKey, valueOf, groupLines, lineAt, groupOf, blocksLine, sizesOf}
-use Rattle.parser.specs.declared.Span.{Span}
+use Rattle.parser.specs.declared.ValueAt.{ValueAt}
 use Rattle.parser.specs.declared.HeaderAt.{HeaderAt}
 use Rattle.parser.specs.declared.GroupAt.{GroupAt}
 
 -- where the value for key k stands in a line: behind the key, and before the last byte
-pub record ReadsValue (k «at» end : ℕ) (r : Span) : Type 0 where
+pub record ReadsValue (k «at» end : ℕ) (r : ValueAt) : Type 0 where
   pub start : r .start ≡ min («at» + length (key k .name)) end
   pub size : r .end ≡ r .start + (end - «at» - 1 - length (key k .name))
 
@@ -21,12 +21,13 @@ pub record ReadsHeader (input : List ℕ) (r : HeaderAt) : Type 0 where
   pub inside : r .next ≤ length input
   pub rest : linesOf (drop (r .next) input) ≡ drop (suc (blocksLine (linesOf input))) (linesOf input)
 
--- the group of the first five lines from a place on, its digits as a part of the input, and where the lines after it start
+-- the group of the first five lines from a place on, where its digits stand in the fourth of them, and where the lines after it start
 pub record ReadsGroup (input : List ℕ) («at» : ℕ) (r : GroupAt) : Type 0 where
   pub main : r .main ≡ groupOf (linesOf (drop «at» input)) .main
   pub block : r .block ≡ groupOf (linesOf (drop «at» input)) .block
   pub offset : r .offset ≡ groupOf (linesOf (drop «at» input)) .offset
   pub checkpoint : r .checkpoint ≡ groupOf (linesOf (drop «at» input)) .checkpoint
+  pub place : ReadsValue bytesKey (lineStart input «at» 3) (lineStart input «at» 4) (record { start = r .digits; end = r .«digits_end» })
   pub digits : take (r .«digits_end» - r .digits) (drop (r .digits) input) ≡ valueOf bytesKey (lineAt (linesOf (drop «at» input)) 3)
   pub ordered : (r .digits ≤ r .«digits_end») × (r .«digits_end» ≤ r .next)
   pub inside : r .next ≤ length input

@@ -31,7 +31,7 @@ isBytes v = leb (length v) mostDigits && hexPairs v
 abbrev pub isFlag : List ℕ → Bool
 isFlag v = leb (numberOf v) 1
 
--- a key with its sign, and the values that it takes
+-- a key with its `=`, and the values that it takes
 pub record Key : Type 0 where
   pub name : List ℕ
   pub takes : List ℕ → Bool
@@ -145,7 +145,7 @@ firstGroups (suc n) ls = groupOf ls ∷ firstGroups n (drop groupLines ls)
 unfoldable pub groupsOf : List Line → List Group
 groupsOf ls = firstGroups (length ls / groupLines) ls
 
--- the number of backup segments where the sheet has none: as many as main segments
+-- the number of backup segments where the sheet has no line of them: as many as main segments
 unfoldable pub defaultBackups : ℕ → ℕ
 defaultBackups mains = mains
 

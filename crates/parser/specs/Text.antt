@@ -1,10 +1,11 @@
 -- Texts and lines of bytes. Assumes nothing.
-use Prim.Native.Nat.{ℕ, suc, _+_, _-_, _*_}
+use Prim.Native.Nat.{ℕ, zero, suc, _+_, _-_, _*_}
 use Prim.Native.Char.{code}
 use Prim.Native.String.{String, len, charAt}
 use mathlib.Core.Bool.{Bool, true, false, not, cond, _&&_, _||_}
 use mathlib.Core.List.{List, [], _∷_}
 use lib.Dec.{leb, eqb}
+use lib.ListN.{drop}
 use Rattle.model.specs.Range.{cat}
 
 -- the bytes of a text in ASCII
@@ -40,6 +41,14 @@ linesOf (b ∷ bs) = cond (eqb b lineEnd) ((b ∷ []) ∷ linesOf bs) (before b 
 unfoldable pub lineLength : List ℕ → ℕ
 lineLength [] = 0
 lineLength (b ∷ bs) = cond (eqb b lineEnd) 1 (suc (lineLength bs))
+
+-- where the line after the one that starts at a place starts, and where line i from a place on does
+abbrev pub lineAfter : List ℕ → ℕ → ℕ
+lineAfter input p = p + lineLength (drop p input)
+
+unfoldable pub lineStart : List ℕ → ℕ → ℕ → ℕ
+lineStart input p zero = p
+lineStart input p (suc i) = lineAfter input (lineStart input p i)
 
 -- ---- values
 

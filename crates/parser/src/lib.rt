@@ -100,7 +100,7 @@ fn is_named(k: u64, line: &[u8]) -> bool
     true
 }
 
-// The bytes of key k, its sign among them.
+// The bytes of key k, its `=` among them.
 fn key_size(k: u64) -> usize
     ensures { λ r. ⌜ (r ≡ length (key k .name)) × (r ≤ 7) ⌝ }
 {
@@ -225,25 +225,25 @@ fn hex_pairs(value: &[u8]) -> bool
 }
 
 // Where a value stands.
-pub struct Span {
+pub struct ValueAt {
     pub start: usize,
     pub end: usize,
 }
 
 // Where the value for key k stands in the line from `at` to `end`: between the key and the last byte, empty where the line is
 // too short.
-fn value_at(k: u64, at: usize, end: usize) -> Span
+fn value_at(k: u64, at: usize, end: usize) -> ValueAt
     requires { ⌜ at ≤ end ⌝ }
     ensures { λ r. ⌜ ReadsValue k at end r ⌝ }
 {
     let size = key_size(k);
     if end - at <= size {
-        return Span {
+        return ValueAt {
             start: end,
             end: end,
         };
     }
-    Span {
+    ValueAt {
         start: at + size,
         end: end - 1,
     }
@@ -371,7 +371,7 @@ pub struct HeaderAt {
     pub next: usize,
 }
 
-// The number of backup segments where the sheet has none.
+// The number of backup segments where the sheet has no line of them.
 fn default_backups(mains: u64) -> u64
     ensures { λ r. ⌜ r ≡ defaultBackups mains ⌝ }
 {

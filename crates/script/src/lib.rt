@@ -55,7 +55,7 @@ fn put_number(out: &mut [u8], from: usize, key: &[u8], n: u64, tail: &[u8]) -> u
 }
 
 // Puts a key, an answer number and a number of operations (document 01: orders).
-fn put_answer(out: &mut [u8], from: usize, key: &[u8], code: u64, ops: u64) -> usize
+fn put_answer_text(out: &mut [u8], from: usize, key: &[u8], code: u64, ops: u64) -> usize
     requires { ⌜ from + length (now key) + 48 ≤ length (now out) ⌝ }
     ensures { λ r. ⌜ Appended (now (out .entry)) from (now (key .entry) ++ decimal code ++ text " orders=" ++ decimal ops) (now (out .exit)) r ⌝ }
     ensures { λ r. ⌜ r ≤ from + length (now (key .entry)) + 48 ⌝ }
@@ -78,7 +78,7 @@ fn run_open(image: &mut [u8], layout: Layout, trace: &mut [u64], out: &mut [u8])
     let opened = driver::step_open(image, layout.mains, layout.backups, layout.blocks, trace);
     let status = opened.status;
     let next = opened.session;
-    let end = put_answer(out, 0, b"open=", status.code(), opened.ops);
+    let end = put_answer_text(out, 0, b"open=", status.code(), opened.ops);
     let place = printer::put_text(out, end, b"\n");
     Ran {
         session: next,
@@ -107,7 +107,7 @@ fn run_write(
     let written = driver::step_write(image, session, main, block, offset, bytes, trace);
     let status = written.status;
     let next = written.session;
-    let place = put_answer(out, from, b"write=", status.code(), written.ops);
+    let place = put_answer_text(out, from, b"write=", status.code(), written.ops);
     Ran {
         session: next,
         place: place,
@@ -137,7 +137,7 @@ fn run_checkpoint(
     let checkpointed = driver::step_checkpoint(image, session, trace);
     let status = checkpointed.status;
     let next = checkpointed.session;
-    let place = put_answer(out, from, b"save=", status.code(), checkpointed.ops);
+    let place = put_answer_text(out, from, b"save=", status.code(), checkpointed.ops);
     Ran {
         session: next,
         place: place,

@@ -24,7 +24,7 @@ mod with_library {
     use crpm_tests::arbitrary;
     use crpm_tests::calls::*;
     use crpm_tests::compared::Compared;
-    use crpm_tests::corrupted::{Corrupted, Deed, Spoil};
+    use crpm_tests::corrupted::{Corrupted, CallKind, Spoil};
     use crpm_tests::explore::{Images, Plan};
     use crpm_tests::ffi::{self, Library};
     use crpm_tests::groups::{self, Random};
@@ -194,7 +194,7 @@ mod with_library {
     fn spoiled_histories() -> Outcome {
         let plan = Plan { images: Images::Some { samples: 1 }, every_cut_up_to: 20 };
         let random = Random { seed: 44, histories: 8, calls: 8, most: 2, plan };
-        let (all, few) = (Spoil::all(), [Spoil::Number(Deed::Write), Spoil::PlayedImage, Spoil::ReadStart]);
+        let (all, few) = (Spoil::all(), [Spoil::Number(CallKind::Write), Spoil::PlayedImage, Spoil::ReadStart]);
         let runs: [(&str, &[Spoil], SpoiledRun); 5] = [
             ("bench cases", &all, &|both| groups::bench_cases(both)),
             ("waiting lines", &all, &|both| groups::waiting_lines(both)),
@@ -228,6 +228,9 @@ mod with_library {
                 noticed += usize::from(spoiled.done());
             }
         }
-        Ok(noticed)
+        match noticed {
+            0 => Err(format!("{name}: no answer was spoiled")),
+            _ => Ok(noticed),
+        }
     }
 }

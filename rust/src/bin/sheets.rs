@@ -58,8 +58,7 @@ fn run_all(program: &Path) -> Result<(), String> {
             false => good += 1,
         }
         if start.elapsed() > TIME_LIMIT {
-            println!("stopped at the time limit");
-            break;
+            return Err(format!("only {} sheets in {} s", number + 1, TIME_LIMIT.as_secs()));
         }
     }
     println!("ok random sheets: {good} good, {bad} bad ({:.1} s)", start.elapsed().as_secs_f64());
@@ -96,7 +95,7 @@ fn check(program: &Path, input: &[u8], due: &[u8], pieces: usize) -> Result<(), 
     let stdin = child.stdin.take().ok_or("no pipe")?;
     feed(stdin, input, pieces).map_err(|error| error.to_string())?;
     let output = child.wait_with_output().map_err(|error| error.to_string())?;
-    match output.stdout == due && output.status.code().is_some() {
+    match output.stdout == due && output.status.success() {
         true => Ok(()),
         false => Err(format!(
             "sheet {:?}\nprints {:?}\ndue {:?}",

@@ -372,7 +372,7 @@ mod with_library {
 
     fn workload(sizes: Sizes, writes: usize, levels: usize, frames: usize) -> Result<(Cost, Cost), String> {
         let mut rng = Rng::new(71);
-        let mut board = Board::start(sizes)?;
+        let mut board = Bench::start(sizes)?;
         let (mut library, mut undo) = (Cost::default(), Cost::default());
         for epoch in 0..WARM + EPOCHS {
             let mut touched = BTreeSet::new();
@@ -404,17 +404,17 @@ mod with_library {
         }
     }
 
-    struct Board {
+    struct Bench {
         sizes: Sizes,
         image: Vec<u8>,
         card: Card,
         tape: Vec<u64>,
     }
 
-    impl Board {
-        fn start(sizes: Sizes) -> Result<Board, String> {
+    impl Bench {
+        fn start(sizes: Sizes) -> Result<Bench, String> {
             let image = vec![0; sizes.image_length()];
-            let mut board = Board { sizes, image, card: Card::zeros(), tape: vec![0; sizes.room()] };
+            let mut board = Bench { sizes, image, card: Card::zeros(), tape: vec![0; sizes.room()] };
             Library.lay_out(&mut board.image, sizes);
             let opened = Library.open(&board.image, sizes, &mut board.card, &mut board.tape);
             board.played(opened, &mut Cost::default())?;

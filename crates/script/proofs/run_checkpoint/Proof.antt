@@ -28,14 +28,14 @@ returns c =
 step-checkpoint-requires : tie.Need-step-checkpoint-requires
 step-checkpoint-requires c κs = search needs
 
-slice-aggregate-put-answer : tie.Need-slice-aggregate-put-answer
-slice-aggregate-put-answer c = search needs
+slice-aggregate-put-answer-text : tie.Need-slice-aggregate-put-answer-text
+slice-aggregate-put-answer-text c = search needs
 
 code-requires : tie.Need-code-requires
 code-requires c κs = search needs
 
-put-answer-requires : tie.Need-put-answer-requires
-put-answer-requires c κs = search needs
+put-answer-text-requires : tie.Need-put-answer-text-requires
+put-answer-text-requires c κs = search needs
 
 same-length-2 : tie.Need-same-length-2
 same-length-2 c = search needs
@@ -54,7 +54,7 @@ returns-2 c =
     let t = s .args .trace .now in (
       checkpoint-made _ _ _ _ _ _ _ _ (not-false _ (w .before .before .before .if1 .left))
           (called "save=" (callCheckpoint t) checkpointCall _ _ (w .step-checkpoint .result) _ _ _ _ _ _ (p .before .code .result) _
-          (checkpoint-alike t (s .pre .0)) (w .step-checkpoint .ensures) save-text (p .before .code .ensures) refl (p .put-answer .ensures .0)),
+          (checkpoint-alike t (s .pre .0)) (w .step-checkpoint .ensures) save-text (p .before .code .ensures) refl (p .put-answer-text .ensures .0)),
       omega arith,
     )
 
@@ -67,9 +67,9 @@ run-checkpoint-spec =
     same-length
     returns
     step-checkpoint-requires
-    slice-aggregate-put-answer
+    slice-aggregate-put-answer-text
     code-requires
-    put-answer-requires
+    put-answer-text-requires
     same-length-2
     same-length-3
     same-length-4

@@ -18,14 +18,14 @@ crpm-format-requires c κs = search needs
 step-open-requires : tie.Need-step-open-requires
 step-open-requires c κs = search needs
 
-slice-aggregate-put-answer : tie.Need-slice-aggregate-put-answer
-slice-aggregate-put-answer c = search needs
+slice-aggregate-put-answer-text : tie.Need-slice-aggregate-put-answer-text
+slice-aggregate-put-answer-text c = search needs
 
 code-requires : tie.Need-code-requires
 code-requires c κs = search needs
 
-put-answer-requires : tie.Need-put-answer-requires
-put-answer-requires c κs = search needs
+put-answer-text-requires : tie.Need-put-answer-text-requires
+put-answer-text-requires c κs = search needs
 
 slice-aggregate-put-text : tie.Need-slice-aggregate-put-text
 slice-aggregate-put-text c = search needs
@@ -51,12 +51,12 @@ returns c =
     let s = f .before .before .before .before .before in
     let l = s .args .layout in
     let t = s .args .trace .now in (
-      opened l _ zeroSession _ _ _ 0 _ (record { session = o .step-open .result .session; place = a .put-answer .result }) _
+      opened l _ zeroSession _ _ _ 0 _ (record { session = o .step-open .result .session; place = a .put-answer-text .result }) _
           (formats l (s .args .image .now) _ (s .pre .2) (s .pre .1) (f .crpm-format .ensures .1))
           (called "open=" (callOpen l t) (callOpen l blank) _ zeroSession (o .step-open .result) _ _ _ _ _ _ (a .before .code .result) _
-          (open-alike t (s .pre .0) l) (o .step-open .ensures zeroSession) open-text (a .before .code .ensures) refl (a .put-answer .ensures .0))
+          (open-alike t (s .pre .0) l) (o .step-open .ensures zeroSession) open-text (a .before .code .ensures) refl (a .put-answer-text .ensures .0))
           (appended-as line-end-text (e .put-text .ensures)) refl,
-      omega (arith, a .put-answer .ensures .1),
+      omega (arith, a .put-answer-text .ensures .1),
     )
 
 pub run-open-spec : {M : Type 1} → statement M
@@ -65,9 +65,9 @@ run-open-spec =
     (tie.spec
     crpm-format-requires
     step-open-requires
-    slice-aggregate-put-answer
+    slice-aggregate-put-answer-text
     code-requires
-    put-answer-requires
+    put-answer-text-requires
     slice-aggregate-put-text
     put-text-requires
     same-length

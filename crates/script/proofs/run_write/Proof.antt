@@ -13,14 +13,14 @@ use Rattle.script.proofs.run_write.Tie as tie
 step-write-requires : tie.Need-step-write-requires
 step-write-requires c κs = search needs
 
-slice-aggregate-put-answer : tie.Need-slice-aggregate-put-answer
-slice-aggregate-put-answer c = search needs
+slice-aggregate-put-answer-text : tie.Need-slice-aggregate-put-answer-text
+slice-aggregate-put-answer-text c = search needs
 
 code-requires : tie.Need-code-requires
 code-requires c κs = search needs
 
-put-answer-requires : tie.Need-put-answer-requires
-put-answer-requires c κs = search needs
+put-answer-text-requires : tie.Need-put-answer-text-requires
+put-answer-text-requires c κs = search needs
 
 same-length : tie.Need-same-length
 same-length c = search needs
@@ -42,7 +42,7 @@ returns c =
       (
         j,
         called "write=" (callWrite x (a .trace .now) j) (callWrite x blank j) _ _ (w .step-write .result) _ _ _ _ _ _ (p .before .code .result) _
-            (write-alike (a .trace .now) (s .pre .0) x j) (w .step-write .ensures .1) write-text (p .before .code .ensures) refl (p .put-answer .ensures .0),
+            (write-alike (a .trace .now) (s .pre .0) x j) (w .step-write .ensures .1) write-text (p .before .code .ensures) refl (p .put-answer-text .ensures .0),
       ),
       omega arith,
     )
@@ -52,9 +52,9 @@ run-write-spec =
     tie.close
     (tie.spec
     step-write-requires
-    slice-aggregate-put-answer
+    slice-aggregate-put-answer-text
     code-requires
-    put-answer-requires
+    put-answer-text-requires
     same-length
     same-length-2
     same-length-3

@@ -1,8 +1,8 @@
 use borrow.Author.Needs.{needs}
 use Rattle.printer.proofs.Laws.{appended-then, appended-as}
 use Rattle.script.proofs.Texts.{orders-text}
-use Rattle.script.proofs.put_answer.Statement.{statement}
-use Rattle.script.proofs.put_answer.Tie as tie
+use Rattle.script.proofs.put_answer_text.Statement.{statement}
+use Rattle.script.proofs.put_answer_text.Tie as tie
 
 put-text-requires : tie.Need-put-text-requires
 put-text-requires c κs = search needs
@@ -30,8 +30,8 @@ returns c =
     let k = a .before .before .before .before in
     (appended-then (appended-then (appended-then (k .put-text .ensures) (a .put-decimal .ensures .0)) (appended-as orders-text (b .put-text2 .ensures))) (d .put-decimal2 .ensures .0), search needs)
 
-pub put-answer-spec : {M : Type 1} → statement M
-put-answer-spec =
+pub put-answer-text-spec : {M : Type 1} → statement M
+put-answer-text-spec =
     tie.close
     (tie.spec
     put-text-requires
