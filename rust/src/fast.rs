@@ -5,10 +5,12 @@
 //!
 //! The calls are not inlined, as the library's are not.
 //!
-//! Written from document 01 alone. The places that write or read many orders
-//! exist in two forms, by index and by chunks; the benchmark takes the better
-//! one of each measurement. Both are checked against the reference
-//! (`selftest`) and against the library (`speed`, before it measures).
+//! Written from document 01. The test of the metadata has the library's shape
+//! (an array of paired levels, no exit from its loops), which is the quickest
+//! known. The places that write or read many orders exist in two forms, by
+//! index and by chunks; the benchmark takes the better one of each
+//! measurement. Both are checked against the reference (`selftest`) and
+//! against the library (`speed`, before it measures).
 
 use crate::calls::*;
 

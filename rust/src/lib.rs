@@ -1,7 +1,8 @@
 //! Independent second program for the checkpoint library.
 //!
 //! Everything here is written from document 01 alone (and the recorded
-//! decisions on its silent spots), not from the library. The words are
+//! decisions on its silent spots), not from the library; only `fast`, with
+//! which the library's speed is compared, takes a shape from it. The words are
 //! document 01's own: level (main segment), spare (backup segment), frame
 //! (block), card (session), tape (trace), save (checkpoint), cut (crash),
 //! book (reference model), player (replay), likeness (same checkpoint).
