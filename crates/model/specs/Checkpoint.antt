@@ -1,33 +1,36 @@
 -- Checkpoint (document 01: Save). Assumes nothing.
 use Prim.Native.Nat.{ℕ, suc, _+_, _-_, _*_, _^_}
-use mathlib.Core.Bool.{Bool, not, cond}
-use mathlib.Core.List.{[], _∷_, _++_}
+use mathlib.Core.Bool.{Bool, cond}
+use mathlib.Core.List.{List, [], _∷_, _++_}
 use lib.Dec.{eqb}
+use lib.ListN.{getD}
+use Rattle.model.specs.declared.Layout.{Layout}
 use Rattle.model.specs.declared.Session.{Session}
 use Rattle.model.specs.Range.{cat}
 use Rattle.model.specs.Words.{Image, wordOf}
 use Rattle.model.specs.Layout.{wordSize, blockSize, blockLines, lineWords, epochAt, ssMain, mainAt}
-use Rattle.model.specs.Status.{Errors, firstError, served}
-use Rattle.model.specs.Container.{activeState, committedEpoch, inactiveLine, containerErrors}
-use Rattle.model.specs.Session.{dirtySegment, dirtyBlock, withCheckpoint, validSession}
-use Rattle.model.specs.Ops.{store, clwb, sfence, Ops, Trace, traceShort, Outcome, stores, clwbs}
+use Rattle.model.specs.Status.{Errors, firstError}
+use Rattle.model.specs.Container.{activeState, committedEpoch, inactiveLine}
+use Rattle.model.specs.Session.{isDirty, withCheckpoint, contextErrors}
+use Rattle.model.specs.Ops.{store, clwb, sfence, Ops, Trace, traceErrors, stores, clwbs, eachDirty}
+use Rattle.model.specs.Outcome.{Outcome, outcomeOf}
 
--- every dirty block of every main segment, dirty or not, written back, upward
-unfoldable pub flushDirty : Session → Ops
-flushDirty s =
-    cat (s .layout .mains) (λ i. cat (s .layout .blocks) (λ b. cond (dirtyBlock s i b) (clwbs blockLines (mainAt (s .layout) i + blockSize * b)) []))
+-- every dirty block of every main segment, dirty or not, written back, upward, by the words of dirty blocks
+unfoldable pub flushDirty : Layout → List ℕ → Ops
+flushDirty l words = cat (l .mains) (λ i. eachDirty (getD words i 0) (l .blocks) (λ b. clwbs blockLines (mainAt l i + blockSize * b)))
 
 -- the state after the checkpoint: a dirty segment holds its checkpoint itself, another keeps its state
 unfoldable pub nextState : ℕ → Bool → ℕ
 nextState st dirty = cond dirty ssMain st
 
-abbrev pub nextStates : Session → Image → ℕ → ℕ
-nextStates s I i = nextState (activeState I i) (dirtySegment s i)
+-- the states after it, by the word of dirty segments
+abbrev pub nextStates : ℕ → (ℕ → ℕ) → ℕ → ℕ
+nextStates segments st i = nextState (st i) (isDirty segments i)
 
 -- the inactive line stored, upward, and written back
-unfoldable pub statesOps : Session → Image → Ops
-statesOps s I =
-    stores lineWords (inactiveLine I) (λ k. wordOf (nextStates s I) (wordSize * k)) ++ clwb (inactiveLine I) ∷ []
+unfoldable pub statesOps : Image → ℕ → Ops
+statesOps I segments =
+    stores lineWords (inactiveLine I) (λ k. wordOf (nextStates segments (activeState I)) (wordSize * k)) ++ clwb (inactiveLine I) ∷ []
 
 -- the epoch raised by 1 and written back
 unfoldable pub epochOps : Image → Ops
@@ -35,23 +38,14 @@ epochOps I = store epochAt (suc (committedEpoch I)) ∷ clwb epochAt ∷ []
 
 -- the dirty blocks, a fence, the states, a fence, the epoch, a fence
 unfoldable pub checkpointOps : Session → Image → Ops
-checkpointOps s I = flushDirty s ++ sfence ∷ statesOps s I ++ sfence ∷ epochOps I ++ sfence ∷ []
+checkpointOps s I =
+    flushDirty (s .layout) (s .«dirty_blocks») ++ sfence ∷ statesOps I (s .«dirty_segments») ++ sfence ∷ epochOps I ++ sfence ∷ []
 
 abbrev pub checkpointErrors : Session → Image → Trace → Errors
-checkpointErrors s I t =
-    containerErrors (s .layout) I
-    ++ (5, not (validSession s (activeState I)))
-    ∷ (10, eqb (committedEpoch I) (2 ^ 64 - 1))
-    ∷ (11, traceShort (checkpointOps s I) t) ∷ []
+checkpointErrors s I t = contextErrors s I ++ (10, eqb (committedEpoch I) (2 ^ 64 - 1)) ∷ traceErrors (checkpointOps s I) t
 
 unfoldable pub checkpointStatus : Session → Image → Trace → ℕ
 checkpointStatus s I t = firstError (checkpointErrors s I t)
 
 unfoldable pub checkpointOutcome : Session → Image → Trace → Outcome
-checkpointOutcome s I t =
-    let e : ℕ = checkpointStatus s I t in
-    record {
-      status = e;
-      session = cond (served e) (withCheckpoint s) s;
-      ops = cond (served e) (checkpointOps s I) [];
-    }
+checkpointOutcome s I t = outcomeOf (checkpointStatus s I t) s (withCheckpoint s) (checkpointOps s I)

@@ -1,5 +1,6 @@
 -- The metadata of an image: committed epoch, segment states, pairs; when it is valid; which bytes are the checkpoint.
--- States and pairs are taken as functions, so that each rule can be read for either line of states. Assumes nothing.
+-- States and pairs are taken as functions, or the line of states as an argument, so that each rule can be read for either
+-- line. Assumes nothing.
 use Prim.Native.Nat.{ℕ, zero, suc, _+_, _≤_, _<_}
 use mathlib.Core.Path.{_≡_}
 use mathlib.Core.Logic.{_≢_, _⊎_}
@@ -8,6 +9,8 @@ use mathlib.Core.List.{List, [], _∷_, _++_}
 use lib.Dec.{leb, ltb, eqb}
 use lib.ListN.{length, take, drop, replicate}
 use Rattle.model.specs.declared.Layout.{Layout}
+use Rattle.model.specs.declared.Located.{Located}
+use Rattle.model.specs.declared.Located.the-variants.{Nowhere, At}
 use Rattle.model.specs.Range.{cat, allB, anyB, firstB}
 use Rattle.model.specs.Words.{Image, byteAt, wordAt}
 use Rattle.model.specs.Layout.{most, epochAt, mainsAt, backupsAt, blocksAt, pairsAt, unpaired, ssInitial, ssBackup, stateLine, segmentSize, mainAt, backupAt, sizesOk, imageSize}
@@ -93,21 +96,30 @@ byState zero a b c = a
 byState (suc zero) a b c = b
 byState (suc (suc n)) a b c = c
 
+-- where the checkpoint of main segment i stands, by a line of states: nowhere, in itself, or in its backup
+unfoldable pub checkpointLocated : Layout → Image → ℕ → ℕ → Located
+checkpointLocated l I line i =
+    byState (segState I line i) Nowhere (At (mainAt l i)) (At (backupAt l (pairedBackup l (backupToMain I) i)))
+
 -- the bytes of a segment that starts at a place
 abbrev pub segmentBytes : Layout → Image → ℕ → List ℕ
 segmentBytes l I at = take (segmentSize l) (drop at I)
 
--- the checkpoint of main segment i, by a line of states: zeros, its own bytes, or its backup's
+-- and of one that stands nowhere: zeros
+abbrev pub locatedBytes : Layout → Image → Located → List ℕ
+locatedBytes l I Nowhere = replicate (segmentSize l) 0
+locatedBytes l I (At p) = segmentBytes l I p
+
+-- the checkpoint of main segment i, by a line of states
 unfoldable pub checkpointSegment : Layout → Image → ℕ → ℕ → List ℕ
-checkpointSegment l I line i =
-    byState (segState I line i) (replicate (segmentSize l) 0) (segmentBytes l I (mainAt l i))
-    (segmentBytes l I (backupAt l (pairedBackup l (backupToMain I) i)))
+checkpointSegment l I line i = locatedBytes l I (checkpointLocated l I line i)
 
 -- the checkpoint of all main segments, one after the other
 unfoldable pub checkpointBytes : Layout → Image → ℕ → List ℕ
 checkpointBytes l I line = cat (l .mains) (checkpointSegment l I line)
 
--- ---- refusals 1 and 2, all that format knows, and 1 to 4, which every other call but replay knows
+-- ---- refusals 1 and 2, all that format knows; 1 to 3; 4, by a line of states; and 1 to 4, which every other call but
+-- replay knows; 6 and 7, for what is named in it
 
 -- the image carries the sizes of the layout
 abbrev pub HeaderOk : Layout → Image → Type 0
@@ -119,6 +131,17 @@ headerOk l I = eqb (wordAt I mainsAt) (l .mains) && eqb (wordAt I backupsAt) (l 
 abbrev pub sizeErrors : Layout → Image → Errors
 sizeErrors l I = (1, not (sizesOk l)) ∷ (2, not (eqb (length I) (imageSize l))) ∷ []
 
+abbrev pub layoutErrors : Layout → Image → Errors
+layoutErrors l I = sizeErrors l I ++ (3, not (headerOk l I)) ∷ []
+
+abbrev pub validErrors : Layout → Image → ℕ → Errors
+validErrors l I line = (4, not (validMetadata l (segState I line) (backupToMain I))) ∷ []
+
 abbrev pub containerErrors : Layout → Image → Errors
-containerErrors l I =
-    sizeErrors l I ++ (3, not (headerOk l I)) ∷ (4, not (validMetadata l (activeState I) (backupToMain I))) ∷ []
+containerErrors l I = layoutErrors l I ++ validErrors l I (activeLine I)
+
+abbrev pub mainErrors : Layout → ℕ → Errors
+mainErrors l i = (6, leb (l .mains) i) ∷ []
+
+abbrev pub blockErrors : Layout → ℕ → Errors
+blockErrors l b = (7, leb (l .blocks) b) ∷ []

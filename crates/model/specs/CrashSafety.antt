@@ -2,12 +2,13 @@
 use Prim.Native.Nat.{ℕ, _+_, _*_, _%_, _≤_, _<_}
 use mathlib.Core.Path.{_≡_}
 use mathlib.Core.Logic.{_≢_, _⊎_}
-use mathlib.Core.Bool.{cond}
+use mathlib.Core.Bool.{Bool, true, false, cond, _&&_}
 use mathlib.Core.List.{List, [], _∷_, _++_}
 use lib.Dec.{leb}
 use lib.ListN.{length, take, replicate}
 use Rattle.model.specs.declared.Layout.{Layout}
 use Rattle.model.specs.declared.Session.{Session}
+use Rattle.model.specs.Range.{oneIf}
 use Rattle.model.specs.Words.{Image, Bytes}
 use Rattle.model.specs.Layout.{lineSize, blockSize, blockWords, epochAt, ssInitial}
 use Rattle.model.specs.Container.{activeState, activeLine, checkpointBytes, committedEpoch}
@@ -19,8 +20,8 @@ use Rattle.model.specs.Write.{WriteArgs, writeStatus}
 use Rattle.model.specs.Checkpoint.{checkpointStatus}
 use Rattle.model.specs.Reads.{readStatus, workingBlock, checkpointBlock}
 use Rattle.model.specs.Crash.{CrashImage}
-use Rattle.model.specs.Reference.{Page, pageBlock}
-use Rattle.model.specs.History.{Call, callOpen, callWrite, callCheckpoint, State, outcome, traceOf, reported, playedOps, calledOps, step, run, openedImage, start, Permitted, AllPermitted}
+use Rattle.model.specs.Reference.{Page, pageBlock, CallArgs, openArgs, writeArgs, checkpointArgs}
+use Rattle.model.specs.History.{Call, Device, State, outcome, reported, playedOps, calledOps, step, run, openedImage, start, Permitted, AllPermitted}
 
 -- ---- what the reads show
 
@@ -50,41 +51,38 @@ pub data Moment : Type 0 where
   during : Call → ℕ → Moment
 
 -- the call is one that a history may have
-abbrev pub PermittedAt : State → Moment → Type 0
-PermittedAt s between = Unit {0}
-PermittedAt s (during c p) = Permitted s c
+abbrev pub PermittedAt : Device → Moment → Type 0
+PermittedAt d between = Unit {0}
+PermittedAt d (during c p) = Permitted d c
 
 -- the operations played since all was durable
-abbrev pub playedAt : State → Moment → Ops
-playedAt s between = s .played
-playedAt s (during c p) = s .played ++ calledOps s c p
+abbrev pub playedAt : Device → Moment → Ops
+playedAt d between = d .played
+playedAt d (during c p) = d .played ++ calledOps d c p
 
 -- a store to the epoch is among the operations
 abbrev pub EpochStored : Ops → Type 0
 EpochStored O = (A : Ops) × (D : Ops) × (w : ℕ) × (O ≡ A ++ store epochAt w ∷ D)
 
 -- a served checkpoint whose epoch store is played and whose last fence, which is its last operation, is not
-abbrev pub Window : State → Call → ℕ → Type 0
-Window s (callOpen l t) p = ⊥
-Window s (callWrite w t j) p = ⊥
-Window s (callCheckpoint t) p = EpochStored (calledOps s (callCheckpoint t) p) × (p < length (outcome s (callCheckpoint t) .ops))
+abbrev pub Window : Device → Call → ℕ → Type 0
+Window d c p = (c .args ≡ checkpointArgs) × EpochStored (calledOps d c p) × (p < length (outcome d c .ops))
 
 -- document 01: the last finished save, the checkpoint page after the calls whose traces were played whole
 unfoldable pub lastCheckpoint : State → Call → ℕ → Page
-lastCheckpoint s c p = cond (leb (length (outcome s c .ops)) p) (step s c .model .checkpoint) (s .model .checkpoint)
+lastCheckpoint s c p = cond (leb (length (outcome (s .device) c .ops)) p) (step s c .model .checkpoint) (s .model .checkpoint)
 
 -- the pages that may be shown after a crash: the last completed checkpoint, and in the window also the working state
 abbrev pub MayShow : State → Moment → Page → Type 0
 MayShow s between Q = Q ≡ s .model .checkpoint
-MayShow s (during c p) Q = (Q ≡ lastCheckpoint s c p) ⊎ (Window s c p × (Q ≡ s .model .working))
+MayShow s (during c p) Q = (Q ≡ lastCheckpoint s c p) ⊎ (Window (s .device) c p × (Q ≡ s .model .working))
 
--- P holds of the layout, the image at the start and the state of every history: it starts at any image that an opening
--- serves, with any sizes and any trace, and has any list of calls from there, refused ones included, with any arguments,
--- traces and choices of free backups
-abbrev pub InEveryHistory : (Layout → Image → State → Type 0) → Type 0
+-- P holds of the state of every history: it starts at any image that an opening serves, with any sizes and any trace, and
+-- has any list of calls from there, refused ones included, with any arguments, traces and choices of free backups
+abbrev pub InEveryHistory : (State → Type 0) → Type 0
 InEveryHistory P =
     (l : Layout) (I : Image) (t : Trace) → Bytes I → openStatus l I t ≡ 0
-    → (cs : List Call) → AllPermitted (start l I t) cs → P l I (run (start l I t) cs)
+    → (cs : List Call) → AllPermitted (start l I t) cs → P (run (start l I t) cs)
 
 -- ---- demand 3, for a relation R between what was durable, the operations played since and what a crash may leave
 
@@ -99,17 +97,17 @@ pub data CutOpenings (R : CrashModel) (l : Layout) : Image → Image → Type 0 
       → CutOpenings R l H′ H″ → CutOpenings R l H H″
 
 abbrev pub CrashSafetyFor : CrashModel → Type 0
-CrashSafetyFor R = InEveryHistory (λ l I s.
+CrashSafetyFor R = InEveryHistory (λ s.
     -- any moment: at rest, or after any number of operations of one more call
-    (m : Moment) → PermittedAt s m
+    (m : Moment) → PermittedAt (s .device) m
     -- any image that a crash may leave there
-    → (H : Image) → R (s .durable) (playedAt s m) H
+    → (H : Image) → R (s .device .durable) (playedAt (s .device) m) H
     -- any number of openings that are cut themselves
-    → (H′ : Image) → CutOpenings R l H H′
+    → (H′ : Image) → CutOpenings R (s .device .layout) H H′
     -- any trace for the last opening that is long enough
-    → (t′ : Trace) → openStatus l H′ t′ ≢ 11
+    → (t′ : Trace) → openStatus (s .device .layout) H′ t′ ≢ 11
     -- it is served, and shows one of the permitted pages, whole; what stands are bytes, so that another life can start there
-    → (Q : Page) × MayShow s m Q × Recovers l H′ t′ Q × Bytes H′)
+    → (Q : Page) × MayShow s m Q × Recovers (s .device .layout) H′ t′ Q × Bytes H′)
 
 -- DEMAND 3. In the customer's words: "Opening with the same sizes and a long enough tape accepts what then stands, also after
 -- any number of such openings that were themselves cut in the same way, and the first that finishes shows every byte of the
@@ -126,15 +124,15 @@ CrashSafetyWithin = (R : CrashModel) → ((I : Image) (O : Ops) (H : Image) → 
 
 -- demand 2: after every call of a history the two reads give the two pages of the reference model
 abbrev pub ReadsFollowModel : Type 0
-ReadsFollowModel = InEveryHistory (λ l I s. Reads l (s .image) (s .model .working) (s .model .checkpoint))
+ReadsFollowModel = InEveryHistory (λ s. Reads (s .device .layout) (s .device .image) (s .model .working) (s .model .checkpoint))
 
 -- every operation that a call writes is well formed, whatever the image and the session: replay serves the reported part
 -- and plays all of it, or the first p where it is stopped there; so it is for openings before, in and after a history
 abbrev pub ReplayServesAll : Type 0
 ReplayServesAll =
-    (s : State) (c : Call) → length (s .image) % lineSize ≡ 0 → Permitted s c → (p : ℕ)
-    → (replayOutcome (s .image) (reported (outcome s c .ops) (traceOf c)) p .status ≡ 0)
-    × (calledOps s c p ≡ take p (outcome s c .ops))
+    (d : Device) (c : Call) → length (d .image) % lineSize ≡ 0 → Permitted d c → (p : ℕ)
+    → (replayOutcome (d .image) (reported (outcome d c .ops) (c .trace)) p .status ≡ 0)
+    × (calledOps d c p ≡ take p (outcome d c .ops))
 
 -- a finished opening leaves one crash image only, so that what a history starts with is durable indeed
 abbrev pub OpeningSettles : Type 0
@@ -163,17 +161,17 @@ CheckpointTraceSuffices =
     (s : Session) (I : Image) (t : Trace) → 3 * (4 * s .layout .blocks * s .layout .mains + 14) ≤ length t → checkpointStatus s I t ≢ 11
 
 -- the checkpoints that a list of calls serves
-abbrev pub checkpointsOf : State → Call → ℕ
-checkpointsOf s (callOpen l t) = 0
-checkpointsOf s (callWrite w t j) = 0
-checkpointsOf s (callCheckpoint t) = cond (served (outcome s (callCheckpoint t) .status)) 1 0
+abbrev pub isCheckpoint : CallArgs → Bool
+isCheckpoint (openArgs l) = false
+isCheckpoint (writeArgs w) = false
+isCheckpoint checkpointArgs = true
 
 unfoldable pub checkpoints : State → List Call → ℕ
 checkpoints s [] = 0
-checkpoints s (c ∷ cs) = checkpointsOf s c + checkpoints (step s c) cs
+checkpoints s (c ∷ cs) = oneIf (isCheckpoint (c .args) && served (outcome (s .device) c .status)) + checkpoints (step s c) cs
 
 -- the epoch is the start's epoch and one more for each served checkpoint; nothing else changes it
 abbrev pub EpochCounts : Type 0
 EpochCounts =
     (l : Layout) (I : Image) (t : Trace) → Bytes I → openStatus l I t ≡ 0 → (cs : List Call) → AllPermitted (start l I t) cs
-    → committedEpoch (run (start l I t) cs .image) ≡ committedEpoch I + checkpoints (start l I t) cs
+    → committedEpoch (run (start l I t) cs .device .image) ≡ committedEpoch I + checkpoints (start l I t) cs

@@ -9,32 +9,33 @@ use Rattle.model.specs.declared.Session.{Session}
 use Rattle.model.specs.Words.{Image, Bytes}
 use Rattle.model.specs.Status.{served}
 use Rattle.model.specs.Container.{activeLine, checkpointBytes}
-use Rattle.model.specs.Ops.{Ops, Trace, written, Outcome}
+use Rattle.model.specs.Ops.{Ops, Trace, written}
+use Rattle.model.specs.Outcome.{Outcome}
 use Rattle.model.specs.Replay.{replayOutcome, replayedOps}
 use Rattle.model.specs.Open.{openOutcome}
 use Rattle.model.specs.Write.{WriteArgs, writeOutcome, Chosen}
 use Rattle.model.specs.Checkpoint.{checkpointOutcome}
 use Rattle.model.specs.Reference.{Model, CallArgs, openArgs, writeArgs, checkpointArgs, modelStep}
 
--- a call with its arguments and trace (document 01: openings, writes and saves); a write also with the backup segment that it takes if it needs a new one
-pub data Call : Type 0 where
-  callOpen : Layout → Trace → Call
-  callWrite : WriteArgs → Trace → ℕ → Call
-  callCheckpoint : Trace → Call
+-- a call (document 01: openings, writes and saves): its arguments, which are all that the model is fed, and its trace; a
+-- write also with the backup segment that it takes if it needs a new one
+pub record Call : Type 0 where
+  pub args : CallArgs
+  pub trace : Trace
+  pub choice : ℕ
 
-abbrev pub argsOf : Call → CallArgs
-argsOf (callOpen l t) = openArgs l
-argsOf (callWrite w t j) = writeArgs w
-argsOf (callCheckpoint t) = checkpointArgs
+abbrev pub callOpen : Layout → Trace → Call
+callOpen l t = record { args = openArgs l; trace = t; choice = 0 }
 
-abbrev pub traceOf : Call → Trace
-traceOf (callOpen l t) = t
-traceOf (callWrite w t j) = t
-traceOf (callCheckpoint t) = t
+abbrev pub callWrite : WriteArgs → Trace → ℕ → Call
+callWrite w t j = record { args = writeArgs w; trace = t; choice = j }
 
--- where a history stands
-pub record State : Type 0 where
-  -- the sizes of the opening that it started with
+abbrev pub callCheckpoint : Trace → Call
+callCheckpoint t = record { args = checkpointArgs; trace = t; choice = 0 }
+
+-- where a module stands in a history
+pub record Device : Type 0 where
+  -- its sizes
   pub layout : Layout
   -- the image when all was last durable, and the operations played since
   pub durable : Image
@@ -42,14 +43,21 @@ pub record State : Type 0 where
   -- the image as it stands, and the session last answered
   pub image : Image
   pub session : Session
-  -- the reference model
+
+-- where a history stands: the module, and the reference model beside it
+pub record State : Type 0 where
+  pub device : Device
   pub model : Model
 
--- what a call answers there
-abbrev pub outcome : State → Call → Outcome
-outcome s (callOpen l t) = openOutcome l (s .image) t
-outcome s (callWrite w t j) = writeOutcome (s .session) (s .image) w j t
-outcome s (callCheckpoint t) = checkpointOutcome (s .session) (s .image) t
+-- what a call answers on an image and a session
+abbrev pub answers : Session → Image → CallArgs → Trace → ℕ → Outcome
+answers s I (openArgs l) t j = openOutcome l I t
+answers s I (writeArgs w) t j = writeOutcome s I w j t
+answers s I checkpointArgs t j = checkpointOutcome s I t
+
+-- and where a module stands
+abbrev pub outcome : Device → Call → Outcome
+outcome d c = answers (d .session) (d .image) (c .args) (c .trace) (c .choice)
 
 -- the part of the trace t that holds the reported operations O
 unfoldable pub reported : Ops → Trace → Trace
@@ -64,18 +72,24 @@ unfoldable pub replayedImage : Image → Ops → Trace → ℕ → Image
 replayedImage I O t p = replayOutcome I (reported O t) p .image
 
 -- the operations of a call that are played where its replay is stopped after the first p
-abbrev pub calledOps : State → Call → ℕ → Ops
-calledOps s c p = playedOps (s .image) (outcome s c .ops) (traceOf c) p
+abbrev pub calledOps : Device → Call → ℕ → Ops
+calledOps d c p = playedOps (d .image) (outcome d c .ops) (c .trace) p
 
--- one call, replayed whole
+-- the module after one call, replayed whole
+unfoldable pub deviceStep : Device → Call → Device
+deviceStep d c = record {
+  layout = d .layout;
+  durable = d .durable;
+  played = d .played ++ calledOps d c (length (outcome d c .ops));
+  image = replayedImage (d .image) (outcome d c .ops) (c .trace) (length (outcome d c .ops));
+  session = outcome d c .session;
+}
+
+-- one call: the module's step, and the model's, which sees the arguments and whether the call was served
 unfoldable pub step : State → Call → State
 step s c = record {
-  layout = s .layout;
-  durable = s .durable;
-  played = s .played ++ calledOps s c (length (outcome s c .ops));
-  image = replayedImage (s .image) (outcome s c .ops) (traceOf c) (length (outcome s c .ops));
-  session = outcome s c .session;
-  model = modelStep (s .layout) (argsOf c) (served (outcome s c .status)) (s .model);
+  device = deviceStep (s .device) c;
+  model = modelStep (s .device .layout) (c .args) (served (outcome (s .device) c .status)) (s .model);
 }
 
 -- many
@@ -90,20 +104,25 @@ openedImage l I t = replayedImage I (openOutcome l I t .ops) t (length (openOutc
 -- a history starts at a finished opening, with all durable; both pages hold the checkpoint of the image handed to it
 unfoldable pub start : Layout → Image → Trace → State
 start l I t = record {
-  layout = l;
-  durable = openedImage l I t;
-  played = [];
-  image = openedImage l I t;
-  session = openOutcome l I t .session;
+  device = record {
+    layout = l;
+    durable = openedImage l I t;
+    played = [];
+    image = openedImage l I t;
+    session = openOutcome l I t .session;
+  };
   model = record { working = checkpointBytes l I (activeLine I); checkpoint = checkpointBytes l I (activeLine I) };
 }
 
 -- what is asked of a call: a write's bytes are bytes, and the backup segment that it takes is a permitted choice
-abbrev pub Permitted : State → Call → Type 0
-Permitted s (callOpen l t) = Unit {0}
-Permitted s (callWrite w t j) = Bytes (w .bytes) × Chosen (s .session) (s .image) w t j
-Permitted s (callCheckpoint t) = Unit {0}
+abbrev pub PermittedOn : Session → Image → CallArgs → Trace → ℕ → Type 0
+PermittedOn s I (openArgs l) t j = Unit {0}
+PermittedOn s I (writeArgs w) t j = Bytes (w .bytes) × Chosen s I w t j
+PermittedOn s I checkpointArgs t j = Unit {0}
+
+abbrev pub Permitted : Device → Call → Type 0
+Permitted d c = PermittedOn (d .session) (d .image) (c .args) (c .trace) (c .choice)
 
 abbrev pub AllPermitted : State → List Call → Type 0
 AllPermitted s [] = Unit {0}
-AllPermitted s (c ∷ cs) = Permitted s c × AllPermitted (step s c) cs
+AllPermitted s (c ∷ cs) = Permitted (s .device) c × AllPermitted (step s c) cs

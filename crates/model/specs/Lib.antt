@@ -5,6 +5,7 @@ pub mod Status
 pub mod Container
 pub mod Session
 pub mod Ops
+pub mod Outcome
 pub mod Replay
 pub mod Format
 pub mod Open

@@ -1,16 +1,15 @@
 -- Persist operations and the trace that holds them (document 01: orders and tape). Assumes nothing.
 use Prim.Native.Nat.{ℕ, _+_, _*_, _/_}
-use mathlib.Core.Path.{_≡_}
-use mathlib.Core.Bool.{Bool, cond}
+use mathlib.Core.Bool.{Bool, true, cond}
 use mathlib.Core.List.{List, [], _∷_, _++_}
 use lib.Dec.{ltb, eqb}
 use lib.ListN.{length, drop}
-use Rattle.model.specs.declared.Session.{Session}
-use Rattle.model.specs.declared.Answer.{Answer}
-use Rattle.model.specs.Status.{codeOf}
+use Rattle.model.specs.declared.Layout.{Layout}
+use Rattle.model.specs.Status.{Errors}
 use Rattle.model.specs.Range.{cat}
 use Rattle.model.specs.Words.{Image, byteAt, wordOf, wordAt, storeWord, overlay}
-use Rattle.model.specs.Layout.{wordSize, lineSize, blockWords, blockLines}
+use Rattle.model.specs.Layout.{wordSize, lineSize, blockSize, blockWords, blockLines}
+use Rattle.model.specs.Session.{isDirty}
 
 -- store a word at a place; write the line of a place back; wait for what was written back (document 01: store, flush, fence)
 pub data Op : Type 0 where
@@ -60,22 +59,12 @@ decode (k ∷ p ∷ w ∷ t) = opOf k p w ∷ decode t
 unfoldable pub written : Ops → Trace → Trace
 written O t = encode O ++ drop (3 * length O) t
 
--- the trace is too short for the operations
+-- refusal 11: the trace is too short for the operations
 unfoldable pub traceShort : Ops → Trace → Bool
 traceShort O t = ltb (length t) (3 * length O)
 
--- what opening, write and checkpoint answer: the status, the session, and the operations that stand on the trace;
--- the number of operations that is reported is their length
-pub record Outcome : Type 0 where
-  pub status : ℕ
-  pub session : Session
-  pub ops : Ops
-
--- an answer of the code and the trace that it leaves give an outcome: document 01's number of its status, its session, its
--- number of operations, and these on the trace t
-abbrev pub Gives : Outcome → Trace → Answer → Trace → Type 0
-Gives o t a after =
-    (codeOf (a .status) ≡ o .status) × (a .session ≡ o .session) × (a .ops ≡ length (o .ops)) × (after ≡ written (o .ops) t)
+abbrev pub traceErrors : Ops → Trace → Errors
+traceErrors O t = (11, traceShort O t) ∷ []
 
 -- ---- what an operation does to an image
 
@@ -99,16 +88,27 @@ stores n a w = cat n (λ k. store (a + wordSize * k) (w k) ∷ [])
 unfoldable pub clwbs : ℕ → ℕ → Ops
 clwbs n a = cat n (λ k. clwb (a + lineSize * k) ∷ [])
 
--- a block stored and written back: 32 stores, then 4 write-backs, each ascending
-unfoldable pub putBlock : ℕ → (ℕ → ℕ) → Ops
-putBlock a w = stores blockWords a w ++ clwbs blockLines a
+-- a block stored and, if it is to be, written back: 32 stores, then 4 write-backs, each ascending
+unfoldable pub putBlock : Bool → ℕ → (ℕ → ℕ) → Ops
+putBlock flush a w = stores blockWords a w ++ cond flush (clwbs blockLines a) []
 
 -- a block copied (document 01: copying a frame), its words gathered from the image, and a block of zeros by the same operations
 unfoldable pub persistCopy : Image → ℕ → ℕ → Ops
-persistCopy I from to = putBlock to (λ k. wordAt I (from + wordSize * k))
+persistCopy I from to = putBlock true to (λ k. wordAt I (from + wordSize * k))
 
 unfoldable pub persistZero : ℕ → Ops
-persistZero to = putBlock to (λ k. 0)
+persistZero to = putBlock true to (λ k. 0)
+
+-- all blocks of a segment copied to another, upward, and filled with zeros
+unfoldable pub copySegment : Layout → Image → ℕ → ℕ → Ops
+copySegment l I from to = cat (l .blocks) (λ b. persistCopy I (from + blockSize * b) (to + blockSize * b))
+
+unfoldable pub zeroSegment : Layout → ℕ → Ops
+zeroSegment l to = cat (l .blocks) (λ b. persistZero (to + blockSize * b))
+
+-- the operations f b for each of the first n blocks that is dirty by its bit in a word, upward
+abbrev pub eachDirty : ℕ → ℕ → (ℕ → Ops) → Ops
+eachDirty word n f = cat n (λ b. cond (isDirty word b) (f b) [])
 
 -- the place of the word that holds a byte, and the operation that stores one byte in its word
 abbrev pub wordPlace : ℕ → ℕ

@@ -1,17 +1,18 @@
 -- The two reads (document 01: working read and saved read) and the companion that gives their number. Assumes nothing.
 use Prim.Native.Nat.{ℕ, _+_, _*_}
 use mathlib.Core.Bool.{cond}
-use mathlib.Core.List.{List, [], _∷_, _++_}
-use lib.Dec.{leb}
+use mathlib.Core.List.{List, _++_}
 use lib.ListN.{take, drop}
 use Rattle.model.specs.declared.Layout.{Layout}
+use Rattle.model.specs.declared.Located.{Located}
+use Rattle.model.specs.declared.Located.the-variants.{Nowhere, At}
 use Rattle.model.specs.Words.{Image}
-use Rattle.model.specs.Layout.{blockSize, mainAt, backupAt}
+use Rattle.model.specs.Layout.{blockSize, mainAt}
 use Rattle.model.specs.Status.{Errors, firstError, served}
-use Rattle.model.specs.Container.{activeState, backupToMain, pairedBackup, byState, containerErrors}
+use Rattle.model.specs.Container.{activeLine, checkpointLocated, containerErrors, mainErrors, blockErrors}
 
 abbrev pub readErrors : Layout → Image → ℕ → ℕ → Errors
-readErrors l I i b = containerErrors l I ++ (6, leb (l .mains) i) ∷ (7, leb (l .blocks) b) ∷ []
+readErrors l I i b = containerErrors l I ++ mainErrors l i ++ blockErrors l b
 
 -- the companion: the number of either read
 unfoldable pub readStatus : Layout → Image → ℕ → ℕ → ℕ
@@ -34,16 +35,19 @@ nowhere = record { start = 0; size = 0 }
 abbrev pub blockPart : ℕ → ℕ → Part
 blockPart at b = record { start = at + blockSize * b; size = blockSize }
 
+-- block b of what stands there, or nowhere
+abbrev pub locatedPart : Located → ℕ → Part
+locatedPart Nowhere b = nowhere
+locatedPart (At p) b = blockPart p b
+
 -- the working read: the block in its main segment
 unfoldable pub workingPart : Layout → Image → ℕ → ℕ → Part
 workingPart l I i b = cond (served (readStatus l I i b)) (blockPart (mainAt l i) b) nowhere
 
--- the saved read: nowhere, in the main segment, or in its backup, by the active state
+-- the saved read: the block where the checkpoint stands, by the active line
 unfoldable pub checkpointPart : Layout → Image → ℕ → ℕ → Part
 checkpointPart l I i b =
-    cond (served (readStatus l I i b))
-    (byState (activeState I i) nowhere (blockPart (mainAt l i) b) (blockPart (backupAt l (pairedBackup l (backupToMain I) i)) b))
-    nowhere
+    cond (served (readStatus l I i b)) (locatedPart (checkpointLocated l I (activeLine I) i) b) nowhere
 
 abbrev pub workingBlock : Layout → Image → ℕ → ℕ → List ℕ
 workingBlock l I i b = partOf I (workingPart l I i b)

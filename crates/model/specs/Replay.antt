@@ -10,17 +10,17 @@ use Rattle.model.specs.Layout.{wordSize, lineSize}
 use Rattle.model.specs.Status.{Errors, firstError, served}
 use Rattle.model.specs.Ops.{Ops, Trace, opStore, opClwb, opSfence, decode, replay}
 
--- three numbers are an operation on an image of so many bytes
+-- three numbers are an operation on an image of so many lines
 unfoldable pub wellFormed : ℕ → ℕ → ℕ → ℕ → Bool
-wellFormed size kind p w =
-    ltb p size
+wellFormed lines kind p w =
+    ltb (p / lineSize) lines
     && (eqb kind opStore && eqb (p % wordSize) 0
     || eqb kind opClwb && eqb (p % lineSize) 0 && eqb w 0
     || eqb kind opSfence && eqb p 0 && eqb w 0)
 
 -- the first n operations of a trace are well formed
 unfoldable pub allWellFormed : ℕ → Trace → ℕ → Bool
-allWellFormed size t n = allB n (λ k. wellFormed size (getD t (3 * k) 0) (getD t (3 * k + 1) 0) (getD t (3 * k + 2) 0))
+allWellFormed lines t n = allB n (λ k. wellFormed lines (getD t (3 * k) 0) (getD t (3 * k + 1) 0) (getD t (3 * k + 2) 0))
 
 -- how many operations are to be replayed: n, or all if there are fewer
 unfoldable pub replayCount : Trace → ℕ → ℕ
@@ -29,7 +29,7 @@ replayCount t n = min n (length t / 3)
 abbrev pub replayErrors : Image → Trace → ℕ → Errors
 replayErrors I t n =
     (2, not (eqb (length I % lineSize) 0))
-    ∷ (12, not (eqb (length t % 3) 0) || not (allWellFormed (length I) t (replayCount t n))) ∷ []
+    ∷ (12, not (eqb (length t % 3) 0) || not (allWellFormed (length I / lineSize) t (replayCount t n))) ∷ []
 
 pub record Replayed : Type 0 where
   pub status : ℕ

@@ -1,24 +1,36 @@
 -- The volatile session (document 01: the card): which main segments and blocks are dirty, and when it is valid.
 -- Assumes nothing.
-use Prim.Native.Nat.{ℕ, _^_, _/_, _%_, _<_}
+use Prim.Native.Nat.{ℕ, zero, suc, _+_, _^_, _/_, _%_, _<_}
 use mathlib.Core.Path.{_≡_}
 use mathlib.Core.Logic.{_≢_}
 use mathlib.Core.Bool.{Bool, true, not, cond, _&&_}
+use mathlib.Core.List.{[], _∷_, _++_}
 use lib.Bits.{bitOr}
 use lib.Dec.{ltb, eqb}
 use lib.ListN.{getD, set, replicate}
 use Rattle.model.specs.declared.Layout.{Layout}
 use Rattle.model.specs.declared.Session.{Session}
 use Rattle.model.specs.Range.{allB}
+use Rattle.model.specs.Words.{Image}
+use Rattle.model.specs.Status.{Errors}
+use Rattle.model.specs.Container.{activeState, containerErrors}
 use Rattle.model.specs.Layout.{most, ssMain, layoutOf}
 
 -- bit f of a number, 0 or 1
 unfoldable pub bit : ℕ → ℕ → ℕ
 bit m f = m / 2 ^ f % 2
 
--- a number with bit f set
+-- bit f of a word of dirty bits is set
+abbrev pub isDirty : ℕ → ℕ → Bool
+isDirty m f = eqb (bit m f) 1
+
+-- a number with bit f set, and with the n bits from bit f on set
 unfoldable pub setBit : ℕ → ℕ → ℕ
 setBit m f = bitOr m (2 ^ f)
+
+unfoldable pub setBits : ℕ → ℕ → ℕ → ℕ
+setBits m f zero = m
+setBits m f (suc n) = setBit (setBits m f n) (f + n)
 
 -- the word of dirty blocks of main segment i
 abbrev pub dirtyWord : Session → ℕ → ℕ
@@ -26,11 +38,11 @@ dirtyWord s i = getD (s .«dirty_blocks») i 0
 
 -- main segment i was written since the last checkpoint (document 01: touched)
 unfoldable pub dirtySegment : Session → ℕ → Bool
-dirtySegment s i = eqb (bit (s .«dirty_segments») i) 1
+dirtySegment s i = isDirty (s .«dirty_segments») i
 
 -- block b of main segment i is dirty (document 01: marked)
 unfoldable pub dirtyBlock : Session → ℕ → ℕ → Bool
-dirtyBlock s i b = eqb (bit (dirtyWord s i) b) 1
+dirtyBlock s i b = isDirty (dirtyWord s i) b
 
 -- a session of a layout with no bit set
 unfoldable pub freshSession : Layout → Session
@@ -40,9 +52,10 @@ freshSession l = record { layout = l; «dirty_segments» = 0; «dirty_blocks» =
 unfoldable pub zeroSession : Session
 zeroSession = freshSession (layoutOf 0 0 0)
 
--- the session after a write to block b of main segment i whose word of dirty blocks was m
-unfoldable pub withDirty : Session → ℕ → ℕ → ℕ → Session
-withDirty s i b m = record { layout = s .layout; «dirty_segments» = setBit (s .«dirty_segments») i; «dirty_blocks» = set (s .«dirty_blocks») i (setBit m b) }
+-- the session after a write to the n blocks from block b on of main segment i whose word of dirty blocks was m
+unfoldable pub withDirty : Session → ℕ → ℕ → ℕ → ℕ → Session
+withDirty s i b n m =
+    record { layout = s .layout; «dirty_segments» = setBit (s .«dirty_segments») i; «dirty_blocks» = set (s .«dirty_blocks») i (setBits m b n) }
 
 -- the session after a checkpoint: dirty blocks stay, dirty segments are cleared
 unfoldable pub withCheckpoint : Session → Session
@@ -60,3 +73,11 @@ validSession s st =
     ltb (s .«dirty_segments») (2 ^ s .layout .mains)
     && allB most (λ i. ltb (dirtyWord s i) (cond (ltb i (s .layout .mains)) (2 ^ s .layout .blocks) 1))
     && allB (s .layout .mains) (λ i. not (dirtySegment s i && eqb (st i) ssMain))
+
+-- ---- refusal 5, and with 1 to 4 what every call that is given an image and a session knows first
+
+abbrev pub sessionErrors : Session → Image → Errors
+sessionErrors s I = (5, not (validSession s (activeState I))) ∷ []
+
+abbrev pub contextErrors : Session → Image → Errors
+contextErrors s I = containerErrors (s .layout) I ++ sessionErrors s I

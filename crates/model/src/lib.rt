@@ -3,8 +3,8 @@
 ghost use mathlib.Core.Path.{_≡_};
 ghost use Rattle.model.specs.Layout.{layoutOf};
 ghost use Rattle.model.specs.Session.{freshSession};
-ghost use Rattle.model.specs.Status.{codeOf};
-ghost use Prim.Native.Nat.{_≤_};
+ghost use Rattle.model.specs.Status.{codeOf, served};
+ghost use Rattle.model.specs.declared.Status.the-variants.{Served};
 
 // The sizes of a container (document 01: M levels, S spares, B frames), each 1 to 64.
 pub struct Layout {
@@ -72,7 +72,7 @@ pub struct Session {
     // One bit for each main segment written since the last checkpoint (document 01: touched).
     pub dirty_segments: u64,
     // For each main segment one word, with one bit for each dirty block (document 01: marked).
-    pub dirty_blocks: [u64; 64],
+    pub dirty_blocks: [u64; Layout::MOST as usize],
 }
 
 impl Session {
@@ -83,7 +83,7 @@ impl Session {
         Session {
             layout: layout,
             dirty_segments: 0,
-            dirty_blocks: [0; 64],
+            dirty_blocks: [0; Layout::MOST as usize],
         }
     }
 }
@@ -127,38 +127,58 @@ impl Status {
         }
     }
 
-    // The status that has this number, at most 12.
-    pub fn of(code: u64) -> Status
-        requires { ⌜ code ≤ 12 ⌝ }
-        ensures { λ r. ⌜ codeOf r ≡ code ⌝ }
+    // Whether the call is served.
+    pub fn is_served(self) -> bool
+        ensures { λ r. ⌜ r ≡ served (codeOf self) ⌝ }
     {
-        let i = code as usize;
-        STATUS[i]
+        self.code() == 0
     }
 }
-
-// The statuses by their numbers.
-const STATUS: [Status; 13] = [
-    Status::Served,
-    Status::BadSize,
-    Status::BadLength,
-    Status::Foreign,
-    Status::Invalid,
-    Status::BadSession,
-    Status::NoSuchMain,
-    Status::NoSuchBlock,
-    Status::BadSpan,
-    Status::NoFreeBackup,
-    Status::EpochLimit,
-    Status::TraceShort,
-    Status::TraceBad,
-];
 
 // What opening, write and checkpoint answer: how the call ended, the session, and how many operations stand on the trace.
 pub struct Answer {
     pub status: Status,
     pub session: Session,
     pub ops: u64,
+}
+
+impl Answer {
+    // A refusal: the session is handed back, and nothing stands on the trace.
+    pub fn refused(status: Status, session: Session) -> Answer
+        ensures { λ r. ⌜ (r .status ≡ status) × (r .session ≡ session) × (r .ops ≡ 0) ⌝ }
+    {
+        Answer {
+            status: status,
+            session: session,
+            ops: 0,
+        }
+    }
+
+    // A served call that leaves this session and wrote so many operations.
+    pub fn served(session: Session, ops: u64) -> Answer
+        ensures { λ r. ⌜ (r .status ≡ Served) × (r .session ≡ session) × (r .ops ≡ ops) ⌝ }
+    {
+        Answer {
+            status: Status::Served,
+            session: session,
+            ops: ops,
+        }
+    }
+}
+
+// Where the checkpoint of a main segment stands: nowhere, since it is all zero, or in the segment that starts at a place.
+pub enum Located {
+    Nowhere,
+    At(u64),
+}
+
+// What a write does before its stores: no copy; a copy to the backup segment that the main segment has; a copy to a new
+// one; or none is free, and the write is refused.
+pub enum Plan {
+    NoCopy,
+    OwnBackup(u64),
+    NewBackup(u64),
+    NoneFree,
 }
 
 // What recovery does to a main segment and its backup (document 01: the opening table).
