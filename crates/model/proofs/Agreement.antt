@@ -11,12 +11,14 @@ use lib.ListN.{length, getD, drop, replicate, length-replicate, length-drop}
 use lib.Seq.{length-take-le, ext-getD}
 use borrow.Author.Tests.{eqb-true, eq-eqb, ne-eqb}
 use Rattle.model.specs.declared.Layout.{Layout}
+use Rattle.model.specs.declared.Located.the-variants.{Nowhere, At}
 use Rattle.model.specs.Words.{Image}
 use Rattle.model.specs.Layout.{segmentSize, segmentAt, mainAt, backupAt, inRange, sizesOk}
 use Rattle.model.specs.Status.{firstError, served}
-use Rattle.model.specs.Container.{activeLine, segState, backupToMain, pairedBackup, byState, segmentBytes, checkpointSegment, checkpointBytes, containerErrors}
+use Rattle.model.specs.Container.{activeLine, segState, backupToMain, pairedBackup, byState, segmentBytes, checkpointLocated, locatedBytes, checkpointSegment, checkpointBytes, containerErrors}
 use Rattle.model.specs.Session.{freshSession, zeroSession}
 use Rattle.model.specs.Ops.{Trace}
+use Rattle.model.specs.Outcome.{outcomeOf}
 use Rattle.model.specs.Open.{openStatus, openOutcome}
 use Rattle.model.specs.Write.{WriteArgs, writeStatus}
 use Rattle.model.specs.Checkpoint.{checkpointStatus}
@@ -33,11 +35,11 @@ module _ (l : Layout) (I : Image) (c : ContainerOk l I) where
       length-take-le (segmentSize l) (drop (segmentAt l k) I) (omega (arith, length-drop (segmentAt l k) I, c .long, segment-in-image l k h))
 
   pub length-checkpoint-segment : (i : ℕ) → i < l .mains → length (checkpointSegment l I (activeLine I) i) ≡ segmentSize l
-  unfolding checkpointSegment byState
+  unfolding checkpointSegment checkpointLocated byState
   length-checkpoint-segment i h = go (segState I (activeLine I) i) refl
     where
       go : (st : ℕ) → segState I (activeLine I) i ≡ st
-          → length (byState st (replicate (segmentSize l) 0) (segmentBytes l I (mainAt l i)) (segmentBytes l I (backupAt l (pairedBackup l (backupToMain I) i)))) ≡ segmentSize l
+          → length (locatedBytes l I (byState st Nowhere (At (mainAt l i)) (At (backupAt l (pairedBackup l (backupToMain I) i))))) ≡ segmentSize l
       go zero e = length-replicate (segmentSize l) 0
       go (suc zero) e = length-segment i (omega arith)
       go (suc (suc n)) e =
@@ -78,7 +80,7 @@ module _ (l : Layout) (I J : Image) where
 -- ---- a refused opening
 
 pub refused-session : (l : Layout) (I : Image) (t : Trace) → openStatus l I t ≢ 0 → openOutcome l I t .session ≡ zeroSession
-unfolding openOutcome
+unfolding openOutcome outcomeOf
 refused-session l I t h = rw (ne-eqb _ _ h)
 
 pub zero-write : (I : Image) (w : WriteArgs) (j : ℕ) (t : Trace) → writeStatus zeroSession I w j t ≡ 1

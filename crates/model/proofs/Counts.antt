@@ -14,18 +14,21 @@ use lib.Seq.{take-append-le, take-append-add}
 use borrow.Author.Tests.{eq-eqb, ne-eqb}
 use Rattle.model.specs.declared.Layout.{Layout}
 use Rattle.model.specs.declared.Session.{Session}
+use Rattle.model.specs.declared.Plan.{Plan}
+use Rattle.model.specs.declared.Plan.the-variants.{NoCopy, OwnBackup, NewBackup, NoneFree}
 use Rattle.model.specs.declared.Action.{Action}
 use Rattle.model.specs.declared.Action.the-variants.{Nothing, ZeroMain, CopyToBackup, CopyToMain}
 use Rattle.model.specs.Range.{cat, sumTo, oneIf}
 use Rattle.model.specs.Words.{Image, wordOf}
 use Rattle.model.specs.Layout.{wordSize, lineSize, blockWords, blockLines, lineWords, epochAt, mainAt, backupAt}
-use Rattle.model.specs.Container.{committedEpoch, inactiveLine, segState, backupToMain, isPaired}
-use Rattle.model.specs.Session.{bit, dirtyWord, dirtyBlock}
-use Rattle.model.specs.Ops.{Op, store, clwb, sfence, Ops, Trace, traceShort, stores, clwbs, putBlock, persistCopy, persistZero}
-use Rattle.model.specs.Open.{recoveryAction, copySegment, zeroSegment, actionOps, recoverSegment, recoveryOps}
-use Rattle.model.specs.Write.{WriteArgs, needsCopy, pairOps, copyDirty, backupOps, stateOps, copyOnWriteOps, spanAt, spanWords, spanOps, writeOps, writeStatus}
+use Rattle.model.specs.Container.{committedEpoch, activeState, inactiveLine, segState, backupToMain, isPaired, pairedBackup, anyFree}
+use Rattle.model.specs.Session.{bit, isDirty, dirtyWord}
+use Rattle.model.specs.Ops.{Op, store, clwb, sfence, Ops, Trace, traceShort, stores, clwbs, putBlock, persistCopy, persistZero, copySegment, zeroSegment, eachDirty}
+use Rattle.model.specs.Outcome.{outcomeOf}
+use Rattle.model.specs.Open.{recoveryAction, actionOps, recoverSegment, recoveryOps}
+use Rattle.model.specs.Write.{WriteArgs, needsCopy, copyPlan, copies, noneFree, pairOps, copyDirty, backupOps, stateOps, copyOnWriteOps, spanAt, spanWords, spanOps, writeOps, writeStatus}
 use Rattle.model.specs.Checkpoint.{flushDirty, nextStates, statesOps, epochOps, checkpointOps, checkpointStatus, checkpointOutcome}
-use Rattle.model.specs.History.{callCheckpoint, State, calledOps}
+use Rattle.model.specs.History.{callCheckpoint, Device, calledOps}
 use Rattle.model.specs.Counts.{acts, treated, dirtyCount, dirtyTotal}
 use Rattle.model.specs.CrashSafety.{EpochStored, Window}
 use Rattle.model.proofs.Range.{length-cat}
@@ -67,7 +70,7 @@ pub length-clwbs : (n a : ℕ) → length (clwbs n a) ≡ n
 unfolding clwbs
 length-clwbs n a = length-cat n 1 _ (λ i l. refl) ∙ mul-one n
 
-pub length-put-block : (a : ℕ) (w : ℕ → ℕ) → length (putBlock a w) ≡ 36
+pub length-put-block : (a : ℕ) (w : ℕ → ℕ) → length (putBlock true a w) ≡ 36
 unfolding putBlock
 length-put-block a w = length-append (stores blockWords a w) (clwbs blockLines a) ∙ omega (arith, length-stores blockWords a w, length-clwbs blockLines a)
 
@@ -111,10 +114,9 @@ recovery-most l I line = omega (arith, length-recovery l I line, mul-le-mul-left
 -- ---- dirty blocks
 
 -- operations for each dirty block
-length-dirty : (s : Session) (i k : ℕ) (f : ℕ → Ops) → ((b : ℕ) → length (f b) ≡ k)
-    → length (cat (s .layout .blocks) (λ b. cond (dirtyBlock s i b) (f b) [])) ≡ k * dirtyCount s i
+pub length-dirty : (word n k : ℕ) (f : ℕ → Ops) → ((b : ℕ) → length (f b) ≡ k) → length (eachDirty word n f) ≡ k * dirtyCount word n
 unfolding dirtyCount
-length-dirty s i k f h = length-cat-sum (s .layout .blocks) k _ _ (λ b l. length-when k (dirtyBlock s i b) (f b) (h b))
+length-dirty word n k f h = length-cat-sum n k _ _ (λ b l. length-when k (isDirty word b) (f b) (h b))
 
 -- the ones of m are those below n and those of the rest
 ones-split : (m n : ℕ) → ones m ≡ sumTo n (bit m) + ones (m / 2 ^ n)
@@ -133,11 +135,9 @@ bit-test m b = go (ℕ-discrete (m / 2 ^ b % 2) 1)
     go (no e) = rw (ne-eqb (m / 2 ^ b % 2) 1 e) (omega arith)
 
 -- the dirty blocks of a segment are the ones of its word, if no bit is set beyond the blocks
-pub dirty-ones : (s : Session) (i : ℕ) → dirtyWord s i < 2 ^ s .layout .blocks → dirtyCount s i ≡ ones (dirtyWord s i)
-unfolding dirtyCount dirtyBlock ones
-dirty-ones s i h =
-    sum-ext (s .layout .blocks) _ (bit (dirtyWord s i)) (λ b l. bit-test (dirtyWord s i) b)
-    ∙ omega (arith, ones-split (dirtyWord s i) (s .layout .blocks), ap ones (div-eq-of-lt h))
+pub dirty-ones : (word n : ℕ) → word < 2 ^ n → dirtyCount word n ≡ ones word
+unfolding dirtyCount ones
+dirty-ones word n h = sum-ext n _ (bit word) (λ b l. bit-test word b) ∙ omega (arith, ones-split word n, ap ones (div-eq-of-lt h))
 
 -- ---- write
 
@@ -150,50 +150,69 @@ module _ (s : Session) (I : Image) (w : WriteArgs) where
   unfolding spanOps
   length-span = length-stores _ _ _
 
-  -- no copy: the segment is dirty already, or does not hold its checkpoint itself
-  pub length-write-plain : (j : ℕ) → needsCopy s I (w .main) ≡ false → length (writeOps s I w j) ≡ spanCount (s .layout) w
-  unfolding writeOps
-  length-write-plain j e = rw e length-span
+  abbrev ops : Plan → Ops
+  ops p = copyOnWriteOps (s .layout) I (dirtyWord s (w .main)) (w .main) p ++ spanOps (s .layout) I w
 
-  length-copied : (j n : ℕ) → needsCopy s I (w .main) ≡ true → length (backupOps s I (w .main) j) ≡ n → length (writeOps s I w j) ≡ n + 4 + spanCount (s .layout) w
-  unfolding writeOps copyOnWriteOps stateOps
-  length-copied j n e h =
+  -- the operations of a copy are its backup's and four
+  length-copied : (p : Plan) (n : ℕ) → copies p ≡ true → length (backupOps (s .layout) I (dirtyWord s (w .main)) (w .main) p) ≡ n
+      → length (ops p) ≡ n + 4 + spanCount (s .layout) w
+  unfolding copyOnWriteOps stateOps
+  length-copied p n e h =
+      let B : Ops = backupOps (s .layout) I (dirtyWord s (w .main)) (w .main) p in
       rw e (omega (
         arith,
         h,
         length-span,
-        length-append (copyOnWriteOps s I (w .main) j) (spanOps (s .layout) I w),
-        length-append (backupOps s I (w .main) j ++ sfence ∷ stateOps I (w .main)) (sfence ∷ []),
-        length-append (backupOps s I (w .main) j) (sfence ∷ stateOps I (w .main)),
+        length-append (B ++ sfence ∷ stateOps I (w .main) ++ sfence ∷ []) (spanOps (s .layout) I w),
+        length-append (B ++ sfence ∷ stateOps I (w .main)) (sfence ∷ []),
+        length-append B (sfence ∷ stateOps I (w .main)),
       ))
 
-  -- the segment is copied whole to a new backup segment
-  pub length-write-new : (j : ℕ) → needsCopy s I (w .main) ≡ true → isPaired (s .layout) (backupToMain I) (w .main) ≡ false
-      → length (writeOps s I w j) ≡ 36 * s .layout .blocks + 6 + spanCount (s .layout) w
-  unfolding backupOps pairOps
-  length-write-new j e h =
-      length-copied j (2 + 36 * s .layout .blocks) e (rw h (omega (arith, length-copy-segment (s .layout) I (mainAt (s .layout) (w .main)) (backupAt (s .layout) j))))
-      ∙ omega arith
+  -- by the plan: nothing is copied; the dirty blocks to the backup segment that it has; the whole segment to a new one
+  abbrev pub planCount : Plan → ℕ
+  planCount NoCopy = 0
+  planCount (OwnBackup j) = 36 * dirtyCount (dirtyWord s (w .main)) (s .layout .blocks) + 4
+  planCount (NewBackup j) = 36 * s .layout .blocks + 6
+  planCount NoneFree = 0
 
-  -- its dirty blocks are copied to the backup segment that it has
-  pub length-write-paired : (j : ℕ) → needsCopy s I (w .main) ≡ true → isPaired (s .layout) (backupToMain I) (w .main) ≡ true
-      → length (writeOps s I w j) ≡ 36 * dirtyCount s (w .main) + 4 + spanCount (s .layout) w
-  unfolding backupOps copyDirty persistCopy
-  length-write-paired j e h = length-copied j (36 * dirtyCount s (w .main)) e (rw h (length-dirty s (w .main) 36 _ (λ b. length-put-block _ _)))
+  length-plan : (p : Plan) → length (ops p) ≡ planCount p + spanCount (s .layout) w
+  unfolding copyOnWriteOps backupOps copyDirty persistCopy pairOps
+  length-plan NoCopy = omega (arith, length-span)
+  length-plan (OwnBackup j) =
+      length-copied (OwnBackup j) (36 * dirtyCount (dirtyWord s (w .main)) (s .layout .blocks)) refl
+      (length-dirty (dirtyWord s (w .main)) (s .layout .blocks) 36 _ (λ b. length-put-block _ _))
+  length-plan (NewBackup j) =
+      length-copied (NewBackup j) (2 + 36 * s .layout .blocks) refl
+      (omega (arith, length-copy-segment (s .layout) I (mainAt (s .layout) (w .main)) (backupAt (s .layout) j)))
+      ∙ omega arith
+  length-plan NoneFree = omega (arith, length-span)
+
+  pub length-write : (j : ℕ) → length (writeOps s I w j) ≡ planCount (copyPlan s I (w .main) j) + spanCount (s .layout) w
+  unfolding writeOps
+  length-write j = length-plan (copyPlan s I (w .main) j)
 
   -- the choice of a new backup segment changes neither the number of operations nor the status
-  pub write-length-chosen : (j k : ℕ) → length (writeOps s I w j) ≡ length (writeOps s I w k)
-  write-length-chosen j k = go (needsCopy s I (w .main)) (isPaired (s .layout) (backupToMain I) (w .main)) refl refl
+  abbrev planBy : ℕ → Bool → Bool → Bool → Plan
+  planBy j a b c = cond a (cond b (OwnBackup (pairedBackup (s .layout) (backupToMain I) (w .main))) (cond c (NewBackup j) NoneFree)) NoCopy
+
+  plan-count-chosen : (j k : ℕ) → (planCount (copyPlan s I (w .main) j) ≡ planCount (copyPlan s I (w .main) k))
+      × (noneFree (copyPlan s I (w .main) j) ≡ noneFree (copyPlan s I (w .main) k))
+  unfolding copyPlan
+  plan-count-chosen j k =
+      go (needsCopy s I (w .main)) (isPaired (s .layout) (backupToMain I) (w .main)) (anyFree (s .layout) (activeState I) (backupToMain I))
     where
-      go : (a b : Bool) → needsCopy s I (w .main) ≡ a → isPaired (s .layout) (backupToMain I) (w .main) ≡ b
-          → length (writeOps s I w j) ≡ length (writeOps s I w k)
-      go false b e q = length-write-plain j e ∙ sym (length-write-plain k e)
-      go true true e q = length-write-paired j e q ∙ sym (length-write-paired k e q)
-      go true false e q = length-write-new j e q ∙ sym (length-write-new k e q)
+      go : (a b c : Bool) → (planCount (planBy j a b c) ≡ planCount (planBy k a b c)) × (noneFree (planBy j a b c) ≡ noneFree (planBy k a b c))
+      go false b c = (refl, refl)
+      go true true c = (refl, refl)
+      go true false true = (refl, refl)
+      go true false false = (refl, refl)
+
+  pub write-length-chosen : (j k : ℕ) → length (writeOps s I w j) ≡ length (writeOps s I w k)
+  write-length-chosen j k = length-write j ∙ ap (λ (n : ℕ). n + spanCount (s .layout) w) (plan-count-chosen j k .0) ∙ sym (length-write k)
 
   pub write-status-chosen : (t : Trace) (j k : ℕ) → writeStatus s I w j t ≡ writeStatus s I w k t
   unfolding writeStatus traceShort
-  write-status-chosen t j k = rw (write-length-chosen j k)
+  write-status-chosen t j k = rw (write-length-chosen j k, plan-count-chosen j k .1)
 
 -- ---- checkpoint
 
@@ -204,62 +223,62 @@ OffEpoch (clwb p) = Unit {0}
 OffEpoch sfence = Unit {0}
 
 module _ (s : Session) (I : Image) where
-  length-flush-dirty : length (flushDirty s) ≡ 4 * dirtyTotal s
+  length-flush-dirty : length (flushDirty (s .layout) (s .«dirty_blocks»)) ≡ 4 * dirtyTotal (s .layout) (s .«dirty_blocks»)
   unfolding flushDirty dirtyTotal
-  length-flush-dirty = length-cat-sum (s .layout .mains) 4 (dirtyCount s) _ (λ i h. length-dirty s i 4 _ (λ b. length-clwbs blockLines _))
+  length-flush-dirty = length-cat-sum (s .layout .mains) 4 _ _ (λ i h. length-dirty (dirtyWord s i) (s .layout .blocks) 4 _ (λ b. length-clwbs blockLines _))
 
   -- all before the store of the epoch
   abbrev beforeEpoch : Ops
-  beforeEpoch = flushDirty s ++ sfence ∷ statesOps s I ++ sfence ∷ []
+  beforeEpoch = flushDirty (s .layout) (s .«dirty_blocks») ++ sfence ∷ statesOps I (s .«dirty_segments») ++ sfence ∷ []
 
-  length-before : length beforeEpoch ≡ 4 * dirtyTotal s + 11
+  length-before : length beforeEpoch ≡ 4 * dirtyTotal (s .layout) (s .«dirty_blocks») + 11
   unfolding statesOps
   length-before =
       omega (
         arith,
         length-flush-dirty,
-        length-append (flushDirty s ++ sfence ∷ statesOps s I) (sfence ∷ []),
-        length-append (flushDirty s) (sfence ∷ statesOps s I),
-        length-append (stores lineWords (inactiveLine I) (λ k. wordOf (nextStates s I) (wordSize * k))) (clwb (inactiveLine I) ∷ []),
-        length-stores lineWords (inactiveLine I) (λ k. wordOf (nextStates s I) (wordSize * k)),
+        length-append (flushDirty (s .layout) (s .«dirty_blocks») ++ sfence ∷ statesOps I (s .«dirty_segments»)) (sfence ∷ []),
+        length-append (flushDirty (s .layout) (s .«dirty_blocks»)) (sfence ∷ statesOps I (s .«dirty_segments»)),
+        length-append (stores lineWords (inactiveLine I) (λ k. wordOf (nextStates (s .«dirty_segments») (activeState I)) (wordSize * k))) (clwb (inactiveLine I) ∷ []),
+        length-stores lineWords (inactiveLine I) (λ k. wordOf (nextStates (s .«dirty_segments») (activeState I)) (wordSize * k)),
       )
 
   checkpoint-split : checkpointOps s I ≡ beforeEpoch ++ store epochAt (suc (committedEpoch I)) ∷ clwb epochAt ∷ sfence ∷ []
   unfolding checkpointOps epochOps
   checkpoint-split = simp append-assoc
 
-  pub length-checkpoint-ops : length (checkpointOps s I) ≡ 4 * dirtyTotal s + 14
+  pub length-checkpoint-ops : length (checkpointOps s I) ≡ 4 * dirtyTotal (s .layout) (s .«dirty_blocks») + 14
   length-checkpoint-ops =
       ap length checkpoint-split ∙ length-append beforeEpoch (store epochAt (suc (committedEpoch I)) ∷ clwb epochAt ∷ sfence ∷ []) ∙ omega (arith, length-before)
 
   off-before : All OffEpoch beforeEpoch
   unfolding flushDirty clwbs statesOps stores
   off-before =
-      all-append OffEpoch (flushDirty s ++ sfence ∷ statesOps s I) (sfence ∷ [])
-      (all-append OffEpoch (flushDirty s) (sfence ∷ statesOps s I)
+      all-append OffEpoch (flushDirty (s .layout) (s .«dirty_blocks») ++ sfence ∷ statesOps I (s .«dirty_segments»)) (sfence ∷ [])
+      (all-append OffEpoch (flushDirty (s .layout) (s .«dirty_blocks»)) (sfence ∷ statesOps I (s .«dirty_segments»))
       (all-cat OffEpoch (s .layout .mains) _ (λ i h. all-cat OffEpoch (s .layout .blocks) _
-      (λ b k. all-when OffEpoch (dirtyBlock s i b) _ (λ e. all-cat OffEpoch blockLines _ (λ n m. (tt, tt)))))) (
+      (λ b k. all-when OffEpoch (isDirty (dirtyWord s i) b) _ (λ e. all-cat OffEpoch blockLines _ (λ n m. (tt, tt)))))) (
         tt,
-        all-append OffEpoch (stores lineWords (inactiveLine I) (λ k. wordOf (nextStates s I) (wordSize * k))) (clwb (inactiveLine I) ∷ [])
+        all-append OffEpoch (stores lineWords (inactiveLine I) (λ k. wordOf (nextStates (s .«dirty_segments») (activeState I)) (wordSize * k))) (clwb (inactiveLine I) ∷ [])
             (all-cat OffEpoch lineWords _ (λ n m. (omega (arith, state-line-low (suc (committedEpoch I))), tt))) (tt, tt),
       ))
       (tt, tt)
 
   -- the epoch is stored from the last but two of the operations on
-  pub epoch-stored : (p : ℕ) → 4 * dirtyTotal s + 12 ≤ p → EpochStored (take p (checkpointOps s I))
+  pub epoch-stored : (p : ℕ) → 4 * dirtyTotal (s .layout) (s .«dirty_blocks») + 12 ≤ p → EpochStored (take p (checkpointOps s I))
   epoch-stored p h = (
     beforeEpoch,
-    take (p - (4 * dirtyTotal s + 12)) (clwb epochAt ∷ sfence ∷ []),
+    take (p - (4 * dirtyTotal (s .layout) (s .«dirty_blocks») + 12)) (clwb epochAt ∷ sfence ∷ []),
     suc (committedEpoch I),
-    (let e : p ≡ length beforeEpoch + suc (p - (4 * dirtyTotal s + 12)) = omega (arith, length-before) in
-        ap₂ take e checkpoint-split ∙ take-append-add beforeEpoch _ (suc (p - (4 * dirtyTotal s + 12)))),
+    (let e : p ≡ length beforeEpoch + suc (p - (4 * dirtyTotal (s .layout) (s .«dirty_blocks») + 12)) = omega (arith, length-before) in
+        ap₂ take e checkpoint-split ∙ take-append-add beforeEpoch _ (suc (p - (4 * dirtyTotal (s .layout) (s .«dirty_blocks») + 12)))),
   )
 
   -- and not before
-  pub epoch-stored-late : (p : ℕ) → EpochStored (take p (checkpointOps s I)) → 4 * dirtyTotal s + 12 ≤ p
-  epoch-stored-late p x = go (decLe (4 * dirtyTotal s + 12) p)
+  pub epoch-stored-late : (p : ℕ) → EpochStored (take p (checkpointOps s I)) → 4 * dirtyTotal (s .layout) (s .«dirty_blocks») + 12 ≤ p
+  epoch-stored-late p x = go (decLe (4 * dirtyTotal (s .layout) (s .«dirty_blocks») + 12) p)
     where
-      go : Dec (4 * dirtyTotal s + 12 ≤ p) → 4 * dirtyTotal s + 12 ≤ p
+      go : Dec (4 * dirtyTotal (s .layout) (s .«dirty_blocks») + 12 ≤ p) → 4 * dirtyTotal (s .layout) (s .«dirty_blocks») + 12 ≤ p
       go (yes h) = h
       go (no h) =
           let e : take p beforeEpoch ≡ x .0 ++ store epochAt (x .2) ∷ x .1 =
@@ -268,22 +287,22 @@ module _ (s : Session) (I : Image) where
           omega arith
 
 -- the window of a served checkpoint: its first 4 * m + 12 or 4 * m + 13 operations are played, for m dirty blocks
-pub window-is : (s : State) (t : Trace) (p : ℕ) → checkpointStatus (s .session) (s .image) t ≡ 0
-    → Window s (callCheckpoint t) p ↔ ((4 * dirtyTotal (s .session) + 12 ≤ p) × (p < 4 * dirtyTotal (s .session) + 14))
-unfolding checkpointStatus checkpointOutcome
-window-is s t p h = (
-  λ x. (epoch-stored-late (s .session) (s .image) p (subst EpochStored called (x .0)), omega (arith, x .1, count)),
-  λ x. (subst EpochStored (sym called) (epoch-stored (s .session) (s .image) p (x .0)), omega (arith, x .1, count)),
+pub window-is : (d : Device) (t : Trace) (p : ℕ) → checkpointStatus (d .session) (d .image) t ≡ 0
+    → Window d (callCheckpoint t) p ↔ ((4 * dirtyTotal (d .session .layout) (d .session .«dirty_blocks») + 12 ≤ p) × (p < 4 * dirtyTotal (d .session .layout) (d .session .«dirty_blocks») + 14))
+unfolding checkpointStatus checkpointOutcome outcomeOf
+window-is d t p h = (
+  λ x. (epoch-stored-late (d .session) (d .image) p (subst EpochStored called (x .1)), omega (arith, x .2, count)),
+  λ x. (refl, subst EpochStored (sym called) (epoch-stored (d .session) (d .image) p (x .0)), omega (arith, x .1, count)),
 )
   where
-    ops : checkpointOutcome (s .session) (s .image) t .ops ≡ checkpointOps (s .session) (s .image)
+    ops : checkpointOutcome (d .session) (d .image) t .ops ≡ checkpointOps (d .session) (d .image)
     ops = rw h
 
-    count : length (checkpointOutcome (s .session) (s .image) t .ops) ≡ 4 * dirtyTotal (s .session) + 14
-    count = ap length ops ∙ length-checkpoint-ops (s .session) (s .image)
+    count : length (checkpointOutcome (d .session) (d .image) t .ops) ≡ 4 * dirtyTotal (d .session .layout) (d .session .«dirty_blocks») + 14
+    count = ap length ops ∙ length-checkpoint-ops (d .session) (d .image)
 
-    whole : length (s .image) % lineSize ≡ 0
-    whole = omega (arith, image-lines (s .session .layout), container-then (s .session .layout) (s .image) _ h .0 .long)
+    whole : length (d .image) % lineSize ≡ 0
+    whole = omega (arith, image-lines (d .session .layout), container-then (d .session .layout) (d .image) _ h .0 .long)
 
-    called : calledOps s (callCheckpoint t) p ≡ take p (checkpointOps (s .session) (s .image))
-    called = played-ops (s .image) _ t p whole (checkpoint-outcome-ok (s .session) (s .image) t) ∙ ap (take p) ops
+    called : calledOps d (callCheckpoint t) p ≡ take p (checkpointOps (d .session) (d .image))
+    called = played-ops (d .image) _ t p whole (checkpoint-outcome-ok (d .session) (d .image) t) ∙ ap (take p) ops

@@ -13,7 +13,7 @@ use Rattle.model.specs.Range.{cat}
 use Rattle.model.specs.Words.{Image, Bytes, byteAt, wordOf, littleEndian, bytesOf}
 use Rattle.model.specs.Layout.{wordSize, lineSize, most, unpaired, SizesOk, imageSize, segmentSize, stateLine}
 use Rattle.model.specs.Status.{firstError}
-use Rattle.model.specs.Container.{HeaderOk, Valid, committedEpoch, activeLine, segState, backupToMain, byState, checkpointSegment, checkpointBytes}
+use Rattle.model.specs.Container.{HeaderOk, Valid, committedEpoch, activeLine, segState, backupToMain, byState, checkpointLocated, checkpointSegment, checkpointBytes}
 use Rattle.model.specs.Ops.{Trace, traceShort}
 use Rattle.model.specs.Open.{recoveryOps, openStatus}
 use Rattle.model.specs.History.{start}
@@ -126,7 +126,7 @@ module _ (l : Layout) where
   -- ---- its checkpoint
 
   pub formatted-checkpoint : SizesOk l → checkpointBytes l (formatted l) (activeLine (formatted l)) ≡ replicate (segmentSize l * l .mains) 0
-  unfolding checkpointBytes checkpointSegment byState
+  unfolding checkpointBytes checkpointSegment checkpointLocated byState
   formatted-checkpoint h =
       cat-ext (l .mains) _ (λ i. replicate (segmentSize l) 0) (λ i b. rw (formatted-states i (omega (arith, h .0)))) ∙ cat-replicate (segmentSize l) (l .mains)
 

@@ -26,6 +26,8 @@ pub record Invariant (l : Layout) (O : Ops) (I : Image) (s : Session) (P W : Con
   -- a backup segment equals its main segment in every block that is not dirty
   pub twin : (i j x : ℕ) → i < l .mains → j < l .backups → x < segmentSize l → backupToMain I j ≡ i → dirtyBlock s i (x / 256) ≡ false
       → byteAt I (backupAt l j + x) ≡ byteAt I (mainAt l i + x)
+  -- a segment without a checkpoint is zero in every block that is not dirty
+  pub blank : (i x : ℕ) → i < l .mains → x < segmentSize l → activeState I i ≡ 0 → dirtyBlock s i (x / 256) ≡ false → byteAt I (mainAt l i + x) ≡ 0
   -- settled are: the metadata, a segment that holds its checkpoint itself, blocks that are not dirty, backup segments
   pub firmMeta : (i : ℕ) → i < 512 → Settled (i / 64) O
   pub firmOwn : (i x : ℕ) → i < l .mains → x < segmentSize l → activeState I i ≡ 1 → Settled ((mainAt l i + x) / 64) O

@@ -3,6 +3,7 @@
 use Prim.Native.Nat.{ℕ, zero, suc, _+_, _-_, _*_, _/_, _%_, _≤_, _<_}
 use mathlib.Core.Path.{_≡_, refl, sym, ap, _∙_, subst}
 use mathlib.Core.Logic.{_⊎_, inl, inr, ⊎-elim}
+use mathlib.Core.Bool.{Bool, true, false}
 use mathlib.Core.List.{[], _∷_, _++_}
 use native.Mathlib.Decide.{decLt, ℕ-discrete}
 use native.Mathlib.Nat.{mul-suc, mul-zero}
@@ -82,24 +83,27 @@ pub clwbs-none : (Q : ℕ → Type 0) (n a : ℕ) → Each Q (clwbs n a)
 unfolding clwbs
 clwbs-none Q n a = each-cat Q n _ (λ k l. tt)
 
-pub puts-block : (a : ℕ) (w f : ℕ → ℕ) → ((k b : ℕ) → k < 32 → b < 8 → getD (bytesOf 8 (w k)) b 0 ≡ f (a + 8 * k + b)) → Puts (putBlock a w) a 256 f
+-- a block, written back or not
+pub puts-block : (flush : Bool) (a : ℕ) (w f : ℕ → ℕ) → ((k b : ℕ) → k < 32 → b < 8 → getD (bytesOf 8 (w k)) b 0 ≡ f (a + 8 * k + b))
+    → Puts (putBlock flush a w) a 256 f
 unfolding putBlock
-puts-block a w f h = puts-then (stores 32 a w) (clwbs 4 a) a 256 f (puts-stores 32 a w f h) (clwbs-none _ 4 a)
+puts-block true a w f h = puts-then (stores 32 a w) (clwbs 4 a) a 256 f (puts-stores 32 a w f h) (clwbs-none _ 4 a)
+puts-block false a w f h = puts-then (stores 32 a w) [] a 256 f (puts-stores 32 a w f h) tt
 
 -- n blocks from a on
 pub puts-blocks : (n a : ℕ) (w : ℕ → ℕ → ℕ) (f : ℕ → ℕ)
-    → ((m k b : ℕ) → m < n → k < 32 → b < 8 → getD (bytesOf 8 (w m k)) b 0 ≡ f (a + 256 * m + 8 * k + b)) → Puts (cat n (λ m. putBlock (a + 256 * m) (w m))) a (256 * n) f
-puts-blocks n a w f h = puts-cat n 256 a _ f (λ m l. puts-block (a + 256 * m) (w m) f (λ k b x y. h m k b l x y))
+    → ((m k b : ℕ) → m < n → k < 32 → b < 8 → getD (bytesOf 8 (w m k)) b 0 ≡ f (a + 256 * m + 8 * k + b)) → Puts (cat n (λ m. putBlock true (a + 256 * m) (w m))) a (256 * n) f
+puts-blocks n a w f h = puts-cat n 256 a _ f (λ m l. puts-block true (a + 256 * m) (w m) f (λ k b x y. h m k b l x y))
 
 -- what words leave where they are stored, whatever they are
 filled : ℕ → (ℕ → ℕ) → ℕ → ℕ
 filled a w i = getD (bytesOf 8 (w ((i - a) / 8))) ((i - a) % 8) 0
 
-pub fill-block : (a : ℕ) (w : ℕ → ℕ) → (f : ℕ → ℕ) × Puts (putBlock a w) a 256 f
+pub fill-block : (a : ℕ) (w : ℕ → ℕ) → (f : ℕ → ℕ) × Puts (putBlock true a w) a 256 f
 unfolding filled
 fill-block a w = (
   filled a w,
-  puts-block a w (filled a w) (λ k b x y.
+  puts-block true a w (filled a w) (λ k b x y.
       let e : (a + 8 * k + b - a) / 8 ≡ k = omega arith in
       let r : (a + 8 * k + b - a) % 8 ≡ b = omega arith in
       rw (e, r)),
@@ -157,22 +161,22 @@ flushed-clwbs ℓ n a h x y =
     flushed-cat ℓ n _ (λ k l. neat-none _ (λ Q. tt)) (ℓ - a / 64) (omega arith)
     (subst (λ (m : ℕ). Flushed m (clwb (a + 64 * (ℓ - a / 64)) ∷ [])) e (flushed-clwb (a + 64 * (ℓ - a / 64))))
 
-flushed-block : (ℓ a : ℕ) (w : ℕ → ℕ) → a % 64 ≡ 0 → a ≤ 64 * ℓ → 64 * ℓ < a + 256 → Flushed ℓ (putBlock a w)
+flushed-block : (ℓ a : ℕ) (w : ℕ → ℕ) → a % 64 ≡ 0 → a ≤ 64 * ℓ → 64 * ℓ < a + 256 → Flushed ℓ (putBlock true a w)
 unfolding putBlock
 flushed-block ℓ a w h x y = flushed-after ℓ (stores 32 a w) (clwbs 4 a) (flushed-clwbs ℓ 4 a h x (omega arith))
 
-pub neat-block : (a : ℕ) (w : ℕ → ℕ) → a % 64 ≡ 0 → Neat (putBlock a w)
+pub neat-block : (a : ℕ) (w : ℕ → ℕ) → a % 64 ≡ 0 → Neat (putBlock true a w)
 neat-block a w h ℓ = go (decLt (64 * ℓ) a) (decLt (64 * ℓ) (a + 256))
   where
-    go : Dec (64 * ℓ < a) → Dec (64 * ℓ < a + 256) → Off ℓ (putBlock a w) ⊎ Flushed ℓ (putBlock a w)
+    go : Dec (64 * ℓ < a) → Dec (64 * ℓ < a + 256) → Off ℓ (putBlock true a w) ⊎ Flushed ℓ (putBlock true a w)
     go (yes x) y = inl (puts-off (fill-block a w .1) ℓ h refl (inl x))
     go (no x) (yes y) = inr (flushed-block ℓ a w h (omega arith) y)
     go (no x) (no y) = inl (puts-off (fill-block a w .1) ℓ h refl (inr (omega arith)))
 
-pub neat-blocks : (n a : ℕ) (w : ℕ → ℕ → ℕ) → a % 64 ≡ 0 → Neat (cat n (λ m. putBlock (a + 256 * m) (w m)))
+pub neat-blocks : (n a : ℕ) (w : ℕ → ℕ → ℕ) → a % 64 ≡ 0 → Neat (cat n (λ m. putBlock true (a + 256 * m) (w m)))
 neat-blocks n a w h = neat-cat n _ (λ m l. neat-block (a + 256 * m) (w m) (omega arith))
 
-pub flushed-blocks : (ℓ n a : ℕ) (w : ℕ → ℕ → ℕ) → a % 64 ≡ 0 → a ≤ 64 * ℓ → 64 * ℓ < a + 256 * n → Flushed ℓ (cat n (λ m. putBlock (a + 256 * m) (w m)))
+pub flushed-blocks : (ℓ n a : ℕ) (w : ℕ → ℕ → ℕ) → a % 64 ≡ 0 → a ≤ 64 * ℓ → 64 * ℓ < a + 256 * n → Flushed ℓ (cat n (λ m. putBlock true (a + 256 * m) (w m)))
 flushed-blocks ℓ n a w h x y =
     flushed-cat ℓ n _ (λ m l. neat-block (a + 256 * m) (w m) (omega arith)) ((64 * ℓ - a) / 256) (omega arith)
     (flushed-block ℓ (a + 256 * ((64 * ℓ - a) / 256)) (w ((64 * ℓ - a) / 256)) (omega arith) (omega arith) (omega arith))

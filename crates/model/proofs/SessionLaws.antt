@@ -1,11 +1,11 @@
 -- Laws of the session: bits of a word, which segments and blocks are dirty after each change, and its test of validity
 -- against the plain statement.
 use Prim.Native.Nat.{ℕ, zero, suc, _+_, _-_, _^_, _/_, _%_, _≤_, _<_}
-use mathlib.Core.Path.{_≡_, refl, sym, ap, _∙_}
-use mathlib.Core.Logic.{_↔_, _≢_}
+use mathlib.Core.Path.{_≡_, refl, sym, ap, _∙_, subst}
+use mathlib.Core.Logic.{_↔_, _≢_, _⊎_, inl, inr, ⊎-elim}
 use mathlib.Core.Bool.{Bool, true, false, not, cond, _&&_, and-eq-true-iff}
 use native.Mathlib.Omega.{arith}
-use native.Mathlib.Decide.{decLt}
+use native.Mathlib.Decide.{decLt, ℕ-discrete}
 use native.Mathlib.Nat.{div-self, div-eq-of-lt, mul-div-cancel, mul-mod-left, pow-suc, div-lt-iff-lt-mul, one-mul}
 use lib.Arith.{bin-ind}
 use lib.Bits.{bitOr, or-shr, or-mod, or-zero-r}
@@ -18,7 +18,7 @@ use Rattle.model.specs.declared.Layout.{Layout}
 use Rattle.model.specs.declared.Session.{Session}
 use Rattle.model.specs.Range.{allB}
 use Rattle.model.specs.Layout.{most, ssMain}
-use Rattle.model.specs.Session.{bit, setBit, dirtyWord, dirtySegment, dirtyBlock, freshSession, withDirty, withCheckpoint, SessionValid, validSession}
+use Rattle.model.specs.Session.{bit, isDirty, setBit, setBits, dirtyWord, dirtySegment, dirtyBlock, freshSession, withDirty, withCheckpoint, SessionValid, validSession}
 use Rattle.model.proofs.Range.{all-at, all-from}
 
 -- ---- bits
@@ -65,6 +65,28 @@ pub bit-set-other : (m f g : ℕ) → f ≢ g → bit (setBit m f) g ≡ bit m g
 unfolding setBit
 bit-set-other m f g h = bit-or m (2 ^ f) g ∙ ap (bitOr (bit m g)) (bit-power-other f g h) ∙ or-zero-r (bit m g)
 
+-- a run of bits set: those in the run, and the others as they were
+pub bit-run-in : (m f n g : ℕ) → f ≤ g → g < f + n → bit (setBits m f n) g ≡ 1
+unfolding setBits
+bit-run-in m f zero g h k = absurd (omega arith)
+bit-run-in m f (suc n) g h k = go (λ l. bit-run-in m f n g h l) (ℕ-discrete (f + n) g)
+  where
+    go : (g < f + n → bit (setBits m f n) g ≡ 1) → Dec (f + n ≡ g) → bit (setBit (setBits m f n) (f + n)) g ≡ 1
+    go ih (yes e) = subst (λ (x : ℕ). bit (setBit (setBits m f n) (f + n)) x ≡ 1) e (bit-set-same (setBits m f n) (f + n))
+    go ih (no e) = bit-set-other (setBits m f n) (f + n) g e ∙ ih (omega arith)
+
+pub bit-run-out : (m f n g : ℕ) → (g < f) ⊎ (f + n ≤ g) → bit (setBits m f n) g ≡ bit m g
+unfolding setBits
+bit-run-out m f zero g h = refl
+bit-run-out m f (suc n) g h =
+    bit-set-other (setBits m f n) (f + n) g (⊎-elim (λ x. omega arith) (λ x. omega arith) h)
+    ∙ bit-run-out m f n g (⊎-elim inl (λ x. inr (omega arith)) h)
+
+-- a run of one
+pub set-bits-one : (m f : ℕ) → setBits m f 1 ≡ setBit m f
+unfolding setBits
+set-bits-one m f = ap (setBit m) (omega arith)
+
 no-bits : (m : ℕ) → ((f : ℕ) → bit m f ≡ 0) → m ≡ 0
 unfolding bit
 no-bits =
@@ -96,35 +118,36 @@ bits-below m n = (below, power)
 
 -- ---- what is dirty
 
-module _ (s : Session) (i b m : ℕ) where
-  pub dirty-segment-same : dirtySegment (withDirty s i b m) i ≡ true
+module _ (s : Session) (i b n m : ℕ) where
+  pub dirty-segment-same : dirtySegment (withDirty s i b n m) i ≡ true
   unfolding dirtySegment withDirty
   dirty-segment-same = eq-eqb _ _ (bit-set-same (s .«dirty_segments») i)
 
-  pub dirty-segment-other : (u : ℕ) → u ≢ i → dirtySegment (withDirty s i b m) u ≡ dirtySegment s u
+  pub dirty-segment-other : (u : ℕ) → u ≢ i → dirtySegment (withDirty s i b n m) u ≡ dirtySegment s u
   unfolding dirtySegment withDirty
-  dirty-segment-other u n = ap (λ (x : ℕ). eqb x 1) (bit-set-other (s .«dirty_segments») i u (λ e. n (sym e)))
+  dirty-segment-other u ne = ap (λ (x : ℕ). eqb x 1) (bit-set-other (s .«dirty_segments») i u (λ e. ne (sym e)))
 
-  pub dirty-word-same : i < length (s .«dirty_blocks») → dirtyWord (withDirty s i b m) i ≡ setBit m b
+  pub dirty-word-same : i < length (s .«dirty_blocks») → dirtyWord (withDirty s i b n m) i ≡ setBits m b n
   unfolding withDirty
-  dirty-word-same h = getD-set-same (s .«dirty_blocks») i (setBit m b) 0 h
+  dirty-word-same h = getD-set-same (s .«dirty_blocks») i (setBits m b n) 0 h
 
-  pub dirty-word-other : (u : ℕ) → u ≢ i → dirtyWord (withDirty s i b m) u ≡ dirtyWord s u
+  pub dirty-word-other : (u : ℕ) → u ≢ i → dirtyWord (withDirty s i b n m) u ≡ dirtyWord s u
   unfolding withDirty
-  dirty-word-other u n = getD-set-other (s .«dirty_blocks») i u (setBit m b) 0 n
+  dirty-word-other u ne = getD-set-other (s .«dirty_blocks») i u (setBits m b n) 0 ne
 
-  pub dirty-block-same : i < length (s .«dirty_blocks») → dirtyBlock (withDirty s i b m) i b ≡ true
+  -- a block of the run
+  pub dirty-block-same : i < length (s .«dirty_blocks») → (f : ℕ) → b ≤ f → f < b + n → dirtyBlock (withDirty s i b n m) i f ≡ true
   unfolding dirtyBlock
-  dirty-block-same h = eq-eqb _ _ (ap (λ (w : ℕ). bit w b) (dirty-word-same h) ∙ bit-set-same m b)
+  dirty-block-same h f x y = eq-eqb _ _ (ap (λ (w : ℕ). bit w f) (dirty-word-same h) ∙ bit-run-in m b n f x y)
 
   -- another block of the segment: as in the word m
-  pub dirty-block-rest : i < length (s .«dirty_blocks») → (f : ℕ) → f ≢ b → dirtyBlock (withDirty s i b m) i f ≡ eqb (bit m f) 1
+  pub dirty-block-rest : i < length (s .«dirty_blocks») → (f : ℕ) → (f < b) ⊎ (b + n ≤ f) → dirtyBlock (withDirty s i b n m) i f ≡ isDirty m f
   unfolding dirtyBlock
-  dirty-block-rest h f n = ap (λ (x : ℕ). eqb x 1) (ap (λ (w : ℕ). bit w f) (dirty-word-same h) ∙ bit-set-other m b f (λ e. n (sym e)))
+  dirty-block-rest h f x = ap (λ (x : ℕ). eqb x 1) (ap (λ (w : ℕ). bit w f) (dirty-word-same h) ∙ bit-run-out m b n f x)
 
-  pub dirty-block-other : (u : ℕ) → u ≢ i → (f : ℕ) → dirtyBlock (withDirty s i b m) u f ≡ dirtyBlock s u f
+  pub dirty-block-other : (u : ℕ) → u ≢ i → (f : ℕ) → dirtyBlock (withDirty s i b n m) u f ≡ dirtyBlock s u f
   unfolding dirtyBlock
-  dirty-block-other u n f = ap (λ (w : ℕ). eqb (bit w f) 1) (dirty-word-other u n)
+  dirty-block-other u ne f = ap (λ (w : ℕ). eqb (bit w f) 1) (dirty-word-other u ne)
 
 -- a word without bits
 no-bit : (f : ℕ) → eqb (bit 0 f) 1 ≡ false

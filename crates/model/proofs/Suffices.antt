@@ -3,25 +3,28 @@ use Prim.Native.Nat.{ℕ, _+_, _*_, _≤_}
 use mathlib.Core.Path.{_≡_, refl, sym, _∙_}
 use mathlib.Core.Logic.{_≢_}
 use mathlib.Core.Bool.{Bool, true, false, true≢false}
-use mathlib.Core.List.{[], _∷_, _++_}
+use mathlib.Core.List.{List, [], _∷_, _++_}
 use native.Mathlib.Omega.{arith}
-use lib.ListN.{length, take}
+use lib.ListN.{length, take, getD}
 use borrow.Author.Tests.{le-ltb}
+use Rattle.model.specs.declared.Layout.{Layout}
 use Rattle.model.specs.declared.Session.{Session}
+use Rattle.model.specs.declared.Plan.{Plan}
+use Rattle.model.specs.declared.Plan.the-variants.{NoCopy, OwnBackup, NewBackup, NoneFree}
 use Rattle.model.specs.Range.{oneIf}
 use Rattle.model.specs.Layout.{blockWords}
 use Rattle.model.specs.Words.{Image}
 use Rattle.model.specs.Status.{Errors, firstError}
-use Rattle.model.specs.Container.{activeLine, backupToMain, isPaired, containerErrors}
-use Rattle.model.specs.Session.{dirtyBlock}
+use Rattle.model.specs.Container.{activeLine, containerErrors}
+use Rattle.model.specs.Session.{isDirty, dirtyWord}
 use Rattle.model.specs.Ops.{Ops, Trace, traceShort}
 use Rattle.model.specs.Open.{recoveryOps, openStatus}
-use Rattle.model.specs.Write.{WriteArgs, needsCopy, spanBad, writeOps, writeErrors, writeStatus}
+use Rattle.model.specs.Write.{WriteArgs, copyPlan, spanBad, writeOps, writeErrors, writeStatus}
 use Rattle.model.specs.Checkpoint.{checkpointOps, checkpointErrors, checkpointStatus}
 use Rattle.model.specs.Counts.{dirtyCount, dirtyTotal}
 use Rattle.model.specs.CrashSafety.{TraceSuffices, WriteTraceSuffices, CheckpointTraceSuffices}
 use Rattle.model.proofs.Refusals.{NoneHolds, Without, given-after}
-use Rattle.model.proofs.Counts.{sum-most, recovery-most, spanCount, length-write-plain, length-write-paired, length-write-new, length-checkpoint-ops}
+use Rattle.model.proofs.Counts.{sum-most, recovery-most, spanCount, planCount, length-write, length-checkpoint-ops}
 use Rattle.model.proofs.WellFormed.{span-good}
 
 -- 11 at the end of a list is given only if the trace is short
@@ -49,22 +52,23 @@ one-most : (b : Bool) → oneIf b ≤ 1
 one-most true = omega arith
 one-most false = omega arith
 
-dirty-most : (s : Session) (i : ℕ) → dirtyCount s i ≤ s .layout .blocks
+pub dirty-most : (word n : ℕ) → dirtyCount word n ≤ n
 unfolding dirtyCount
-dirty-most s i = omega (arith, sum-most (s .layout .blocks) 1 (λ b. oneIf (dirtyBlock s i b)) (λ b h. one-most (dirtyBlock s i b)))
+dirty-most word n = omega (arith, sum-most n 1 (λ b. oneIf (isDirty word b)) (λ b h. one-most (isDirty word b)))
 
 -- a span within a block meets at most its words: a block starts at a word
-span-most : (s : Session) (w : WriteArgs) → spanBad w ≡ false → spanCount (s .layout) w ≤ blockWords
-span-most s w h = let g = span-good w h in omega (arith, g .0, g .1)
+span-most : (l : Layout) (w : WriteArgs) → spanBad l w ≡ false → spanCount l w ≤ blockWords
+span-most l w h = let g = span-good l w h in omega (arith, g .0, g .1)
 
-write-most : (s : Session) (I : Image) (w : WriteArgs) (j : ℕ) → spanBad w ≡ false → length (writeOps s I w j) ≤ 36 * s .layout .blocks + 6 + blockWords
-write-most s I w j h = go (needsCopy s I (w .main)) (isPaired (s .layout) (backupToMain I) (w .main)) refl refl
-  where
-    go : (a b : Bool) → needsCopy s I (w .main) ≡ a → isPaired (s .layout) (backupToMain I) (w .main) ≡ b
-        → length (writeOps s I w j) ≤ 36 * s .layout .blocks + 6 + blockWords
-    go false b e q = omega (arith, span-most s w h, length-write-plain s I w j e)
-    go true true e q = omega (arith, span-most s w h, length-write-paired s I w j e q, dirty-most s (w .main))
-    go true false e q = omega (arith, span-most s w h, length-write-new s I w j e q)
+plan-most : (s : Session) (I : Image) (w : WriteArgs) (p : Plan) → planCount s I w p ≤ 36 * s .layout .blocks + 6
+plan-most s I w NoCopy = omega arith
+plan-most s I w (OwnBackup j) = omega (arith, dirty-most (dirtyWord s (w .main)) (s .layout .blocks))
+plan-most s I w (NewBackup j) = omega arith
+plan-most s I w NoneFree = omega arith
+
+write-most : (s : Session) (I : Image) (w : WriteArgs) (j : ℕ) → spanBad (s .layout) w ≡ false
+    → length (writeOps s I w j) ≤ 36 * s .layout .blocks + 6 + blockWords
+write-most s I w j h = omega (arith, span-most (s .layout) w h, length-write s I w j, plan-most s I w (copyPlan s I (w .main) j))
 
 pub write-trace-suffices : WriteTraceSuffices
 unfolding writeStatus
@@ -74,12 +78,12 @@ write-trace-suffices s I w j t h e =
 
 -- ---- checkpoint
 
-total-most : (s : Session) → dirtyTotal s ≤ s .layout .blocks * s .layout .mains
+total-most : (l : Layout) (words : List ℕ) → dirtyTotal l words ≤ l .blocks * l .mains
 unfolding dirtyTotal
-total-most s = sum-most (s .layout .mains) (s .layout .blocks) _ (λ i h. dirty-most s i)
+total-most l words = sum-most (l .mains) (l .blocks) _ (λ i h. dirty-most (getD words i 0) (l .blocks))
 
 pub checkpoint-trace-suffices : CheckpointTraceSuffices
 unfolding checkpointStatus
 checkpoint-trace-suffices s I t h e =
     let r = eleven (take 6 (checkpointErrors s I t)) (checkpointOps s I) t (omega arith) e in
-    long-enough (checkpointOps s I) t (omega (arith, length-checkpoint-ops s I, total-most s)) (r .1)
+    long-enough (checkpointOps s I) t (omega (arith, length-checkpoint-ops s I, total-most (s .layout) (s .«dirty_blocks»))) (r .1)

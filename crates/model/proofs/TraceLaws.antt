@@ -1,6 +1,6 @@
 -- Laws of traces: the operations that a call writes are read back as they were, and replay serves the reported part of a
 -- trace whose operations are well formed.
-use Prim.Native.Nat.{ℕ, zero, suc, _+_, _*_, _%_, _≤_, _<_, min}
+use Prim.Native.Nat.{ℕ, zero, suc, _+_, _*_, _%_, _≤_, _<_, min, _/_}
 use mathlib.Core.Path.{_≡_, refl, sym, ap, _∙_}
 use mathlib.Core.Bool.{Bool, true, false, cond}
 use mathlib.Core.List.{[], _∷_, _++_}
@@ -97,31 +97,31 @@ module _ (Q : Op → Type 0) where
 
 -- ---- well-formed operations
 
--- an operation is one on an image of so many bytes
+-- an operation is one on an image of so many lines
 abbrev pub OpOk : ℕ → Op → Type 0
-OpOk size (store p w) = (p % wordSize ≡ 0) × (p < size)
-OpOk size (clwb p) = (p % lineSize ≡ 0) × (p < size)
-OpOk size sfence = 0 < size
+OpOk lines (store p w) = (p % wordSize ≡ 0) × (p / lineSize < lines)
+OpOk lines (clwb p) = (p % lineSize ≡ 0) × (p / lineSize < lines)
+OpOk lines sfence = 0 < lines
 
 -- all of them are
 abbrev pub AllOk : ℕ → Ops → Type 0
-AllOk size O = All (OpOk size) O
+AllOk lines O = All (OpOk lines) O
 
-pub all-ok-append : (size : ℕ) (O E : Ops) → AllOk size O → AllOk size E → AllOk size (O ++ E)
-all-ok-append size = all-append (OpOk size)
+pub all-ok-append : (lines : ℕ) (O E : Ops) → AllOk lines O → AllOk lines E → AllOk lines (O ++ E)
+all-ok-append lines = all-append (OpOk lines)
 
 -- operation i of a trace is well formed
 abbrev WellFormedAt : ℕ → Trace → ℕ → Type 0
-WellFormedAt size t i = wellFormed size (getD t (3 * i) 0) (getD t (3 * i + 1) 0) (getD t (3 * i + 2) 0) ≡ true
+WellFormedAt lines t i = wellFormed lines (getD t (3 * i) 0) (getD t (3 * i + 1) 0) (getD t (3 * i + 2) 0) ≡ true
 
-well-formed-first : (size : ℕ) (o : Op) (t : Trace) → OpOk size o → WellFormedAt size (triple o t) 0
+well-formed-first : (lines : ℕ) (o : Op) (t : Trace) → OpOk lines o → WellFormedAt lines (triple o t) 0
 unfolding wellFormed
-well-formed-first size (store p w) t h = rw (lt-ltb p size (h .1), eq-eqb (p % wordSize) 0 (h .0))
-well-formed-first size (clwb p) t h = rw (lt-ltb p size (h .1), eq-eqb (p % lineSize) 0 (h .0))
-well-formed-first size sfence t h = rw (lt-ltb 0 size h)
+well-formed-first lines (store p w) t h = rw (lt-ltb (p / lineSize) lines (h .1), eq-eqb (p % wordSize) 0 (h .0))
+well-formed-first lines (clwb p) t h = rw (lt-ltb (p / lineSize) lines (h .1), eq-eqb (p % lineSize) 0 (h .0))
+well-formed-first lines sfence t h = rw (lt-ltb 0 lines h)
 
-well-formed-next : (size : ℕ) (o : Op) (t : Trace) (i : ℕ) → WellFormedAt size t i → WellFormedAt size (triple o t) (suc i)
-well-formed-next size o t i h =
+well-formed-next : (lines : ℕ) (o : Op) (t : Trace) (i : ℕ) → WellFormedAt lines t i → WellFormedAt lines (triple o t) (suc i)
+well-formed-next lines o t i h =
     let a : 3 * suc i ≡ suc (suc (suc (3 * i))) = omega arith in
     let b : 3 * suc i + 1 ≡ suc (suc (suc (3 * i + 1))) = omega arith in
     let c : 3 * suc i + 2 ≡ suc (suc (suc (3 * i + 2))) = omega arith in
@@ -132,15 +132,15 @@ well-formed-next size o t i h =
     go (clwb p) k = refl
     go sfence k = refl
 
-well-formed-at : (size : ℕ) (O : Ops) → AllOk size O → (i : ℕ) → i < length O → WellFormedAt size (encode O) i
+well-formed-at : (lines : ℕ) (O : Ops) → AllOk lines O → (i : ℕ) → i < length O → WellFormedAt lines (encode O) i
 unfolding encode
-well-formed-at size [] h i l = let z : ⊥ = omega arith in absurd z
-well-formed-at size (o ∷ O) h zero l = well-formed-first size o (encode O) (h .0)
-well-formed-at size (o ∷ O) h (suc i) l = well-formed-next size o (encode O) i (well-formed-at size O (h .1) i (omega arith))
+well-formed-at lines [] h i l = let z : ⊥ = omega arith in absurd z
+well-formed-at lines (o ∷ O) h zero l = well-formed-first lines o (encode O) (h .0)
+well-formed-at lines (o ∷ O) h (suc i) l = well-formed-next lines o (encode O) i (well-formed-at lines O (h .1) i (omega arith))
 
-pub encoded-well-formed : (size : ℕ) (O : Ops) → AllOk size O → (k : ℕ) → k ≤ length O → allWellFormed size (encode O) k ≡ true
+pub encoded-well-formed : (lines : ℕ) (O : Ops) → AllOk lines O → (k : ℕ) → k ≤ length O → allWellFormed lines (encode O) k ≡ true
 unfolding allWellFormed
-encoded-well-formed size O h k l = all-from k _ (λ i b. well-formed-at size O h i (omega arith))
+encoded-well-formed lines O h k l = all-from k _ (λ i b. well-formed-at lines O h i (omega arith))
 
 -- ---- replay of the reported part
 
@@ -160,7 +160,7 @@ replayed-ops : (O : Ops) (p : ℕ) → replayedOps (encode O) (min p (length O))
 unfolding replayedOps
 replayed-ops O p = ap decode (take-encode (min p (length O)) O) ∙ decode-encode (take (min p (length O)) O) ∙ take-min p O
 
-module _ (I : Image) (O : Ops) (t : Trace) (p : ℕ) (whole : length I % lineSize ≡ 0) (ok : AllOk (length I) O) where
+module _ (I : Image) (O : Ops) (t : Trace) (p : ℕ) (whole : length I % lineSize ≡ 0) (ok : AllOk (length I / lineSize) O) where
   encoded-served : replayStatus I (encode O) p ≡ 0
   unfolding replayStatus firstError
   encoded-served =
@@ -168,7 +168,7 @@ module _ (I : Image) (O : Ops) (t : Trace) (p : ℕ) (whole : length I % lineSiz
       rw (
         eq-eqb (length I % lineSize) 0 whole,
         eq-eqb (length (encode O) % 3) 0 e,
-        encoded-well-formed (length I) O ok (replayCount (encode O) p) (omega (arith, replay-count O p)),
+        encoded-well-formed (length I / lineSize) O ok (replayCount (encode O) p) (omega (arith, replay-count O p)),
       )
 
   pub replay-serves : replayOutcome I (reported O t) p .status ≡ 0

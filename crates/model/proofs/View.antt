@@ -213,10 +213,14 @@ pub record Fit (l : Layout) (I : Image) : Type 0 where
   pub bytes : Bytes I
   pub header : HeaderOk l I
 
--- opening recovers the image to P
-pub record Recoverable (l : Layout) (I : Image) (P : Contents) : Type 0 where
+-- recovery by a line of states recovers the image to P
+pub record RecoverableBy (l : Layout) (line : ℕ) (I : Image) (P : Contents) : Type 0 where
   pub fit : Fit l I
-  pub holds : Holds l (segState I (activeLine I)) (backupToMain I) (byteAt I) P
+  pub holds : Holds l (segState I line) (backupToMain I) (byteAt I) P
+
+-- and an opening does, which goes by the active line
+abbrev pub Recoverable : Layout → Image → Contents → Type 0
+Recoverable l I P = RecoverableBy l (activeLine I) I P
 
 -- an image with the same header fits too
 pub fit-cong : (l : Layout) (I H : Image) → length H ≡ length I → Bytes H → ((i : ℕ) → 64 ≤ i → i < 88 → byteAt H i ≡ byteAt I i) → Fit l I → Fit l H
