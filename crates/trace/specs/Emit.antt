@@ -1,8 +1,20 @@
--- Operations written on a trace at a place in its midst. Assumes nothing.
-use Prim.Native.Nat.{ℕ, _*_}
+-- Operations written on a trace at a place in its midst, and the one form of what is asked and promised by code that writes
+-- them. Assumes nothing.
+use Prim.Native.Nat.{ℕ, _+_, _*_, _≤_}
+use mathlib.Core.Path.{_≡_}
+use lib.ListN.{length}
 use lib.Seq.{sets}
 use Rattle.model.specs.Ops.{Ops, Trace, encode}
 
 -- the trace t with the operations O written from operation number n on
 unfoldable pub emit : Trace → ℕ → Ops → Trace
 emit t n O = sets t (3 * n) (encode O)
+
+-- asked: the trace t has room for the operations O from operation number n on
+abbrev pub Fits : Trace → ℕ → Ops → Type 0
+Fits t n O = 3 * (n + length O) ≤ length t
+
+-- promised: they stand on the trace, which is then t′, and r is the number of the operation that comes next
+pub record Emitted (t : Trace) (n : ℕ) (O : Ops) (t′ : Trace) (r : ℕ) : Type 0 where
+  pub stands : t′ ≡ emit t n O
+  pub next : r ≡ n + length O

@@ -5,7 +5,7 @@ ghost use Prim.Native.Nat.{_+_, _*_, _≤_};
 ghost use lib.ListN.{length};
 ghost use lib.Seq.{sets};
 ghost use Rattle.model.specs.Ops.{store, clwb, sfence};
-ghost use Rattle.trace.specs.Emit.{emit};
+ghost use Rattle.trace.specs.Emit.{Fits, Emitted};
 
 // The kinds of operations (document 01: store, flush, fence).
 pub const OP_STORE: u64 = 1;
@@ -14,37 +14,38 @@ pub const OP_CLWB: u64 = 2;
 
 pub const OP_SFENCE: u64 = 3;
 
-// Writes the three numbers of operation n.
-fn put_op(trace: &mut [u64], n: usize, kind: u64, place: u64, word: u64)
+// Writes the three numbers of operation n. The number of the next operation.
+fn put_op(trace: &mut [u64], n: usize, kind: u64, place: u64, word: u64) -> usize
     requires { ⌜ 3 * (n + 1) ≤ length (now trace) ⌝ }
-    ensures { λ _. ⌜ now (trace .exit) ≡ sets (now (trace .entry)) (3 * n) (kind ∷ place ∷ word ∷ []) ⌝ }
+    ensures { λ r. ⌜ (now (trace .exit) ≡ sets (now (trace .entry)) (3 * n) (kind ∷ place ∷ word ∷ [])) × (r ≡ n + 1) ⌝ }
 {
     let at = 3 * n;
     trace[at] = kind;
     trace[at + 1] = place;
     trace[at + 2] = word;
+    n + 1
 }
 
-// Writes, as operation n, the store of a word at a place.
-pub fn put_store(trace: &mut [u64], n: usize, place: u64, word: u64)
-    requires { ⌜ 3 * (n + 1) ≤ length (now trace) ⌝ }
-    ensures { λ _. ⌜ now (trace .exit) ≡ emit (now (trace .entry)) n (store place word ∷ []) ⌝ }
+// Writes, as operation n, the store of a word at a place. The number of the next operation.
+pub fn put_store(trace: &mut [u64], n: usize, place: u64, word: u64) -> usize
+    requires { ⌜ Fits (now trace) n (store place word ∷ []) ⌝ }
+    ensures { λ r. ⌜ Emitted (now (trace .entry)) n (store place word ∷ []) (now (trace .exit)) r ⌝ }
 {
-    put_op(trace, n, OP_STORE, place, word);
+    put_op(trace, n, OP_STORE, place, word)
 }
 
-// Writes, as operation n, the write-back of the line at a place.
-pub fn put_clwb(trace: &mut [u64], n: usize, place: u64)
-    requires { ⌜ 3 * (n + 1) ≤ length (now trace) ⌝ }
-    ensures { λ _. ⌜ now (trace .exit) ≡ emit (now (trace .entry)) n (clwb place ∷ []) ⌝ }
+// Writes, as operation n, the write-back of the line at a place. The number of the next operation.
+pub fn put_clwb(trace: &mut [u64], n: usize, place: u64) -> usize
+    requires { ⌜ Fits (now trace) n (clwb place ∷ []) ⌝ }
+    ensures { λ r. ⌜ Emitted (now (trace .entry)) n (clwb place ∷ []) (now (trace .exit)) r ⌝ }
 {
-    put_op(trace, n, OP_CLWB, place, 0);
+    put_op(trace, n, OP_CLWB, place, 0)
 }
 
-// Writes, as operation n, a fence.
-pub fn put_sfence(trace: &mut [u64], n: usize)
-    requires { ⌜ 3 * (n + 1) ≤ length (now trace) ⌝ }
-    ensures { λ _. ⌜ now (trace .exit) ≡ emit (now (trace .entry)) n (sfence ∷ []) ⌝ }
+// Writes, as operation n, a fence. The number of the next operation.
+pub fn put_sfence(trace: &mut [u64], n: usize) -> usize
+    requires { ⌜ Fits (now trace) n (sfence ∷ []) ⌝ }
+    ensures { λ r. ⌜ Emitted (now (trace .entry)) n (sfence ∷ []) (now (trace .exit)) r ⌝ }
 {
-    put_op(trace, n, OP_SFENCE, 0, 0);
+    put_op(trace, n, OP_SFENCE, 0, 0)
 }

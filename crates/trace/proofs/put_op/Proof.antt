@@ -1,3 +1,4 @@
+use mathlib.Core.Path.{refl}
 use native.Mathlib.Numerals.{add-one, add-two}
 use native.Mathlib.Omega.{arith}
 use lib.ListN.{length-set}
@@ -32,11 +33,14 @@ mul-trace-3 c = search needs
 slice-write-trace-3 : tie.Need-slice-write-trace-3
 slice-write-trace-3 c = simp length-set (omega arith)
 
+add-result : tie.Need-add-result
+add-result c = search needs
+
 same-length : tie.Need-same-length
 same-length c = search needs
 
 returns : tie.Need-returns
-returns c = simp (add-one, add-two)
+returns c = (simp (add-one, add-two), refl)
 
 pub put-op-spec : {M : Type 1} → statement M
 put-op-spec =
@@ -51,5 +55,6 @@ put-op-spec =
     add-trace-2
     mul-trace-3
     slice-write-trace-3
+    add-result
     same-length
     returns)
