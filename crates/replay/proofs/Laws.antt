@@ -1,7 +1,7 @@
 -- Laws of replay for its two passes: what a well-formed store may touch, one operation more, and what each status leaves.
-use Prim.Native.Nat.{ℕ, zero, suc, _+_, _*_, _%_, _≤_, _<_}
+use Prim.Native.Nat.{ℕ, zero, suc, _+_, _*_, _/_, _%_, _≤_, _<_}
 use mathlib.Core.Path.{_≡_, refl, sym, ap, _∙_}
-use mathlib.Core.Logic.{_≢_, ⊎-elim}
+use mathlib.Core.Logic.{_≢_}
 use mathlib.Core.Bool.{Bool, true, false, not, cond, _&&_, _||_, true≢false, false≢true}
 use mathlib.Core.List.{[], _∷_, _++_}
 use native.Mathlib.Omega.{arith}
@@ -16,61 +16,62 @@ use Rattle.model.specs.Ops.{Op, clwb, sfence, Ops, Trace, opOf, decode, apply, 
 use Rattle.model.specs.Replay.{wellFormed, allWellFormed, replayCount, replayErrors, replayedOps, replayStatus, replayOutcome}
 use Rattle.model.proofs.Range.{and-left, and-right, all-at}
 use Rattle.model.proofs.Persist.{replay-append}
-use Rattle.model.proofs.Refusals.{served-none, replay-numbers}
+use Rattle.model.proofs.Refusals.{served-none}
 
 -- operation k of a trace, and whether it is well formed
 abbrev pub opAt : Trace → ℕ → Op
 opAt t k = opOf (getD t (3 * k) 0) (getD t (3 * k + 1) 0) (getD t (3 * k + 2) 0)
 
 abbrev pub wellFormedAt : ℕ → Trace → ℕ → Bool
-wellFormedAt size t k = wellFormed size (getD t (3 * k) 0) (getD t (3 * k + 1) 0) (getD t (3 * k + 2) 0)
+wellFormedAt lines t k = wellFormed lines (getD t (3 * k) 0) (getD t (3 * k + 1) 0) (getD t (3 * k + 2) 0)
 
 -- ---- judging
 
-pub judged-none : (size : ℕ) (t : Trace) → true ≡ allWellFormed size t 0
+pub judged-none : (lines : ℕ) (t : Trace) → true ≡ allWellFormed lines t 0
 unfolding allWellFormed allB
-judged-none size t = refl
+judged-none lines t = refl
 
 -- a well-formed operation at the end decides nothing
-pub judged-less : (size : ℕ) (t : Trace) (n k : ℕ) → n ≡ suc k → wellFormedAt size t k ≡ true → allWellFormed size t n ≡ allWellFormed size t k
+pub judged-less : (lines : ℕ) (t : Trace) (n k : ℕ) → n ≡ suc k → wellFormedAt lines t k ≡ true → allWellFormed lines t n ≡ allWellFormed lines t k
 unfolding allWellFormed allB
-judged-less size t n k e h = rw (e, h) (go (allB k (wellFormedAt size t)))
+judged-less lines t n k e h = rw (e, h) (go (allB k (wellFormedAt lines t)))
   where
     go : (b : Bool) → (b && true) ≡ b
     go true = refl
     go false = refl
 
-pub judged-at : (size : ℕ) (t : Trace) (n : ℕ) → allWellFormed size t n ≡ true → (k : ℕ) → k < n
-    → wellFormedAt size t k ≡ true
+pub judged-at : (lines : ℕ) (t : Trace) (n : ℕ) → allWellFormed lines t n ≡ true → (k : ℕ) → k < n
+    → wellFormedAt lines t k ≡ true
 unfolding allWellFormed
-judged-at size t n h k l = all-at n _ h k l
+judged-at lines t n h k l = all-at n _ h k l
 
 -- one ill-formed operation is enough
-pub judged-stop : (size : ℕ) (t : Trace) (n k : ℕ) → k < n → wellFormedAt size t k ≡ false → false ≡ allWellFormed size t n
-judged-stop size t n k l h = go (allWellFormed size t n) refl
+pub judged-stop : (lines : ℕ) (t : Trace) (n k : ℕ) → k < n → wellFormedAt lines t k ≡ false → false ≡ allWellFormed lines t n
+judged-stop lines t n k l h = go (allWellFormed lines t n) refl
   where
-    go : (b : Bool) → allWellFormed size t n ≡ b → false ≡ allWellFormed size t n
-    go true e = absurd (true≢false (sym (judged-at size t n e k l) ∙ h))
+    go : (b : Bool) → allWellFormed lines t n ≡ b → false ≡ allWellFormed lines t n
+    go true e = absurd (true≢false (sym (judged-at lines t n e k l) ∙ h))
     go false e = sym e
 
 -- what is judged of a store, and of another operation
-pub judged-store : (size kind p w : ℕ) → kind ≡ 1 → (ltb p size && eqb (p % 8) 0) ≡ wellFormed size kind p w
+pub judged-store : (lines kind p w : ℕ) → kind ≡ 1 → (ltb (p / 64) lines && eqb (p % 8) 0) ≡ wellFormed lines kind p w
 unfolding wellFormed
-judged-store size kind p w e = rw e (ap (λ (b : Bool). ltb p size && b) (go (eqb (p % 8) 0)))
+judged-store lines kind p w e = rw e (ap (λ (b : Bool). ltb (p / 64) lines && b) (go (eqb (p % 8) 0)))
   where
     go : (b : Bool) → b ≡ (b || false || false)
     go true = refl
     go false = refl
 
-pub judged-other : (size kind p w : ℕ) → kind ≢ 1
-    → (ltb p size && (eqb kind 2 && eqb (p % 64) 0 && eqb w 0 || eqb kind 3 && eqb p 0 && eqb w 0)) ≡ wellFormed size kind p w
+pub judged-other : (lines kind p w : ℕ) → kind ≢ 1
+    → (ltb (p / 64) lines && (eqb kind 2 && eqb (p % 64) 0 && eqb w 0 || eqb kind 3 && eqb p 0 && eqb w 0)) ≡ wellFormed lines kind p w
 unfolding wellFormed
-judged-other size kind p w h = rw (ne-eqb kind 1 h)
+judged-other lines kind p w h = rw (ne-eqb kind 1 h)
 
 -- a well-formed store lies in the image
-pub store-inside : (size kind p w : ℕ) → kind ≡ 1 → size % 64 ≡ 0 → wellFormed size kind p w ≡ true → p + 8 ≤ size
+pub store-inside : (size kind p w : ℕ) → kind ≡ 1 → size % 64 ≡ 0 → wellFormed (size / 64) kind p w ≡ true → p + 8 ≤ size
 unfolding wellFormed
-store-inside size kind p w e h good = omega (arith, ltb-true p size (and-left (ltb p size) _ good), whole (eqb (p % 8) 0) refl (and-right (ltb p size) _ (rw e at good)))
+store-inside size kind p w e h good =
+    omega (arith, ltb-true (p / 64) (size / 64) (and-left (ltb (p / 64) (size / 64)) _ good), whole (eqb (p % 8) 0) refl (and-right (ltb (p / 64) (size / 64)) _ (rw e at good)))
   where
     whole : (b : Bool) → eqb (p % 8) 0 ≡ b → (b || false || false) ≡ true → p % 8 ≡ 0
     whole true q r = eqb-true (p % 8) 0 q
@@ -131,14 +132,14 @@ thirds-refused I t n h k = rw (h, ne-eqb (length t % 3) 0 k)
 
 -- ill is what the first pass finds
 pub judged-status : (I : Image) (t : Trace) (n : ℕ) (ill : Bool) {count : ℕ} {ok : Bool} → length I % 64 ≡ 0 → length t % 3 ≡ 0
-    → count ≡ replayCount t n → ok ≡ allWellFormed (length I) t count → not ok ≡ ill → cond ill 12 0 ≡ replayStatus I t n
+    → count ≡ replayCount t n → ok ≡ allWellFormed (length I / 64) t count → not ok ≡ ill → cond ill 12 0 ≡ replayStatus I t n
 unfolding replayStatus firstError
 judged-status I t n ill h k e p q = rw (h, k, ← e, ← p, q)
 
 -- ---- the whole call
 
 -- what the second pass goes by
-pub judged : (I : Image) (t : Trace) (n : ℕ) → replayStatus I t n ≡ 0 → (length I % 64 ≡ 0) × (allWellFormed (length I) t (replayCount t n) ≡ true)
+pub judged : (I : Image) (t : Trace) (n : ℕ) → replayStatus I t n ≡ 0 → (length I % 64 ≡ 0) × (allWellFormed (length I / 64) t (replayCount t n) ≡ true)
 unfolding replayStatus
 judged I t n h =
     let x = served-none (replayErrors I t n) (omega arith) h in
@@ -151,9 +152,6 @@ judged I t n h =
 pub count-inside : (t : Trace) (n : ℕ) → 3 * replayCount t n ≤ length t
 unfolding replayCount
 count-inside t n = omega arith
-
-pub status-most : (I : Image) (t : Trace) (n : ℕ) → replayStatus I t n ≤ 12
-status-most I t n = ⊎-elim (λ e. omega arith) (λ x. ⊎-elim (λ e. omega arith) (λ y. ⊎-elim (λ e. omega arith) absurd y) x) (replay-numbers I t n)
 
 -- what the call leaves, refused or served
 pub refused : (I : Image) (t : Trace) (n : ℕ) → replayStatus I t n ≢ 0 → (0 ≡ replayOutcome I t n .played) × (I ≡ replayOutcome I t n .image)

@@ -3,7 +3,7 @@ use model::Layout;
 use model::Status;
 ghost use mathlib.Core.Path.{_≡_};
 ghost use mathlib.Core.Bool.{true};
-ghost use Prim.Native.Nat.{_*_, _%_, _≤_};
+ghost use Prim.Native.Nat.{_*_, _/_, _%_, _≤_};
 ghost use lib.ListN.{length};
 ghost use Rattle.model.specs.Status.{codeOf};
 ghost use Rattle.model.specs.Ops.{opOf, apply, replay};
@@ -15,29 +15,30 @@ pub struct Replayed {
     pub played: u64,
 }
 
-// Whether three numbers are an operation on an image of so many bytes.
-pub fn op_well_formed(size: u64, kind: u64, place: u64, word: u64) -> bool
-    ensures { λ r. ⌜ r ≡ wellFormed size kind place word ⌝ }
+// Whether three numbers are an operation on an image of so many lines.
+pub fn op_well_formed(lines: u64, kind: u64, place: u64, word: u64) -> bool
+    ensures { λ r. ⌜ r ≡ wellFormed lines kind place word ⌝ }
 {
+    let inside = place / Layout::LINE_SIZE < lines;
     if kind == trace::OP_STORE {
-        return (place < size) & (place % Layout::WORD_SIZE == 0);
+        return inside & (place % Layout::WORD_SIZE == 0);
     }
     let clwb = (kind == trace::OP_CLWB) & (place % Layout::LINE_SIZE == 0) & (word == 0);
     let sfence = (kind == trace::OP_SFENCE) & (place == 0) & (word == 0);
-    (place < size) & (clwb | sfence)
+    inside & (clwb | sfence)
 }
 
-// Whether the first `count` operations of a trace are well formed on an image of so many bytes. They are judged downward, so that
-// the first of them are still in the cache when they are played.
-pub fn all_well_formed(size: u64, trace: &[u64], count: usize) -> bool
+// Whether the first `count` operations of a trace are well formed on an image of so many lines. They are judged downward, so
+// that the first of them are still in the cache when they are played.
+pub fn all_well_formed(lines: u64, trace: &[u64], count: usize) -> bool
     requires { ⌜ 3 * count ≤ length (now trace) ⌝ }
-    ensures { λ r. ⌜ r ≡ allWellFormed size (now (trace .entry)) count ⌝ }
+    ensures { λ r. ⌜ r ≡ allWellFormed lines (now (trace .entry)) count ⌝ }
 {
     let mut k = count;
     while 0 < k {
         k -= 1;
         let at = 3 * k;
-        if !op_well_formed(size, trace[at], trace[at + 1], trace[at + 2]) {
+        if !op_well_formed(lines, trace[at], trace[at + 1], trace[at + 2]) {
             return false;
         }
     }
@@ -52,26 +53,27 @@ pub fn replay_count(trace: &[u64], n: u64) -> usize
     if n < all as u64 { n as usize } else { all }
 }
 
-// The status of a replay, by its number.
-pub fn replay_status(image: &[u8], trace: &[u64], n: u64) -> u64
-    ensures { λ r. ⌜ r ≡ replayStatus (now (image .entry)) (now (trace .entry)) n ⌝ }
+// The status of a replay.
+pub fn replay_status(image: &[u8], trace: &[u64], n: u64) -> Status
+    ensures { λ r. ⌜ codeOf r ≡ replayStatus (now (image .entry)) (now (trace .entry)) n ⌝ }
 {
     if image.len() as u64 % Layout::LINE_SIZE != 0 {
-        return 2;
+        return Status::BadLength;
     }
     if trace.len() % 3 != 0 {
-        return 12;
+        return Status::TraceBad;
     }
-    if !all_well_formed(image.len() as u64, trace, replay_count(trace, n)) {
-        return 12;
+    let lines = image.len() as u64 / Layout::LINE_SIZE;
+    if !all_well_formed(lines, trace, replay_count(trace, n)) {
+        return Status::TraceBad;
     }
-    0
+    Status::Served
 }
 
 // Plays one operation: a store changes the image, the others do not.
 pub fn play_op(image: &mut [u8], kind: u64, place: u64, word: u64)
     requires { ⌜ length (now image) % 64 ≡ 0 ⌝ }
-    requires { ⌜ wellFormed (length (now image)) kind place word ≡ true ⌝ }
+    requires { ⌜ wellFormed (length (now image) / 64) kind place word ≡ true ⌝ }
     ensures { λ _. ⌜ now (image .exit) ≡ apply (opOf kind place word) (now (image .entry)) ⌝ }
 {
     if kind == trace::OP_STORE {
@@ -83,7 +85,7 @@ pub fn play_op(image: &mut [u8], kind: u64, place: u64, word: u64)
 pub fn play(image: &mut [u8], trace: &[u64], count: usize)
     requires { ⌜ 3 * count ≤ length (now trace) ⌝ }
     requires { ⌜ length (now image) % 64 ≡ 0 ⌝ }
-    requires { ⌜ allWellFormed (length (now image)) (now trace) count ≡ true ⌝ }
+    requires { ⌜ allWellFormed (length (now image) / 64) (now trace) count ≡ true ⌝ }
     ensures { λ _. ⌜ now (image .exit) ≡ replay (replayedOps (now (trace .entry)) count) (now (image .entry)) ⌝ }
 {
     let mut k = 0;
@@ -101,9 +103,9 @@ pub fn crpm_replay(image: &mut [u8], trace: &[u64], n: u64) -> Replayed
     ensures { λ _. ⌜ now (image .exit) ≡ replayOutcome (now (image .entry)) (now (trace .entry)) n .image ⌝ }
 {
     let status = replay_status(image, trace, n);
-    if status != 0 {
+    if !status.is_served() {
         return Replayed {
-            status: Status::of(status),
+            status: status,
             played: 0,
         };
     }

@@ -1,15 +1,16 @@
 use mathlib.Core.Path.{sym, _∙_}
 use Rattle.model.specs.Replay.{replayOutcome}
 use borrow.Author.Needs.{needs}
-use Rattle.replay.proofs.Laws.{judged, count-inside, status-most, refused, all-played}
+use borrow.Author.Tests.{eqb-true, eqb-false, not-true, not-false}
+use Rattle.replay.proofs.Laws.{judged, count-inside, refused, all-played}
 use Rattle.replay.proofs.crpm_replay.Statement.{statement}
 use Rattle.replay.proofs.crpm_replay.Tie as tie
 
 replay-status-requires : tie.Need-replay-status-requires
 replay-status-requires c κs = search needs
 
-of-requires : tie.Need-of-requires
-of-requires c κs = rw (c .before .replay-status .ensures) (status-most _ _ _)
+is-served-requires : tie.Need-is-served-requires
+is-served-requires c κs = search needs
 
 same-length : tie.Need-same-length
 same-length c = search needs
@@ -18,8 +19,7 @@ returns : tie.Need-returns
 unfolding replayOutcome
 returns c =
     let s = c .before .before .replay-status .ensures in
-    let x = refused _ _ _ (λ e. c .before .if1 .taken (s ∙ e)) in
-    (c .of .ensures ∙ s, x)
+    (s, refused _ _ _ (λ e. eqb-false _ _ (sym (c .before .is-served .ensures) ∙ not-true _ (c .if1 .taken)) (s ∙ e)))
 
 replay-count-requires : tie.Need-replay-count-requires
 replay-count-requires c κs = search needs
@@ -27,7 +27,8 @@ replay-count-requires c κs = search needs
 play-requires : tie.Need-play-requires
 play-requires c κs =
     let b = c .before .before in
-    let x = judged _ _ _ (sym (b .before .replay-status .ensures) ∙ b .if1 .left) in
+    let z = eqb-true _ _ (sym (b .before .is-served .ensures) ∙ not-false _ (b .if1 .left)) in
+    let x = judged _ _ _ (sym (b .before .before .replay-status .ensures) ∙ z) in
     rw (c .before .replay-count .ensures) (count-inside _ _, x)
 
 same-length-2 : tie.Need-same-length-2
@@ -38,16 +39,17 @@ unfolding replayOutcome
 returns-2 c =
     let p = c .before .before in
     let b = p .before .before .before in
-    let s = b .before .replay-status .ensures in
-    let x = all-played _ _ _ (sym s ∙ b .if1 .left) (p .before .before .replay-count .ensures) (p .play .ensures) in
-    (sym (b .if1 .left) ∙ s, x)
+    let s = b .before .before .replay-status .ensures in
+    let z = eqb-true _ _ (sym (b .before .is-served .ensures) ∙ not-false _ (b .if1 .left)) in
+    let x = all-played _ _ _ (sym s ∙ z) (p .before .before .replay-count .ensures) (p .play .ensures) in
+    (sym z ∙ s, x)
 
 pub crpm-replay-spec : {M : Type 1} → statement M
 crpm-replay-spec =
     tie.close
     (tie.spec
     replay-status-requires
-    of-requires
+    is-served-requires
     same-length
     returns
     replay-count-requires
