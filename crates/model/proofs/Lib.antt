@@ -17,3 +17,4 @@ pub mod Settled
 pub mod Runs
 pub mod View
 pub mod Invariant
+pub mod Recovery

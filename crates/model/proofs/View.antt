@@ -244,21 +244,32 @@ recovers-at l H P e q f h = record { fit = f; holds = subst (λ (k : ℕ). Holds
 pub epoch-cong : (I H : Image) → ((i : ℕ) → i < 8 → byteAt H i ≡ byteAt I i) → committedEpoch H ≡ committedEpoch I
 epoch-cong I H h = word-cong _ _ 0 (λ i x y. h i (omega arith))
 
--- what H must have in common with I to be recoverable to the same contents
-pub record Alike (l : Layout) (I H : Image) : Type 0 where
+-- what H must have in common with I to be recoverable to the same contents, by a line of states
+pub record AlikeBy (l : Layout) (line : ℕ) (I H : Image) : Type 0 where
   pub long : length H ≡ length I
   pub bytes : Bytes H
   pub epochs : (i : ℕ) → i < 8 → byteAt H i ≡ byteAt I i
   pub header : (i : ℕ) → 64 ≤ i → i < 88 → byteAt H i ≡ byteAt I i
-  pub states : (i : ℕ) → i < 64 → byteAt H (activeLine I + i) ≡ activeState I i
+  pub states : (i : ℕ) → i < 64 → segState H line i ≡ segState I line i
   pub pairs : (j : ℕ) → j < 64 → backupToMain H j ≡ backupToMain I j
-  pub owns : (i x : ℕ) → i < l .mains → x < segmentSize l → activeState I i ≡ 1 → byteAt H (mainAt l i + x) ≡ byteAt I (mainAt l i + x)
-  pub backups : (i j x : ℕ) → i < l .mains → j < l .backups → x < segmentSize l → activeState I i ≡ 2 → backupToMain I j ≡ i
+  pub owns : (i x : ℕ) → i < l .mains → x < segmentSize l → segState I line i ≡ 1 → byteAt H (mainAt l i + x) ≡ byteAt I (mainAt l i + x)
+  pub backups : (i j x : ℕ) → i < l .mains → j < l .backups → x < segmentSize l → segState I line i ≡ 2 → backupToMain I j ≡ i
       → byteAt H (backupAt l j + x) ≡ byteAt I (backupAt l j + x)
 
+pub recoverable-by-alike : (l : Layout) (line : ℕ) (I H : Image) (P : Contents) → AlikeBy l line I H → RecoverableBy l line I P → RecoverableBy l line H P
+recoverable-by-alike l line I H P a r = record {
+  fit = fit-cong l I H (a .long) (a .bytes) (a .header) (r .fit);
+  holds = holds-cong l (r .fit .sizes) (segState I line) (backupToMain I) (byteAt I) _ _ _ P (r .holds) (a .states) (a .pairs) (a .owns) (a .backups);
+}
+
+-- the same for an opening: by the active line, which is that of both
+abbrev pub Alike : Layout → Image → Image → Type 0
+Alike l I H = AlikeBy l (activeLine I) I H
+
 pub recoverable-alike : (l : Layout) (I H : Image) (P : Contents) → Alike l I H → Recoverable l I P → Recoverable l H P
-recoverable-alike l I H P a r = recovers-at l H P (committedEpoch I) (epoch-cong I H (a .epochs)) (fit-cong l I H (a .long) (a .bytes) (a .header) (r .fit))
-    (holds-cong l (r .fit .sizes) (activeState I) (backupToMain I) (byteAt I) _ _ _ P (r .holds) (a .states) (a .pairs) (a .owns) (a .backups))
+recoverable-alike l I H P a r =
+    let b = recoverable-by-alike l (activeLine I) I H P a r in
+    recovers-at l H P (committedEpoch I) (epoch-cong I H (a .epochs)) (b .fit) (b .holds)
 
 pub alike-state : (l : Layout) (I H : Image) → Alike l I H → (i : ℕ) → i < 64 → activeState H i ≡ activeState I i
 alike-state l I H a i h = ap (λ (e : ℕ). byteAt H (stateLine e + i)) (epoch-cong I H (a .epochs)) ∙ a .states i h
