@@ -18,3 +18,4 @@ pub mod Runs
 pub mod View
 pub mod Invariant
 pub mod Recovery
+pub mod SpanArgument
