@@ -217,8 +217,8 @@ pub record SpanOk (l : Layout) (w : WriteArgs) : Type 0 where
   pub small : Bytes (w .bytes)
 
 -- which one does that refusals 6, 7 and 8 pass
-pub span-ok : (l : Layout) (w : WriteArgs) → w .main < l .mains → w .block < l .blocks → spanBad l w ≡ false → Bytes (w .bytes) → SpanOk l w
-span-ok l w m n h small =
+pub span-within : (l : Layout) (w : WriteArgs) → w .main < l .mains → w .block < l .blocks → spanBad l w ≡ false → Bytes (w .bytes) → SpanOk l w
+span-within l w m n h small =
     let g = span-good l w h in
     record { main = m; block = n; some = g .0; fits = omega (arith, g .0, g .1); small = small }
 
