@@ -19,3 +19,5 @@ pub mod View
 pub mod Invariant
 pub mod Recovery
 pub mod SpanArgument
+pub mod CopyArgument
+pub mod WriteArgument
