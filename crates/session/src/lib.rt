@@ -1,39 +1,59 @@
-// The volatile session by value (document 01: the card): tests and changes of its dirty bits, its validity against the
-// states of main segments, and how many blocks are dirty.
+// The volatile session (document 01: the card), lent by its parts: tests and changes of its dirty bits, its validity against
+// the states of main segments, and how many blocks are dirty.
 use model::Layout;
 use model::Session;
 ghost use mathlib.Core.Path.{_≡_};
 ghost use mathlib.Core.Bool.{not, _&&_, _||_};
-ghost use Prim.Native.Nat.{ℕ, _^_, _≤_, _<_};
+ghost use Prim.Native.Nat.{ℕ, _+_, _*_, _/_, _^_, _≤_, _<_};
 ghost use lib.Count.{ones};
 ghost use lib.Dec.{eqb, ltb};
 ghost use lib.ListN.{length, getD};
 ghost use Rattle.model.specs.Range.{allB};
-ghost use Rattle.model.specs.Session.{bit, dirtyWord, withDirty, withCheckpoint, validSession};
+ghost use Rattle.model.specs.Session.{isDirty, setBits, withDirty, withCheckpoint, validSession};
 ghost use Rattle.model.specs.Counts.{dirtyTotal};
+ghost use Rattle.session.specs.Parts.{sessionOf};
 
 // The words of dirty blocks, and the state of a main segment that holds its checkpoint itself, as the code compares them.
 const MOST: usize = Layout::MOST as usize;
 
 const SS_MAIN: u8 = Layout::SS_MAIN as u8;
 
+// A word with all bits set.
+const ALL: u64 = 18446744073709551615;
+
 // Whether bit b of a word of dirty bits is set.
 pub fn is_dirty(word: u64, b: u64) -> bool
     requires { ⌜ b < 64 ⌝ }
-    ensures { λ r. ⌜ r ≡ eqb (bit word b) 1 ⌝ }
+    ensures { λ r. ⌜ r ≡ isDirty word b ⌝ }
 {
     (word >> b) & 1 == 1
 }
 
-// The session after a write to a block of a main segment whose word of dirty blocks was `word`.
-pub fn with_dirty(s: Session, main: u64, block: u64, word: u64) -> Session
-    requires { ⌜ (main < 64) × (block < 64) ⌝ }
-    ensures { λ r. ⌜ r ≡ withDirty s main block word ⌝ }
+// A word of dirty bits with the bits below `blocks` cleared; the others are kept.
+pub fn clear_blocks(word: u64, blocks: u64) -> u64
+    requires { ⌜ (1 ≤ blocks) × (blocks ≤ 64) ⌝ }
+    ensures { λ r. ⌜ r ≡ word / 2 ^ blocks * 2 ^ blocks ⌝ }
+{
+    word & !(ALL >> (Layout::MOST - blocks))
+}
+
+// A word of dirty bits with the `count` bits from bit `block` on set.
+pub fn set_blocks(word: u64, block: u64, count: u64) -> u64
+    requires { ⌜ (1 ≤ count) × (block + count ≤ 64) ⌝ }
+    ensures { λ r. ⌜ r ≡ setBits word block count ⌝ }
+{
+    word | (ALL >> (Layout::MOST - count)) << block
+}
+
+// The session after a write to `count` blocks, from a block on, of a main segment whose word of dirty blocks was `word`.
+pub fn with_dirty(s: Session, main: u64, block: u64, count: u64, word: u64) -> Session
+    requires { ⌜ (main < 64) × (1 ≤ count) × (block + count ≤ 64) ⌝ }
+    ensures { λ r. ⌜ r ≡ withDirty s main block count word ⌝ }
 {
     let i = main as usize;
     let mut next = s;
     next.dirty_segments = next.dirty_segments | (1 << main);
-    next.dirty_blocks[i] = word | (1 << block);
+    next.dirty_blocks[i] = set_blocks(word, block, count);
     next
 }
 
@@ -46,15 +66,6 @@ pub fn with_checkpoint(s: Session) -> Session
     next
 }
 
-// The word of dirty blocks of a main segment with the bits of all its blocks cleared: no bit is left.
-pub fn clear_blocks(word: u64, blocks: u64) -> u64
-    requires { ⌜ (1 ≤ blocks) × (blocks ≤ 64) × (word < 2 ^ blocks) ⌝ }
-    ensures { λ r. ⌜ r ≡ 0 ⌝ }
-{
-    let all: u64 = 18446744073709551615;
-    word & !(all >> (Layout::MOST - blocks))
-}
-
 // Whether no bit of a word is set from bit n on.
 pub fn within(word: u64, n: u64) -> bool
     requires { ⌜ (1 ≤ n) × (n ≤ 64) ⌝ }
@@ -64,7 +75,7 @@ pub fn within(word: u64, n: u64) -> bool
 }
 
 // Whether each of the first `mains` words has no bit set from bit `blocks` on.
-pub fn blocks_within(words: &[u64; 64], mains: usize, blocks: u64) -> bool
+pub fn blocks_within(words: &[u64; MOST], mains: usize, blocks: u64) -> bool
     requires { ⌜ (mains ≤ 64) × (1 ≤ blocks) × (blocks ≤ 64) ⌝ }
     ensures { λ r. ⌜ r ≡ allB mains (λ i. ltb (getD (now (words .entry)) i 0) (2 ^ blocks)) ⌝ }
 {
@@ -78,7 +89,7 @@ pub fn blocks_within(words: &[u64; 64], mains: usize, blocks: u64) -> bool
 }
 
 // Whether the words from `mains` on are 0.
-pub fn rest_clear(words: &[u64; 64], mains: usize) -> bool
+pub fn rest_clear(words: &[u64; MOST], mains: usize) -> bool
     requires { ⌜ mains ≤ 64 ⌝ }
     ensures { λ r. ⌜ r ≡ allB 64 (λ i. ltb i mains || eqb (getD (now (words .entry)) i 0) 0) ⌝ }
 {
@@ -94,7 +105,7 @@ pub fn rest_clear(words: &[u64; 64], mains: usize) -> bool
 // Whether main segment i may stand in this state: it is not both dirty and in state 1.
 pub fn may_stand(segments: u64, i: u64, state: u8) -> bool
     requires { ⌜ i < 64 ⌝ }
-    ensures { λ r. ⌜ r ≡ not (eqb (bit segments i) 1 && eqb state 1) ⌝ }
+    ensures { λ r. ⌜ r ≡ not (isDirty segments i && eqb state 1) ⌝ }
 {
     !(is_dirty(segments, i) & (state == SS_MAIN))
 }
@@ -102,7 +113,7 @@ pub fn may_stand(segments: u64, i: u64, state: u8) -> bool
 // Whether no dirty segment is in state 1.
 pub fn none_in_main(segments: u64, states: &[u8], mains: u64) -> bool
     requires { ⌜ (mains ≤ 64) × (64 ≤ length (now states)) ⌝ }
-    ensures { λ r. ⌜ r ≡ allB mains (λ i. not (eqb (bit segments i) 1 && eqb (getD (now (states .entry)) i 0) 1)) ⌝ }
+    ensures { λ r. ⌜ r ≡ allB mains (λ i. not (isDirty segments i && eqb (getD (now (states .entry)) i 0) 1)) ⌝ }
 {
     let mut ok = true;
     let mut i = 0;
@@ -113,18 +124,15 @@ pub fn none_in_main(segments: u64, states: &[u8], mains: u64) -> bool
     ok
 }
 
-// Whether a session is valid, by the states of main segments.
-pub fn session_valid(s: Session, states: &[u8]) -> bool
-    requires { ⌜ (1 ≤ s .layout .mains) × (s .layout .mains ≤ 64) × (1 ≤ s .layout .blocks) × (s .layout .blocks ≤ 64) ⌝ }
+// Whether the session of these parts is valid, by the states of main segments.
+pub fn session_valid(layout: Layout, segments: u64, words: &[u64; MOST], states: &[u8]) -> bool
+    requires { ⌜ (1 ≤ layout .mains) × (layout .mains ≤ 64) × (1 ≤ layout .blocks) × (layout .blocks ≤ 64) ⌝ }
     requires { ⌜ 64 ≤ length (now states) ⌝ }
-    ensures { λ r. ⌜ r ≡ validSession s (λ i. getD (now (states .entry)) i 0) ⌝ }
+    ensures { λ r. ⌜ r ≡ validSession (sessionOf layout segments (now (words .entry))) (λ i. getD (now (states .entry)) i 0) ⌝ }
 {
-    let mains = s.layout.mains;
-    let blocks = s.layout.blocks;
-    let segments = s.dirty_segments;
-    let words = s.dirty_blocks;
+    let mains = layout.mains;
     let n = mains as usize;
-    let in_blocks = blocks_within(&words, n, blocks) & rest_clear(&words, n);
+    let in_blocks = blocks_within(words, n, layout.blocks) & rest_clear(words, n);
     within(segments, mains) & in_blocks & none_in_main(segments, states, mains)
 }
 
@@ -135,14 +143,13 @@ pub fn dirty_count(word: u64) -> u64
     u64::count_ones(word) as u64
 }
 
-// How many blocks of all main segments are dirty.
-pub fn dirty_total(s: Session) -> u64
-    requires { ⌜ s .layout .mains ≤ 64 ⌝ }
-    requires { ⌜ ((i : ℕ) → i < s .layout .mains → dirtyWord s i < 2 ^ s .layout .blocks) ⌝ }
-    ensures { λ r. ⌜ (r ≡ dirtyTotal s) × (r ≤ 4096) ⌝ }
+// How many blocks of all main segments are dirty, by their words.
+pub fn dirty_total(layout: Layout, words: &[u64; MOST]) -> u64
+    requires { ⌜ layout .mains ≤ 64 ⌝ }
+    requires { ⌜ ((i : ℕ) → i < layout .mains → getD (now words) i 0 < 2 ^ layout .blocks) ⌝ }
+    ensures { λ r. ⌜ (r ≡ dirtyTotal layout (now (words .entry))) × (r ≤ 4096) ⌝ }
 {
-    let mains = s.layout.mains as usize;
-    let words = s.dirty_blocks;
+    let mains = layout.mains as usize;
     let mut sum = 0;
     let mut i = 0;
     while i < mains {

@@ -11,7 +11,7 @@ shr-result : tie.Need-shr-result
 shr-result c = search needs
 
 returns : tie.Need-returns
-returns c = let a = c .args in low-cleared (a .word) (a .blocks) (omega arith) (omega arith)
+returns c = let a = c .args in low-cleared (a .word) (a .blocks) (omega arith) (c .fits .word .fits)
 
 pub clear-blocks-spec : {M : Type 1} → statement M
 clear-blocks-spec = tie.close (tie.spec sub-result shr-result returns)

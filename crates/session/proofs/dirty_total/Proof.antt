@@ -12,10 +12,10 @@ use Rattle.session.proofs.dirty_total.Statement.{statement}
 use Rattle.session.proofs.dirty_total.Tie as tie
 
 abbrev Inv-loop : tie.InvT-loop
-Inv-loop mains words sum₀ i₀ sum i = (i ≤ mains) × (sum ≡ sumTo i (λ k. ones (getD words k 0))) × (sum ≤ 64 * i)
+Inv-loop words mains sum₀ i₀ sum i = (i ≤ mains) × (sum ≡ sumTo i (λ k. ones (getD words k 0))) × (sum ≤ 64 * i)
 
 abbrev μ-loop : tie.MeasureT-loop
-μ-loop mains words sum₀ i₀ sum i = mains - i
+μ-loop words mains sum₀ i₀ sum i = mains - i
 
 loop-holds : tie.Need-loop-holds Inv-loop μ-loop
 loop-holds c = (search needs, sum-none _, search needs)
@@ -23,8 +23,8 @@ loop-holds c = (search needs, sum-none _, search needs)
 mul-dirty-count : tie.Need-mul-dirty-count Inv-loop μ-loop
 mul-dirty-count c = search needs
 
-array-read-dirty-count : tie.Need-array-read-dirty-count Inv-loop μ-loop
-array-read-dirty-count c = search needs
+element-copy-out-dirty-count : tie.Need-element-copy-out-dirty-count Inv-loop μ-loop
+element-copy-out-dirty-count c = search needs
 
 dirty-count-requires : tie.Need-dirty-count-requires Inv-loop μ-loop
 dirty-count-requires c κs = search needs
@@ -40,15 +40,15 @@ loop-less c = search needs
 
 loop-again : tie.Need-loop-again Inv-loop μ-loop
 loop-again c =
-    let b = c .before .before in
-    (omega arith, omega (arith, c .dirty-count .ensures, sum-more (b .loop .i) (λ k. ones (getD (b .before .before .args .s .«dirty_blocks») k 0))), omega arith)
+    let b = c .before .before .before in
+    (omega arith, omega (arith, c .dirty-count .ensures, sum-more (b .loop .i) (λ k. ones (getD (b .before .args .words .now) k 0))), omega arith)
 
 returns : tie.Need-returns Inv-loop μ-loop
 unfolding dirtyTotal
 returns c =
-    let s = c .before .before .before .args .s in
-    let e : c .before .loop .i ≡ s .layout .mains = omega arith in
-    (rw e at (c .before .loop .inv .1) ∙ sym (sum-ext _ _ _ (λ i l. dirty-ones s i (c .before .before .before .pre .1 i l))), omega arith)
+    let b = c .before .before in
+    let e : c .before .loop .i ≡ b .args .layout .mains = omega arith in
+    (rw e at (c .before .loop .inv .1) ∙ sym (sum-ext _ _ _ (λ i l. dirty-ones _ _ (b .pre .1 i l))), omega arith)
 
 pub dirty-total-spec : {M : Type 1} → statement M
 dirty-total-spec =
@@ -58,7 +58,7 @@ dirty-total-spec =
     μ-loop
     loop-holds
     mul-dirty-count
-    array-read-dirty-count
+    element-copy-out-dirty-count
     dirty-count-requires
     add-sum
     add-i

@@ -5,14 +5,14 @@ use native.Mathlib.Omega.{arith}
 use lib.Dec.{eqb}
 use lib.ListN.{getD}
 use borrow.Author.Needs.{needs}
-use Rattle.model.specs.Session.{bit}
+use Rattle.model.specs.Session.{isDirty}
 use Rattle.model.specs.Range.{allB}
 use Rattle.model.proofs.Gather.{all-none, all-more}
 use Rattle.session.proofs.none_in_main.Statement.{statement}
 use Rattle.session.proofs.none_in_main.Tie as tie
 
 abbrev Inv-loop : tie.InvT-loop
-Inv-loop segments states mains ok₀ i₀ ok i = (i ≤ mains) × (ok ≡ allB i (λ k. not (eqb (bit segments k) 1 && eqb (getD states k 0) 1)))
+Inv-loop segments states mains ok₀ i₀ ok i = (i ≤ mains) × (ok ≡ allB i (λ k. not (isDirty segments k && eqb (getD states k 0) 1)))
 
 abbrev μ-loop : tie.MeasureT-loop
 μ-loop segments states mains ok₀ i₀ ok i = mains - i

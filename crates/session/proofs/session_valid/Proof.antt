@@ -19,7 +19,7 @@ none-in-main-requires c κs = search needs
 returns : tie.Need-returns
 returns c =
     let b = c .before in
-    valid-session-tests _ _ _ _ _ _ (omega arith) (b .within .ensures) (b .before .before .before .blocks-within .ensures) (b .before .rest-clear .ensures) (c .none-in-main .ensures)
+    valid-session-tests _ _ _ _ _ _ (omega arith) (b .within .ensures) (b .before .before .blocks-within .ensures) (b .before .rest-clear .ensures) (c .none-in-main .ensures)
 
 pub session-valid-spec : {M : Type 1} → statement M
 session-valid-spec =

@@ -8,8 +8,8 @@ use Rattle.session.proofs.with_dirty.Tie as tie
 shl-next : tie.Need-shl-next
 shl-next c = search needs
 
-shl-next-2 : tie.Need-shl-next-2
-shl-next-2 c = search needs
+set-blocks-requires : tie.Need-set-blocks-requires
+set-blocks-requires c κs = search needs
 
 mul-next : tie.Need-mul-next
 mul-next c = search needs
@@ -19,7 +19,8 @@ element-write-next c = search needs
 
 returns : tie.Need-returns
 unfolding withDirty setBit
-returns c = rw (shifted-one (c .args .main) (omega arith), shifted-one (c .args .block) (omega arith))
+returns c = rw (shifted-one (c .before .args .main) (omega arith), c .set-blocks .ensures)
 
 pub with-dirty-spec : {M : Type 1} → statement M
-with-dirty-spec = tie.close (tie.spec shl-next shl-next-2 mul-next element-write-next returns)
+with-dirty-spec =
+    tie.close (tie.spec shl-next set-blocks-requires mul-next element-write-next returns)
