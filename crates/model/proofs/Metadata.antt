@@ -15,7 +15,7 @@ use Rattle.model.specs.Layout.{most, unpaired, ssInitial, ssBackup, InRa
 use Rattle.model.specs.Status.{Errors, firstError}
 use Rattle.model.specs.Container.{activeLine, segState, backupToMain, Valid, isPaired, validMetadata, pairedBackup, Free, isFree, anyFree, HeaderOk, headerOk, containerErrors}
 use Rattle.model.proofs.Range.{or-left, or-right, or-else, all-at, all-from, any-at, any-none, first-some}
-use Rattle.model.proofs.Refusals.{NoneHolds, none-served, served-none, after-none, served-append}
+use Rattle.model.proofs.Refusals.{NoneHolds, none-served, after-none, served-parts, served-condition}
 
 -- ---- sizes and header
 
@@ -158,28 +158,26 @@ pub record ContainerOk (l : Layout) (I : Image) : Type 0 where
   pub valid : Valid l (segState I (activeLine I)) (backupToMain I)
 
 module _ (l : Layout) (I : Image) where
-  container-none : NoneHolds (containerErrors l I) ↔ ContainerOk l I
-  container-none = (
-    λ h. record {
-      sizes = sizes-ok l .0 (not-false _ (h .0));
-      long = eqb-true _ _ (not-false _ (h .1 .0));
-      header = header-ok l I .0 (not-false _ (h .1 .1 .0));
-      valid = valid-means l _ _ (not-false _ (h .1 .1 .1 .0));
-    },
-    λ c. (ap not (sizes-ok l .1 (c .sizes)), (ap not (eq-eqb _ _ (c .long)), (ap not (header-ok l I .1 (c .header)), (ap not (valid-test l _ _ (c .valid)), tt)))),
-  )
-
   pub container-ok : firstError (containerErrors l I) ≡ 0 → ContainerOk l I
-  container-ok h = container-none .0 (served-none (containerErrors l I) (omega arith) h)
+  container-ok h =
+      let r = served-condition (containerErrors l I) (omega arith) h in
+      record {
+        sizes = sizes-ok l .0 (not-false _ (r 1));
+        long = eqb-true _ _ (not-false _ (r 2));
+        header = header-ok l I .0 (not-false _ (r 3));
+        valid = valid-means l _ _ (not-false _ (r 4));
+      }
+
+  container-none : ContainerOk l I → NoneHolds (containerErrors l I)
+  container-none c =
+      (ap not (sizes-ok l .1 (c .sizes)), (ap not (eq-eqb _ _ (c .long)), (ap not (header-ok l I .1 (c .header)), (ap not (valid-test l _ _ (c .valid)), tt))))
 
   pub container-served : ContainerOk l I → firstError (containerErrors l I) ≡ 0
-  container-served c = none-served (containerErrors l I) (container-none .1 c)
+  container-served c = none-served (containerErrors l I) (container-none c)
 
   -- the same where a call has more refusals
   pub container-then : (es : Errors) → firstError (containerErrors l I ++ es) ≡ 0 → ContainerOk l I × (firstError es ≡ 0)
-  container-then es h =
-      let s = served-append (containerErrors l I) es (omega arith) h in
-      (container-none .0 (s .0), s .1)
+  container-then es h = let s = served-parts (containerErrors l I) es (omega arith) h in (container-ok (s .0), s .1)
 
   pub container-passes : (es : Errors) → ContainerOk l I → firstError (containerErrors l I ++ es) ≡ firstError es
-  container-passes es c = after-none (containerErrors l I) es (container-none .1 c)
+  container-passes es c = after-none (containerErrors l I) es (container-none c)

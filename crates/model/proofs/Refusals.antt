@@ -1,33 +1,28 @@
--- Refusals (document 01: "Refusals by number"): which number `firstError` picks from a list, and which numbers each call
--- can answer.
+-- Refusals (document 01: "Refusals by number"): which number `firstError` picks from a list, whatever the list; how the list of a
+-- call is judged part by part; and what a number that was given says of the conditions, each found by its number and not by
+-- its place. A list may therefore grow anywhere without a law here or above.
 use Prim.Native.Nat.{ℕ, suc, _≤_, _<_}
 use mathlib.Core.Path.{_≡_, refl, sym, ap, _∙_}
 use mathlib.Core.Logic.{_↔_, _≢_, _⊎_, inl, inr, ⊎-elim}
-use mathlib.Core.Bool.{Bool, true, false, cond, false≢true}
-use mathlib.Core.List.{List, [], _∷_, _++_}
+use mathlib.Core.Bool.{Bool, true, false, cond, _||_, false≢true}
+use mathlib.Core.List.{[], _∷_, _++_}
 use native.Mathlib.Omega.{arith}
 use native.Mathlib.Decide.{ℕ-discrete}
 use native.Mathlib.Nat.{suc-ne-zero}
 use lib.Dec.{eqb}
-use lib.ListN.{getD}
-use borrow.Author.Tests.{eqb-true}
+use borrow.Author.Tests.{eqb-true, eqb-false, eq-eqb}
 use Rattle.model.specs.declared.Layout.{Layout}
 use Rattle.model.specs.declared.Session.{Session}
-use Rattle.model.specs.declared.Status.{Status}
-use Rattle.model.specs.declared.Status.the-variants.{Served, BadSize, BadLength, Foreign, Invalid, BadSession, NoSuchMain, NoSuchBlock, BadSpan, NoFreeBackup, EpochLimit, TraceShort, TraceBad}
-use Rattle.model.specs.Range.{allB}
 use Rattle.model.specs.Words.{Image}
-use Rattle.model.specs.Status.{Errors, firstError, codeOf}
-use Rattle.model.specs.Container.{sizeErrors, containerErrors}
+use Rattle.model.specs.Status.{Errors, firstError, served}
+use Rattle.model.specs.Container.{sizeErrors}
 use Rattle.model.specs.Ops.{Trace}
-use Rattle.model.specs.Replay.{replayErrors, replayStatus}
-use Rattle.model.specs.Format.{formatOutcome}
-use Rattle.model.specs.Open.{openErrors, openStatus}
-use Rattle.model.specs.Write.{WriteArgs, writeErrors, writeStatus}
-use Rattle.model.specs.Checkpoint.{checkpointErrors, checkpointStatus}
-use Rattle.model.specs.Reads.{readErrors, readStatus}
-use Rattle.model.specs.Same.{sameOutcome}
-use Rattle.model.proofs.Range.{all-at}
+use Rattle.model.specs.Replay.{replayErrors}
+use Rattle.model.specs.Open.{openErrors}
+use Rattle.model.specs.Write.{WriteArgs, writeErrors}
+use Rattle.model.specs.Checkpoint.{checkpointErrors}
+use Rattle.model.specs.Reads.{readErrors}
+use Rattle.model.proofs.Range.{or-left, or-right}
 
 -- ---- what is said of a list of refusals
 
@@ -41,24 +36,42 @@ abbrev pub Numbered : Errors → Type 0
 Numbered [] = Unit {0}
 Numbered (e ∷ es) = (0 < e .0) × Numbered es
 
--- the numbers are above k and ascend
-abbrev pub Ascending : ℕ → Errors → Type 0
-Ascending k [] = Unit {0}
-Ascending k (e ∷ es) = (k < e .0) × Ascending (e .0) es
-
 -- n is none of the numbers
 abbrev pub Without : ℕ → Errors → Type 0
 Without n [] = Unit {0}
 Without n (e ∷ es) = (e .0 ≢ n) × Without n es
 
--- n stands in the list with a condition that holds
-abbrev pub Applies : ℕ → Errors → Type 0
-Applies n [] = ⊥
-Applies n (e ∷ es) = ((e .0 ≡ n) × (e .1 ≡ true)) ⊎ Applies n es
-
 -- n stands in the list with a condition that holds, and no condition before it holds
 abbrev pub First : ℕ → Errors → Type 0
 First n es = (A : Errors) × (B : Errors) × (es ≡ A ++ (n, true) ∷ B) × NoneHolds A
+
+-- the condition of number n, or false where the list does not have it; in a list that is written out this computes to the
+-- condition itself
+abbrev pub condition : ℕ → Errors → Bool
+condition n [] = false
+condition n (e ∷ es) = cond (eqb (e .0) n) (condition n es || e .1) (condition n es)
+
+-- the part of the list before number n
+abbrev pub before : ℕ → Errors → Errors
+before n [] = []
+before n (e ∷ es) = cond (eqb (e .0) n) [] (e ∷ before n es)
+
+-- ---- one entry after the other, as code judges them
+
+-- this condition holds: its number
+pub first-holds : (n : ℕ) (b : Bool) (es : Errors) → b ≡ true → n ≡ firstError ((n, b) ∷ es)
+unfolding firstError
+first-holds n b es e = rw e
+
+-- it does not: the number of the rest
+pub first-fails : (n r : ℕ) (b : Bool) (es : Errors) → b ≡ false → r ≡ firstError es → r ≡ firstError ((n, b) ∷ es)
+unfolding firstError
+first-fails n r b es e h = rw e h
+
+-- no condition is left
+pub first-of-none : 0 ≡ firstError []
+unfolding firstError
+first-of-none = refl
 
 -- ---- served
 
@@ -105,22 +118,24 @@ before-refused (e ∷ es) fs h = go (e .1) h (before-refused es fs)
     go true h ih = refl
     go false h ih = ih h
 
-pub served-append : (es fs : Errors) → Numbered es → firstError (es ++ fs) ≡ 0 → NoneHolds es × (firstError fs ≡ 0)
-served-append es fs k h =
+-- a list is served exactly if both parts are
+pub served-parts : (es fs : Errors) → Numbered es → firstError (es ++ fs) ≡ 0 → (firstError es ≡ 0) × (firstError fs ≡ 0)
+served-parts es fs k h =
     elim (ℕ-discrete (firstError es) 0) [
-      | yes z ↦ (served-none es k z, sym (after-served es fs k z) ∙ h)
+      | yes z ↦ (z, sym (after-served es fs k z) ∙ h)
       | no n ↦ absurd (n (sym (before-refused es fs n) ∙ h))
     ]
 
--- the number is that of one of the parts
-pub either-part : (P : ℕ → Type 0) (es fs : Errors) → P (firstError es) → P (firstError fs) → P (firstError (es ++ fs))
-unfolding firstError
-either-part P [] fs p q = q
-either-part P (e ∷ es) fs p q = go (e .1) p (λ r. either-part P es fs r q)
-  where
-    go : (b : Bool) → P (cond b (e .0) (firstError es)) → (P (firstError es) → P (firstError (es ++ fs))) → P (cond b (e .0) (firstError (es ++ fs)))
-    go true p ih = p
-    go false p ih = ih p
+pub served-append : (es fs : Errors) → Numbered es → firstError (es ++ fs) ≡ 0 → NoneHolds es × (firstError fs ≡ 0)
+served-append es fs k h = let s = served-parts es fs k h in (served-none es k (s .0), s .1)
+
+-- a number n that the code found for the first part: refused, it is the number of the whole list; served, that is the second
+-- part's
+pub stage-refused : (n : ℕ) (es fs : Errors) → n ≡ firstError es → served n ≡ false → n ≡ firstError (es ++ fs)
+stage-refused n es fs e r = e ∙ sym (before-refused es fs (λ z. eqb-false n 0 r (e ∙ z)))
+
+pub stage-passed : (n : ℕ) (es fs : Errors) → Numbered es → n ≡ firstError es → served n ≡ true → firstError (es ++ fs) ≡ firstError fs
+stage-passed n es fs k e r = after-served es fs k (sym e ∙ eqb-true n 0 r)
 
 -- a number that the first part does not have is given by the second, and no condition of the first holds
 pub given-after : (n : ℕ) (es fs : Errors) → Without n es → firstError (es ++ fs) ≡ n → NoneHolds es × (firstError fs ≡ n)
@@ -151,7 +166,62 @@ given-first n es k = (given es, holds)
     holds : First n es → firstError es ≡ n
     holds f = ap firstError (f .2) ∙ after-none (f .0) ((n, true) ∷ f .1) (f .3)
 
--- where the numbers ascend, it is the lowest that applies
+-- ---- what a number says of the conditions
+
+none-condition : (n : ℕ) (es : Errors) → NoneHolds es → condition n es ≡ false
+none-condition n [] h = refl
+none-condition n (e ∷ es) h = go (eqb (e .0) n) (none-condition n es (h .1))
+  where
+    go : (b : Bool) → condition n es ≡ false → cond b (condition n es || e .1) (condition n es) ≡ false
+    go true ih = rw ih (h .0)
+    go false ih = ih
+
+-- a served call leaves every condition false
+pub served-condition : (es : Errors) → Numbered es → firstError es ≡ 0 → (n : ℕ) → condition n es ≡ false
+served-condition es k h n = none-condition n es (served-none es k h)
+
+-- the number that is given: its condition holds, and those of the numbers before it do not
+pub given-condition : (n : ℕ) (es : Errors) → n ≢ 0 → firstError es ≡ n → condition n es ≡ true
+unfolding firstError
+given-condition n [] k h = absurd (k (sym h))
+given-condition n (e ∷ es) k h = go (e .1) h (given-condition n es k)
+  where
+    both : (c : Bool) → condition n es ≡ true → cond c (condition n es || false) (condition n es) ≡ true
+    both true i = or-left false i
+    both false i = i
+
+    go : (b : Bool) → cond b (e .0) (firstError es) ≡ n → (firstError es ≡ n → condition n es ≡ true)
+        → cond (eqb (e .0) n) (condition n es || b) (condition n es) ≡ true
+    go true h ih = rw (eq-eqb (e .0) n h) (or-right (condition n es) refl)
+    go false h ih = both (eqb (e .0) n) (ih h)
+
+pub given-earlier : (n : ℕ) (es : Errors) → n ≢ 0 → firstError es ≡ n → (m : ℕ) → condition m (before n es) ≡ false
+unfolding firstError
+given-earlier n es k h m = none-condition m (before n es) (none es h)
+  where
+    none : (fs : Errors) → firstError fs ≡ n → NoneHolds (before n fs)
+    none [] h = tt
+    none (e ∷ fs) h = go (eqb (e .0) n) refl (e .1) refl h (none fs)
+      where
+        go : (c : Bool) → eqb (e .0) n ≡ c → (b : Bool) → e .1 ≡ b → cond b (e .0) (firstError fs) ≡ n → (firstError fs ≡ n → NoneHolds (before n fs))
+            → NoneHolds (cond c [] (e ∷ before n fs))
+        go true p b q h ih = tt
+        go false p true q h ih = absurd (eqb-false (e .0) n p h)
+        go false p false q h ih = (q, ih h)
+
+-- ---- a closing remark, on which nothing rests: today's lists ascend but that of `same`, which is one list twice, so that the
+-- number given is the lowest that applies (document 01)
+
+-- the numbers are above k and ascend
+abbrev pub Ascending : ℕ → Errors → Type 0
+Ascending k [] = Unit {0}
+Ascending k (e ∷ es) = (k < e .0) × Ascending (e .0) es
+
+-- n stands in the list with a condition that holds
+abbrev pub Applies : ℕ → Errors → Type 0
+Applies n [] = ⊥
+Applies n (e ∷ es) = ((e .0 ≡ n) × (e .1 ≡ true)) ⊎ Applies n es
+
 pub lowest-given : (k : ℕ) (es : Errors) → Ascending k es → (n : ℕ) → Applies n es → Applies (firstError es) es × (firstError es ≤ n)
 unfolding firstError
 lowest-given k [] a n p = absurd p
@@ -166,115 +236,7 @@ lowest-given k (e ∷ es) a n p = go (e .1) p (lowest-given (e .0) es (a .1) n)
     go true p ih = (inl (refl, refl), ⊎-elim (λ x. omega (arith, x .0)) (λ x. omega (arith, above (e .0) es (a .1) x)) p)
     go false p ih = ⊎-elim (λ x. absurd (false≢true (x .1))) (λ x. (inr (ih x .0), ih x .1)) p
 
--- ---- the numbers of each call
-
--- every list ascends but that of `same`, which is the same list twice
-pub size-ascending : (l : Layout) (I : Image) → Ascending 0 (sizeErrors l I)
-size-ascending l I = omega arith
-
-pub open-ascending : (l : Layout) (I : Image) (t : Trace) → Ascending 0 (openErrors l I t)
-open-ascending l I t = omega arith
-
-pub read-ascending : (l : Layout) (I : Image) (i b : ℕ) → Ascending 0 (readErrors l I i b)
-read-ascending l I i b = omega arith
-
-pub write-ascending : (s : Session) (I : Image) (w : WriteArgs) (j : ℕ) (t : Trace) → Ascending 0 (writeErrors s I w j t)
-write-ascending s I w j t = omega arith
-
-pub checkpoint-ascending : (s : Session) (I : Image) (t : Trace) → Ascending 0 (checkpointErrors s I t)
-checkpoint-ascending s I t = omega arith
-
-pub replay-ascending : (I : Image) (t : Trace) (n : ℕ) → Ascending 0 (replayErrors I t n)
-replay-ascending I t n = omega arith
-
-abbrev pub OneOf : List ℕ → ℕ → Type 0
-OneOf [] n = ⊥
-OneOf (m ∷ ms) n = (n ≡ m) ⊎ OneOf ms n
-
-abbrev numbers : Errors → List ℕ
-numbers [] = []
-numbers (e ∷ es) = e .0 ∷ numbers es
-
--- the number is 0 or stands in the list
-in-list : (es : Errors) → OneOf (0 ∷ numbers es) (firstError es)
-unfolding firstError
-in-list [] = inl refl
-in-list (e ∷ es) = go (e .1) (in-list es)
-  where
-    go : (b : Bool) → OneOf (0 ∷ numbers es) (firstError es) → OneOf (0 ∷ e .0 ∷ numbers es) (cond b (e .0) (firstError es))
-    go true ih = inr (inl refl)
-    go false ih = ⊎-elim inl (λ x. inr (inr x)) ih
-
-pub format-numbers : (l : Layout) (I : Image) → OneOf (0 ∷ 1 ∷ 2 ∷ []) (formatOutcome l I .status)
-unfolding formatOutcome
-format-numbers l I = in-list _
-
-pub open-numbers : (l : Layout) (I : Image) (t : Trace) → OneOf (0 ∷ 1 ∷ 2 ∷ 3 ∷ 4 ∷ 11 ∷ []) (openStatus l I t)
-unfolding openStatus
-open-numbers l I t = in-list _
-
-pub read-numbers : (l : Layout) (I : Image) (i b : ℕ) → OneOf (0 ∷ 1 ∷ 2 ∷ 3 ∷ 4 ∷ 6 ∷ 7 ∷ []) (readStatus l I i b)
-unfolding readStatus
-read-numbers l I i b = in-list _
-
-pub write-numbers : (s : Session) (I : Image) (w : WriteArgs) (j : ℕ) (t : Trace)
-    → OneOf (0 ∷ 1 ∷ 2 ∷ 3 ∷ 4 ∷ 5 ∷ 6 ∷ 7 ∷ 8 ∷ 9 ∷ 11 ∷ []) (writeStatus s I w j t)
-unfolding writeStatus
-write-numbers s I w j t = in-list _
-
-pub checkpoint-numbers : (s : Session) (I : Image) (t : Trace) → OneOf (0 ∷ 1 ∷ 2 ∷ 3 ∷ 4 ∷ 5 ∷ 10 ∷ 11 ∷ []) (checkpointStatus s I t)
-unfolding checkpointStatus
-checkpoint-numbers s I t = in-list _
-
-pub replay-numbers : (I : Image) (t : Trace) (n : ℕ) → OneOf (0 ∷ 2 ∷ 12 ∷ []) (replayStatus I t n)
-unfolding replayStatus
-replay-numbers I t n = in-list _
-
-pub same-numbers : (l : Layout) (I J : Image) → OneOf (0 ∷ 1 ∷ 2 ∷ 3 ∷ 4 ∷ []) (sameOutcome l I J .status)
-unfolding sameOutcome
-same-numbers l I J =
-    either-part (OneOf (0 ∷ 1 ∷ 2 ∷ 3 ∷ 4 ∷ [])) (containerErrors l I) (containerErrors l J) (in-list (containerErrors l I)) (in-list (containerErrors l J))
-
--- ---- numbers of the enum
-
-pub code-most : (s : Status) → codeOf s ≤ 12
-code-most Served = omega arith
-code-most BadSize = omega arith
-code-most BadLength = omega arith
-code-most Foreign = omega arith
-code-most Invalid = omega arith
-code-most BadSession = omega arith
-code-most NoSuchMain = omega arith
-code-most NoSuchBlock = omega arith
-code-most BadSpan = omega arith
-code-most NoFreeBackup = omega arith
-code-most EpochLimit = omega arith
-code-most TraceShort = omega arith
-code-most TraceBad = omega arith
-
--- the status of a number, as the code's table has it
-abbrev pub statusOf : ℕ → Status
-statusOf n =
-    getD (Served ∷ BadSize ∷ BadLength ∷ Foreign ∷ Invalid ∷ BadSession ∷ NoSuchMain ∷ NoSuchBlock ∷ BadSpan ∷ NoFreeBackup ∷ EpochLimit ∷ TraceShort ∷ TraceBad ∷ []) n Served
-
-pub status-code : (s : Status) → statusOf (codeOf s) ≡ s
-status-code Served = refl
-status-code BadSize = refl
-status-code BadLength = refl
-status-code Foreign = refl
-status-code Invalid = refl
-status-code BadSession = refl
-status-code NoSuchMain = refl
-status-code NoSuchBlock = refl
-status-code BadSpan = refl
-status-code NoFreeBackup = refl
-status-code EpochLimit = refl
-status-code TraceShort = refl
-status-code TraceBad = refl
-
-pub code-status : (n : ℕ) → n ≤ 12 → codeOf (statusOf n) ≡ n
-unfolding allB
-code-status n h = eqb-true (codeOf (statusOf n)) n (all-at 13 (λ (k : ℕ). eqb (codeOf (statusOf k)) k) refl n (omega arith))
-
-pub code-injective : (s t : Status) → codeOf s ≡ codeOf t → s ≡ t
-code-injective s t h = sym (status-code s) ∙ ap statusOf h ∙ status-code t
+pub all-ascend : (l : Layout) (s : Session) (I : Image) (w : WriteArgs) (i b j n : ℕ) (t : Trace)
+    → Ascending 0 (sizeErrors l I) × Ascending 0 (openErrors l I t) × Ascending 0 (readErrors l I i b) × Ascending 0 (writeErrors s I w j t)
+    × Ascending 0 (checkpointErrors s I t) × Ascending 0 (replayErrors I t n)
+all-ascend l s I w i b j n t = (omega arith, omega arith, omega arith, omega arith, omega arith, omega arith)

@@ -1,11 +1,11 @@
 -- Lengths of a trace that always suffice: 11 is then never given.
 use Prim.Native.Nat.{ℕ, _+_, _*_, _≤_}
-use mathlib.Core.Path.{_≡_, refl, sym, _∙_}
+use mathlib.Core.Path.{_≡_, sym, _∙_}
 use mathlib.Core.Logic.{_≢_}
 use mathlib.Core.Bool.{Bool, true, false, true≢false}
-use mathlib.Core.List.{List, [], _∷_, _++_}
+use mathlib.Core.List.{List}
 use native.Mathlib.Omega.{arith}
-use lib.ListN.{length, take, getD}
+use lib.ListN.{length, getD}
 use borrow.Author.Tests.{le-ltb}
 use Rattle.model.specs.declared.Layout.{Layout}
 use Rattle.model.specs.declared.Session.{Session}
@@ -14,28 +14,17 @@ use Rattle.model.specs.declared.Plan.the-variants.{NoCopy, OwnBackup, Ne
 use Rattle.model.specs.Range.{oneIf}
 use Rattle.model.specs.Layout.{blockWords}
 use Rattle.model.specs.Words.{Image}
-use Rattle.model.specs.Status.{Errors, firstError}
-use Rattle.model.specs.Container.{activeLine, containerErrors}
+use Rattle.model.specs.Container.{activeLine}
 use Rattle.model.specs.Session.{isDirty, dirtyWord}
 use Rattle.model.specs.Ops.{Ops, Trace, traceShort}
-use Rattle.model.specs.Open.{recoveryOps, openStatus}
+use Rattle.model.specs.Open.{recoveryOps, openErrors, openStatus}
 use Rattle.model.specs.Write.{WriteArgs, copyPlan, spanBad, writeOps, writeErrors, writeStatus}
 use Rattle.model.specs.Checkpoint.{checkpointOps, checkpointErrors, checkpointStatus}
 use Rattle.model.specs.Counts.{dirtyCount, dirtyTotal}
 use Rattle.model.specs.CrashSafety.{TraceSuffices, WriteTraceSuffices, CheckpointTraceSuffices}
-use Rattle.model.proofs.Refusals.{NoneHolds, Without, given-after}
+use Rattle.model.proofs.Refusals.{given-condition, given-earlier}
 use Rattle.model.proofs.Counts.{sum-most, recovery-most, spanCount, planCount, length-write, length-checkpoint-ops}
 use Rattle.model.proofs.WellFormed.{span-good}
-
--- 11 at the end of a list is given only if the trace is short
-short-given : (b : Bool) → firstError ((11, b) ∷ []) ≡ 11 → b ≡ true
-unfolding firstError
-short-given true h = refl
-short-given false h = (let z : ⊥ = omega arith in absurd z)
-
-pub eleven : (es : Errors) (O : Ops) (t : Trace) → Without 11 es → firstError (es ++ (11, traceShort O t) ∷ []) ≡ 11
-    → NoneHolds es × (traceShort O t ≡ true)
-eleven es O t k h = let r = given-after 11 es ((11, traceShort O t) ∷ []) k h in (r .0, short-given (traceShort O t) (r .1))
 
 long-enough : (O : Ops) (t : Trace) → 3 * length O ≤ length t → traceShort O t ≢ true
 unfolding traceShort
@@ -44,7 +33,7 @@ long-enough O t h e = true≢false (sym e ∙ le-ltb (length t) (3 * length O) h
 pub trace-suffices : TraceSuffices
 unfolding openStatus
 trace-suffices l I t h e =
-    long-enough (recoveryOps l I (activeLine I)) t (omega (arith, recovery-most l I (activeLine I))) (eleven (containerErrors l I) _ t (omega arith) e .1)
+    long-enough (recoveryOps l I (activeLine I)) t (omega (arith, recovery-most l I (activeLine I))) (given-condition 11 (openErrors l I t) (omega arith) e)
 
 -- ---- write
 
@@ -73,8 +62,8 @@ write-most s I w j h = omega (arith, span-most (s .layout) w h, length-write s I
 pub write-trace-suffices : WriteTraceSuffices
 unfolding writeStatus
 write-trace-suffices s I w j t h e =
-    let r = eleven (take 9 (writeErrors s I w j t)) (writeOps s I w j) t (omega arith) e in
-    long-enough (writeOps s I w j) t (omega (arith, write-most s I w j (r .0 .1 .1 .1 .1 .1 .1 .1 .0))) (r .1)
+    long-enough (writeOps s I w j) t (omega (arith, write-most s I w j (given-earlier 11 (writeErrors s I w j t) (omega arith) e 8)))
+    (given-condition 11 (writeErrors s I w j t) (omega arith) e)
 
 -- ---- checkpoint
 
@@ -85,5 +74,5 @@ total-most l words = sum-most (l .mains) (l .blocks) _ (λ i h. dirty-most (getD
 pub checkpoint-trace-suffices : CheckpointTraceSuffices
 unfolding checkpointStatus
 checkpoint-trace-suffices s I t h e =
-    let r = eleven (take 6 (checkpointErrors s I t)) (checkpointOps s I) t (omega arith) e in
-    long-enough (checkpointOps s I) t (omega (arith, length-checkpoint-ops s I, total-most (s .layout) (s .«dirty_blocks»))) (r .1)
+    long-enough (checkpointOps s I) t (omega (arith, length-checkpoint-ops s I, total-most (s .layout) (s .«dirty_blocks»)))
+    (given-condition 11 (checkpointErrors s I t) (omega arith) e)

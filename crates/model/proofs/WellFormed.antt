@@ -20,12 +20,12 @@ use Rattle.model.specs.Session.{isDirty, dirtyWord}
 use Rattle.model.specs.Ops.{clwb, sfence, Ops, Trace, stores, clwbs, putBlock, persistCopy, persistZero, copySegment, zeroSegment, storeByte}
 use Rattle.model.specs.Outcome.{outcomeOf}
 use Rattle.model.specs.Open.{recoveryAction, actionOps, recoverSegment, recoveryOps, openStatus, openOutcome}
-use Rattle.model.specs.Write.{WriteArgs, needsCopy, needsBackup, copyPlan, copies, pairOps, copyDirty, backupOps, stateOps, copyOnWriteOps, spanOps, writeOps, spanBad, writeStatus, writeOutcome, Chosen}
+use Rattle.model.specs.Write.{WriteArgs, needsCopy, needsBackup, copyPlan, copies, pairOps, copyDirty, backupOps, stateOps, copyOnWriteOps, spanOps, writeOps, spanBad, writeErrors, writeStatus, writeOutcome, Chosen}
 use Rattle.model.specs.Checkpoint.{flushDirty, nextStates, statesOps, epochOps, checkpointOps, checkpointStatus, checkpointOutcome}
 use Rattle.model.specs.Reference.{CallArgs, openArgs, writeArgs, checkpointArgs}
 use Rattle.model.specs.History.{Call, Device, answers, outcome, PermittedOn, Permitted}
 use Rattle.model.specs.CrashSafety.{ReplayServesAll}
-use Rattle.model.proofs.Refusals.{served-none}
+use Rattle.model.proofs.Refusals.{served-condition}
 use Rattle.model.proofs.Metadata.{paired-at, container-then}
 use Rattle.model.proofs.Places.{metadata-inside, image-lines, segment-in-image, state-line-low, state-line-high, state-line-whole}
 use Rattle.model.proofs.TraceLaws.{OpOk, AllOk, all-cat, all-when, all-ok-append, replay-serves, played-ops}
@@ -229,10 +229,10 @@ write-outcome-ok s I w t j chosen = served-ok (length I / lineSize) (writeStatus
     go : writeStatus s I w j t ≡ 0 → AllOk (length I / lineSize) (writeOps s I w j)
     go h =
         let c = container-then (s .layout) I _ h in
-        let r = served-none _ (omega arith) (c .1) in
-        let g = span-good (s .layout) w (r .1 .1 .1 .0) in
+        let r = served-condition (writeErrors s I w j t) (omega arith) h in
+        let g = span-good (s .layout) w (r 8) in
         subst (λ (n : ℕ). AllOk (n / lineSize) (writeOps s I w j)) (sym (c .0 .long))
-        (write-ok s I w j (c .0 .sizes .0 .1) (c .0 .sizes .1 .1) (leb-false _ _ (r .1 .0)) (leb-false _ _ (r .1 .1 .0)) (g .0) (g .1) (λ e. chosen h e .0))
+        (write-ok s I w j (c .0 .sizes .0 .1) (c .0 .sizes .1 .1) (leb-false _ _ (r 6)) (leb-false _ _ (r 7)) (g .0) (g .1) (λ e. chosen h e .0))
 
 pub checkpoint-outcome-ok : (s : Session) (I : Image) (t : Trace) → AllOk (length I / lineSize) (checkpointOutcome s I t .ops)
 unfolding checkpointOutcome outcomeOf checkpointStatus
