@@ -126,17 +126,17 @@ good-size (suc zero) v h e = rw e
 good-size (suc (suc zero)) v h e = rw e
 good-size (suc (suc (suc k))) v h e = let z : ⊥ = omega arith in absurd z
 
-pub good-number : (k : ℕ) (v : List ℕ) {n : ℕ} → 2 < k → k ≢ 6 → k ≢ 7 → n ≡ numberOf v → ltb n 1000 ≡ key k .takes v
+pub good-number : (k : ℕ) (v : List ℕ) {n : ℕ} → 2 < k → k ≤ 7 → k ≢ 6 → k ≢ 7 → n ≡ numberOf v → ltb n 1000 ≡ key k .takes v
 unfolding key
-good-number zero v h x y e = let z : ⊥ = omega arith in absurd z
-good-number (suc zero) v h x y e = let z : ⊥ = omega arith in absurd z
-good-number (suc (suc zero)) v h x y e = let z : ⊥ = omega arith in absurd z
-good-number (suc (suc (suc zero))) v h x y e = rw e
-good-number (suc (suc (suc (suc zero)))) v h x y e = rw e
-good-number (suc (suc (suc (suc (suc zero))))) v h x y e = rw e
-good-number (suc (suc (suc (suc (suc (suc zero)))))) v h x y e = absurd (x refl)
-good-number (suc (suc (suc (suc (suc (suc (suc zero))))))) v h x y e = absurd (y refl)
-good-number (suc (suc (suc (suc (suc (suc (suc (suc k)))))))) v h x y e = rw e
+good-number zero v h m x y e = let z : ⊥ = omega arith in absurd z
+good-number (suc zero) v h m x y e = let z : ⊥ = omega arith in absurd z
+good-number (suc (suc zero)) v h m x y e = let z : ⊥ = omega arith in absurd z
+good-number (suc (suc (suc zero))) v h m x y e = rw e
+good-number (suc (suc (suc (suc zero)))) v h m x y e = rw e
+good-number (suc (suc (suc (suc (suc zero))))) v h m x y e = rw e
+good-number (suc (suc (suc (suc (suc (suc zero)))))) v h m x y e = absurd (x refl)
+good-number (suc (suc (suc (suc (suc (suc (suc zero))))))) v h m x y e = absurd (y refl)
+good-number (suc (suc (suc (suc (suc (suc (suc (suc k)))))))) v h m x y e = let z : ⊥ = omega arith in absurd z
 
 -- ---- good lines
 

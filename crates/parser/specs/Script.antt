@@ -1,7 +1,7 @@
 -- The language of the bench sheet (document 01: "The bench sheet"): key=value lines in fixed order, which of them is the first
 -- bad or missing one, and what a good sheet says. Assumes nothing.
 use Prim.Native.Nat.{ℕ, zero, suc, _-_, _/_}
-use mathlib.Core.Bool.{Bool, not, cond, _&&_}
+use mathlib.Core.Bool.{Bool, false, not, cond, _&&_}
 use mathlib.Core.List.{List, [], _∷_}
 use lib.Dec.{leb, ltb, eqb}
 use lib.ListN.{length, getD, take, drop}
@@ -48,8 +48,9 @@ keys =
     ∷ record { name = text "bytes="; takes = isBytes }
     ∷ record { name = text "save="; takes = isFlag } ∷ []
 
+-- a place behind them has no key, and takes nothing
 abbrev pub noKey : Key
-noKey = record { name = []; takes = isNumber }
+noKey = record { name = []; takes = λ v. false }
 
 unfoldable pub key : ℕ → Key
 key k = getD keys k noKey

@@ -286,6 +286,7 @@ fn good_bytes(value: &[u8]) -> bool
 
 // Whether a value may stand behind key k.
 fn good_value(k: u64, value: &[u8]) -> bool
+    requires { ⌜ k ≤ 7 ⌝ }
     ensures { λ r. ⌜ r ≡ key k .takes (now (value .entry)) ⌝ }
 {
     if k == BYTES {
@@ -303,6 +304,7 @@ fn good_value(k: u64, value: &[u8]) -> bool
 
 // Whether a line is a good one for key k: the key, a good value, byte 10.
 fn good_line(k: u64, line: &[u8]) -> bool
+    requires { ⌜ k ≤ 7 ⌝ }
     ensures { λ r. ⌜ r ≡ goodLine k (now (line .entry)) ⌝ }
 {
     if line.len() == 0 {

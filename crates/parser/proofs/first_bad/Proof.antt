@@ -45,7 +45,10 @@ part-good-line-end : tie.Need-part-good-line-end Inv-loop μ-loop
 part-good-line-end c = search needs
 
 good-line-requires : tie.Need-good-line-requires Inv-loop μ-loop
-good-line-requires c κs = search needs
+good-line-requires c κs =
+    let d = c .before in
+    let l = d .before .before .before .before .loop in
+    rw (d .key-for .ensures) (key-for-most (l .key) _ (l .inv .1))
 
 add-result : tie.Need-add-result Inv-loop μ-loop
 add-result c = search needs

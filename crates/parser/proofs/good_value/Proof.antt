@@ -19,7 +19,7 @@ returns-3 : tie.Need-returns-3
 returns-3 c = good-flag _ _ (c .if3 .taken) (c .before .before .number-of .ensures)
 
 returns-4 : tie.Need-returns-4
-returns-4 c = let b = c .before .before in good-number _ _ (c .before .if2 .left) (b .before .if1 .left) (c .if3 .left) (b .number-of .ensures)
+returns-4 c = let b = c .before .before in good-number _ _ (c .before .if2 .left) (b .before .before .before .pre) (b .before .if1 .left) (c .if3 .left) (b .number-of .ensures)
 
 pub good-value-spec : {M : Type 1} → statement M
 good-value-spec =
