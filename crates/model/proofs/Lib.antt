@@ -21,3 +21,5 @@ pub mod Recovery
 pub mod SpanArgument
 pub mod CopyArgument
 pub mod WriteArgument
+pub mod Choice
+pub mod Exactness
