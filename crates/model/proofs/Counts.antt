@@ -222,56 +222,70 @@ OffEpoch (store p w) = epochAt < p
 OffEpoch (clwb p) = Unit {0}
 OffEpoch sfence = Unit {0}
 
+-- its three phases, each ended by a fence: dirty blocks, states, epoch; and all before the store of the epoch
+abbrev pub blocksPhase : Session → Ops
+blocksPhase s = flushDirty (s .layout) (s .«dirty_blocks») ++ sfence ∷ []
+
+abbrev pub statesPhase : Session → Image → Ops
+statesPhase s I = statesOps I (s .«dirty_segments») ++ sfence ∷ []
+
+abbrev pub epochPhase : Image → Ops
+epochPhase I = store epochAt (suc (committedEpoch I)) ∷ clwb epochAt ∷ sfence ∷ []
+
+abbrev pub beforeEpoch : Session → Image → Ops
+beforeEpoch s I = blocksPhase s ++ statesPhase s I
+
+pub checkpoint-phases : (s : Session) (I : Image) → checkpointOps s I ≡ beforeEpoch s I ++ epochPhase I
+unfolding checkpointOps epochOps
+checkpoint-phases s I = simp append-assoc
+
 module _ (s : Session) (I : Image) where
   length-flush-dirty : length (flushDirty (s .layout) (s .«dirty_blocks»)) ≡ 4 * dirtyTotal (s .layout) (s .«dirty_blocks»)
   unfolding flushDirty dirtyTotal
   length-flush-dirty = length-cat-sum (s .layout .mains) 4 _ _ (λ i h. length-dirty (dirtyWord s i) (s .layout .blocks) 4 _ (λ b. length-clwbs blockLines _))
 
-  -- all before the store of the epoch
-  abbrev beforeEpoch : Ops
-  beforeEpoch = flushDirty (s .layout) (s .«dirty_blocks») ++ sfence ∷ statesOps I (s .«dirty_segments») ++ sfence ∷ []
+  abbrev before : Ops
+  before = beforeEpoch s I
 
-  length-before : length beforeEpoch ≡ 4 * dirtyTotal (s .layout) (s .«dirty_blocks») + 11
+  abbrev words : ℕ → ℕ
+  words k = wordOf (nextStates (s .«dirty_segments») (activeState I)) (wordSize * k)
+
+  pub length-before : length (beforeEpoch s I) ≡ 4 * dirtyTotal (s .layout) (s .«dirty_blocks») + 11
   unfolding statesOps
   length-before =
       omega (
         arith,
         length-flush-dirty,
-        length-append (flushDirty (s .layout) (s .«dirty_blocks») ++ sfence ∷ statesOps I (s .«dirty_segments»)) (sfence ∷ []),
-        length-append (flushDirty (s .layout) (s .«dirty_blocks»)) (sfence ∷ statesOps I (s .«dirty_segments»)),
-        length-append (stores lineWords (inactiveLine I) (λ k. wordOf (nextStates (s .«dirty_segments») (activeState I)) (wordSize * k))) (clwb (inactiveLine I) ∷ []),
-        length-stores lineWords (inactiveLine I) (λ k. wordOf (nextStates (s .«dirty_segments») (activeState I)) (wordSize * k)),
+        length-append (blocksPhase s) (statesPhase s I),
+        length-append (flushDirty (s .layout) (s .«dirty_blocks»)) (sfence ∷ []),
+        length-append (statesOps I (s .«dirty_segments»)) (sfence ∷ []),
+        length-append (stores lineWords (inactiveLine I) words) (clwb (inactiveLine I) ∷ []),
+        length-stores lineWords (inactiveLine I) words,
       )
-
-  checkpoint-split : checkpointOps s I ≡ beforeEpoch ++ store epochAt (suc (committedEpoch I)) ∷ clwb epochAt ∷ sfence ∷ []
-  unfolding checkpointOps epochOps
-  checkpoint-split = simp append-assoc
 
   pub length-checkpoint-ops : length (checkpointOps s I) ≡ 4 * dirtyTotal (s .layout) (s .«dirty_blocks») + 14
   length-checkpoint-ops =
-      ap length checkpoint-split ∙ length-append beforeEpoch (store epochAt (suc (committedEpoch I)) ∷ clwb epochAt ∷ sfence ∷ []) ∙ omega (arith, length-before)
+      ap length (checkpoint-phases s I) ∙ length-append before (epochPhase I) ∙ omega (arith, length-before)
 
-  off-before : All OffEpoch beforeEpoch
+  off-before : All OffEpoch before
   unfolding flushDirty clwbs statesOps stores
   off-before =
-      all-append OffEpoch (flushDirty (s .layout) (s .«dirty_blocks») ++ sfence ∷ statesOps I (s .«dirty_segments»)) (sfence ∷ [])
-      (all-append OffEpoch (flushDirty (s .layout) (s .«dirty_blocks»)) (sfence ∷ statesOps I (s .«dirty_segments»))
+      all-append OffEpoch (blocksPhase s) (statesPhase s I)
+      (all-append OffEpoch (flushDirty (s .layout) (s .«dirty_blocks»)) (sfence ∷ [])
       (all-cat OffEpoch (s .layout .mains) _ (λ i h. all-cat OffEpoch (s .layout .blocks) _
-      (λ b k. all-when OffEpoch (isDirty (dirtyWord s i) b) _ (λ e. all-cat OffEpoch blockLines _ (λ n m. (tt, tt)))))) (
-        tt,
-        all-append OffEpoch (stores lineWords (inactiveLine I) (λ k. wordOf (nextStates (s .«dirty_segments») (activeState I)) (wordSize * k))) (clwb (inactiveLine I) ∷ [])
-            (all-cat OffEpoch lineWords _ (λ n m. (omega (arith, state-line-low (suc (committedEpoch I))), tt))) (tt, tt),
-      ))
-      (tt, tt)
+      (λ b k. all-when OffEpoch (isDirty (dirtyWord s i) b) _ (λ e. all-cat OffEpoch blockLines _ (λ n m. (tt, tt)))))) (tt, tt))
+      (all-append OffEpoch (statesOps I (s .«dirty_segments»)) (sfence ∷ [])
+      (all-append OffEpoch (stores lineWords (inactiveLine I) words) (clwb (inactiveLine I) ∷ [])
+      (all-cat OffEpoch lineWords _ (λ n m. (omega (arith, state-line-low (suc (committedEpoch I))), tt))) (tt, tt)) (tt, tt))
 
   -- the epoch is stored from the last but two of the operations on
   pub epoch-stored : (p : ℕ) → 4 * dirtyTotal (s .layout) (s .«dirty_blocks») + 12 ≤ p → EpochStored (take p (checkpointOps s I))
   epoch-stored p h = (
-    beforeEpoch,
+    before,
     take (p - (4 * dirtyTotal (s .layout) (s .«dirty_blocks») + 12)) (clwb epochAt ∷ sfence ∷ []),
     suc (committedEpoch I),
-    (let e : p ≡ length beforeEpoch + suc (p - (4 * dirtyTotal (s .layout) (s .«dirty_blocks») + 12)) = omega (arith, length-before) in
-        ap₂ take e checkpoint-split ∙ take-append-add beforeEpoch _ (suc (p - (4 * dirtyTotal (s .layout) (s .«dirty_blocks») + 12)))),
+    (let e : p ≡ length before + suc (p - (4 * dirtyTotal (s .layout) (s .«dirty_blocks») + 12)) = omega (arith, length-before) in
+        ap₂ take e (checkpoint-phases s I) ∙ take-append-add before _ (suc (p - (4 * dirtyTotal (s .layout) (s .«dirty_blocks») + 12)))),
   )
 
   -- and not before
@@ -281,9 +295,9 @@ module _ (s : Session) (I : Image) where
       go : Dec (4 * dirtyTotal (s .layout) (s .«dirty_blocks») + 12 ≤ p) → 4 * dirtyTotal (s .layout) (s .«dirty_blocks») + 12 ≤ p
       go (yes h) = h
       go (no h) =
-          let e : take p beforeEpoch ≡ x .0 ++ store epochAt (x .2) ∷ x .1 =
-          sym (ap (take p) checkpoint-split ∙ take-append-le p beforeEpoch _ (omega (arith, length-before))) ∙ x .3 in
-          let off : epochAt < epochAt = all-amid OffEpoch (x .0) (store epochAt (x .2)) (x .1) (subst (All OffEpoch) e (all-take OffEpoch p beforeEpoch off-before)) in
+          let e : take p before ≡ x .0 ++ store epochAt (x .2) ∷ x .1 =
+          sym (ap (take p) (checkpoint-phases s I) ∙ take-append-le p before _ (omega (arith, length-before))) ∙ x .3 in
+          let off : epochAt < epochAt = all-amid OffEpoch (x .0) (store epochAt (x .2)) (x .1) (subst (All OffEpoch) e (all-take OffEpoch p before off-before)) in
           omega arith
 
 -- the window of a served checkpoint: its first 4 * m + 12 or 4 * m + 13 operations are played, for m dirty blocks

@@ -23,3 +23,4 @@ pub mod CopyArgument
 pub mod WriteArgument
 pub mod Choice
 pub mod Exactness
+pub mod CheckpointArgument
