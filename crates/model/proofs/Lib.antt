@@ -24,3 +24,7 @@ pub mod WriteArgument
 pub mod Choice
 pub mod Exactness
 pub mod CheckpointArgument
+pub mod Pages
+pub mod CrashExact
+pub mod OutcomeLaws
+pub mod Unread
