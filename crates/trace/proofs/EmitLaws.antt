@@ -43,6 +43,9 @@ emit-whole t O h =
 
 -- ---- one run: the trace keeps its length; the same operations in another form
 
+pub fits-as : {t : Trace} {n : ℕ} {O E : Ops} → O ≡ E → Fits t n O → Fits t n E
+fits-as p h = record { room = omega (arith, ap length p) }
+
 module _ {t t₁ : Trace} {n r : ℕ} {O : Ops} (e : Emitted t n O t₁ r) where
   pub emitted-length : length t₁ ≡ length t
   emitted-length = ap length (e .stands) ∙ length-emit t n O
@@ -57,11 +60,11 @@ emitted-nil {t} {n} = record { stands = sym (emit-nil t n); next = omega arith }
 
 -- ---- one run after another
 
-pub fits-first : (t : Trace) (n : ℕ) (A B : Ops) → Fits t n (A ++ B) → Fits t n A
-fits-first t n A B h = omega (arith, length-append A B)
+pub fits-first : {t : Trace} {n : ℕ} {A : Ops} (B : Ops) → Fits t n (A ++ B) → Fits t n A
+fits-first {A = A} B h = record { room = omega (arith, length-append A B) }
 
-pub fits-then : {t t₁ : Trace} {n r : ℕ} {A : Ops} (B : Ops) → Fits t n (A ++ B) → Emitted t n A t₁ r → Fits t₁ r B
-fits-then {A = A} B h e = omega (arith, length-append A B, emitted-length e)
+pub fits-then : {t t₁ : Trace} {n r : ℕ} {A B : Ops} → Fits t n (A ++ B) → Emitted t n A t₁ r → Fits t₁ r B
+fits-then {A = A} {B} h e = record { room = omega (arith, length-append A B, emitted-length e) }
 
 pub emitted-then : {t t₁ t₂ : Trace} {n r₁ r₂ : ℕ} {A B : Ops} → Emitted t n A t₁ r₁ → Emitted t₁ r₁ B t₂ r₂ → Emitted t n (A ++ B) t₂ r₂
 emitted-then {t} {n = n} {A = A} {B = B} d e =
@@ -87,7 +90,7 @@ length-upto i (suc k) f h =
 
 -- after i of k turns there is room for the next one
 pub fits-each : {t t₁ : Trace} {n r : ℕ} (i k : ℕ) (f : ℕ → Ops) → i < k → Fits t n (cat k f) → Emitted t n (cat i f) t₁ r → Fits t₁ r (f i)
-fits-each i k f l h e = omega (arith, length-upto i k f l, emitted-length e)
+fits-each i k f l h e = record { room = omega (arith, length-upto i k f l, emitted-length e) }
 
 -- and with it written, i + 1 turns are
 pub emitted-each : {t t₁ t₂ : Trace} {n r₁ r₂ : ℕ} (i : ℕ) (f : ℕ → Ops) → Emitted t n (cat i f) t₁ r₁ → Emitted t₁ r₁ (f i) t₂ r₂ → Emitted t n (cat (i + 1) f) t₂ r₂
@@ -96,9 +99,9 @@ emitted-each i f d e = rw add-one (emitted-then d e)
 
 -- ---- a run if a test holds
 
-pub fits-if : (t : Trace) (n : ℕ) (b : Bool) (O : Ops) → b ≡ true → Fits t n (cond b O []) → Fits t n O
-fits-if t n true O p h = h
-fits-if t n false O p h = absurd (false≢true p)
+pub fits-if : {t : Trace} {n : ℕ} {O : Ops} (b : Bool) → b ≡ true → Fits t n (cond b O []) → Fits t n O
+fits-if true p h = h
+fits-if false p h = absurd (false≢true p)
 
 -- it holds
 pub emitted-if : {t t₁ : Trace} {n r : ℕ} {O : Ops} (b : Bool) → b ≡ true → Emitted t n O t₁ r → Emitted t n (cond b O []) t₁ r

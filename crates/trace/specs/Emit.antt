@@ -11,8 +11,8 @@ unfoldable pub emit : Trace → ℕ → Ops → Trace
 emit t n O = sets t (3 * n) (encode O)
 
 -- asked: the trace t has room for the operations O from operation number n on
-abbrev pub Fits : Trace → ℕ → Ops → Type 0
-Fits t n O = 3 * (n + length O) ≤ length t
+pub record Fits (t : Trace) (n : ℕ) (O : Ops) : Type 0 where
+  pub room : 3 * (n + length O) ≤ length t
 
 -- promised: they stand on the trace, which is then t′, and r is the number of the operation that comes next
 pub record Emitted (t : Trace) (n : ℕ) (O : Ops) (t′ : Trace) (r : ℕ) : Type 0 where
