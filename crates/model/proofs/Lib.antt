@@ -28,3 +28,10 @@ pub mod Pages
 pub mod CrashExact
 pub mod OutcomeLaws
 pub mod Unread
+pub mod Stands
+pub mod OpenCall
+pub mod WriteCall
+pub mod CheckpointCall
+pub mod Openings
+pub mod Theorem
+pub mod Sisters
