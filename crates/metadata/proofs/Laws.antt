@@ -1,29 +1,34 @@
--- The one pass over pairs and states tests what model's `validMetadata` says; the search for a backup segment finds the
--- first; a chosen backup segment is free, and none is where none is chosen.
+-- The one pass over pairs and states tests what model's `validMetadata` says and finds the backup segment of each main
+-- segment; the checkpoint of a main segment stands inside the image; a chosen backup segment is free, and none is where none
+-- is chosen.
 use Prim.Native.Nat.{ℕ, zero, suc, _+_, _-_, _*_, _%_, _≤_, _<_}
 use mathlib.Core.Path.{_≡_, refl, sym, ap, ap₂, _∙_, subst}
 use mathlib.Core.Logic.{_≢_, _⊎_, inl, inr, ⊎-elim}
-use mathlib.Core.Bool.{Bool, true, false, not, _&&_, _||_, true≢false, or-false, and-eq-true-iff}
-use mathlib.Core.List.{List, [], _∷_}
+use mathlib.Core.Bool.{Bool, true, false, not, cond, _&&_, _||_, true≢false, and-eq-true-iff}
+use mathlib.Core.List.{List, [], _∷_, _++_}
 use native.Mathlib.Omega.{arith}
 use native.Mathlib.Decide.{decLt, ℕ-discrete}
 use native.Mathlib.Nat.{mul-le-mul, suc-mul}
-use native.Mathlib.Numerals.{add-one}
-use lib.Dec.{ltb, eqb}
+use lib.Dec.{leb, ltb, eqb}
 use lib.ListN.{length, getD, set, replicate, getD-replicate}
 use lib.Seq.{getD-set-same, getD-set-other}
-use borrow.Author.Tests.{lt-ltb, le-ltb, ltb-true, leb-true, le-leb, eqb-true, eqb-false, eq-eqb, ne-eqb, not-true}
+use borrow.Author.Tests.{lt-ltb, le-ltb, ltb-true, leb-true, le-leb, lt-leb, eqb-true, eqb-false, eq-eqb, ne-eqb, not-true, not-false}
 use Rattle.model.specs.declared.Layout.{Layout}
 use Rattle.model.specs.Range.{allB, anyB, orNext, firstB}
-use Rattle.model.specs.Layout.{unpaired, ssInitial, ssBackup, stateLine}
-use Rattle.model.specs.Words.{Image, byteAt}
-use Rattle.model.specs.Status.{Errors, firstError}
-use Rattle.model.specs.Container.{activeLine, segState, backupToMain, Valid, isPaired, validMetadata, pairedBackup, Free, isFree, anyFree}
-use Rattle.model.proofs.Range.{both, or-left, or-right, or-else, all-at, all-from, any-at, any-none, first-none, first-some}
-use Rattle.model.proofs.Metadata.{paired-at, unpaired-none, paired-by, valid-means, valid-test}
+use Rattle.model.specs.declared.Located.{Located}
+use Rattle.model.specs.declared.Located.the-variants.{Nowhere, At}
+use Rattle.model.specs.Layout.{unpaired, ssInitial, ssMain, ssBackup, stateLine, SizesOk, imageSize, segmentSize, mainAt, backupAt}
+use Rattle.model.specs.Words.{Image}
+use Rattle.model.specs.Status.{Errors, firstError, served}
+use Rattle.model.specs.Container.{segState, backupToMain, Valid, isPaired, validMetadata, pairedBackup, Free, isFree, anyFree, byState, checkpointLocated, sizeErrors}
+use Rattle.model.proofs.Range.{both, and-left, and-right, or-left, or-right, or-else, all-at, all-from, any-at, any-none, first-none, first-some}
+use Rattle.model.proofs.Refusals.{Numbered, served-cons, before-refused, after-served}
+use Rattle.model.proofs.Places.{segment-in-image}
+use Rattle.model.proofs.Metadata.{sizes-ok, paired-at, unpaired-none, paired-by, valid-means, valid-test}
 use Rattle.model.proofs.Gather.{all-ext, same-test}
 use Rattle.metadata.specs.declared.PairScan.{PairScan}
-use Rattle.metadata.specs.Scan.{pairFits, stateFits, Scanned, freeBackup, Choice}
+use Rattle.metadata.specs.declared.Examined.{Examined}
+use Rattle.metadata.specs.Scan.{pairFits, slotOf, slotBackup, stateFits, Scanned, ExaminedBy, freeBackup, Choice}
 
 -- ---- the first number
 
@@ -63,6 +68,11 @@ pub is-paired : (l : Layout) (pr : ℕ → ℕ) (i : ℕ) → isPaired l pr i �
 unfolding isPaired pairedBackup
 is-paired l pr i = any-first (l .backups) (λ (j : ℕ). eqb (pr j) i)
 
+pub first-ext : (n : ℕ) (P Q : ℕ → Bool) → ((i : ℕ) → i < n → P i ≡ Q i) → firstB n P ≡ firstB n Q
+unfolding firstB
+first-ext zero P Q h = refl
+first-ext (suc n) P Q h = ap₂ (λ (f : ℕ) (b : Bool). orNext f n b) (first-ext n P Q (λ i l. h i (omega arith))) (h n (omega arith))
+
 -- ---- refusals in a row
 
 -- the first condition holds
@@ -79,6 +89,21 @@ first-fails n r b es e h = rw e h
 pub first-of-none : 0 ≡ firstError []
 unfolding firstError
 first-of-none = refl
+
+-- the first part of a list refuses
+pub part-refused : (n : ℕ) (es fs : Errors) → n ≡ firstError es → served n ≡ false → n ≡ firstError (es ++ fs)
+part-refused n es fs e s = e ∙ sym (before-refused es fs (λ z. eqb-false n 0 s (e ∙ z)))
+
+-- it does not, and the second gives the number
+pub part-served : (n r : ℕ) (es fs : Errors) → Numbered es → n ≡ firstError es → served n ≡ true → r ≡ firstError fs → r ≡ firstError (es ++ fs)
+part-served n r es fs k e s h = h ∙ sym (after-served es fs k (sym e ∙ eqb-true n 0 s))
+
+-- where refusals 1 and 2 do not apply, the sizes are allowed and the image has their length
+pub sized : (l : Layout) (I : Image) (es : Errors) → firstError (sizeErrors l I ++ es) ≡ 0 → SizesOk l × (length I ≡ imageSize l)
+sized l I es h =
+    let a = served-cons 0 _ _ h in
+    let b = served-cons 1 _ _ (a .1) in
+    (sizes-ok l .0 (not-false _ (a .0)), eqb-true _ _ (not-false _ (b .0)))
 
 -- ---- places
 
@@ -98,72 +123,150 @@ next-line e = go (ℕ-discrete (e % 2) 0)
     go (yes h) = omega arith
     go (no h) = omega arith
 
--- ---- the pass over the pairs
+-- ---- slots
 
--- nothing is marked yet
-pub marks-none : (pr : ℕ → ℕ) (mains : ℕ) → mains ≤ 64 → (i : ℕ) → i < mains → getD (replicate 65 false) i false ≡ anyB 0 (λ n. eqb (pr n) i)
-unfolding anyB
-marks-none pr mains m i l = getD-replicate 65 i false false (omega arith)
+slot-test : (mains p i : ℕ) → mains ≤ 64 → i < mains → eqb (slotOf mains p) i ≡ eqb p i
+unfolding slotOf
+slot-test mains p i m l = go (decLt p mains)
+  where
+    go : Dec (p < mains) → eqb (cond (ltb p mains) p 64) i ≡ eqb p i
+    go (yes h) = rw (lt-ltb p mains h)
+    go (no h) = rw (le-ltb p mains (omega arith)) (ne-eqb 64 i (λ e. omega arith) ∙ sym (ne-eqb p i (λ e. omega arith)))
 
--- the mark at a pair's main segment says whether an earlier backup segment has it
-pub pair-by-mark : (marks : List Bool) (pr : ℕ → ℕ) (mains j k : ℕ) (r : Bool) → (pr j < mains → k ≡ pr j)
-    → ((i : ℕ) → i < mains → getD marks i false ≡ anyB j (λ n. eqb (pr n) i))
-    → r ≡ ((ltb (pr j) mains || eqb (pr j) 255) && not (ltb (pr j) mains && getD marks k false)) → r ≡ pairFits pr mains j
+slot-main : (mains p : ℕ) → p < mains → slotOf mains p ≡ p
+unfolding slotOf
+slot-main mains p h = rw (lt-ltb p mains h)
+
+module _ (l : Layout) (pr : ℕ → ℕ) (i : ℕ) (m : l .mains ≤ 64) (b : i < l .mains) where
+  -- the slot of a main segment has its backup segment
+  pub slot-backup : slotBackup pr (l .mains) (l .backups) i ≡ pairedBackup l pr i
+  unfolding slotBackup pairedBackup
+  slot-backup = first-ext (l .backups) _ _ (λ j h. slot-test (l .mains) (pr j) i m b)
+
+  -- and shows whether it is paired
+  pub slot-paired : isPaired l pr i ≡ ltb (slotBackup pr (l .mains) (l .backups) i) (l .backups)
+  slot-paired = is-paired l pr i ∙ ap (λ (n : ℕ). ltb n (l .backups)) (sym slot-backup)
+
+-- ---- the pass over the pairs, downward
+
+-- the numbers from j on of which P holds
+abbrev pub from : ℕ → (ℕ → Bool) → ℕ → Bool
+from j P n = leb j n && P n
+
+-- one number more, of which P does not hold
+from-more : (k n : ℕ) (P : ℕ → Bool) → P k ≡ false → from (suc k) P n ≡ from k P n
+from-more k n P p = go (decLt k n) (ℕ-discrete n k)
+  where
+    go : Dec (k < n) → Dec (n ≡ k) → (leb (suc k) n && P n) ≡ (leb k n && P n)
+    go (yes h) d = rw (le-leb (suc k) n h, le-leb k n (omega arith))
+    go (no h) (yes e) = rw (e, p, lt-leb (suc k) k (omega arith), le-leb k k (omega arith))
+    go (no h) (no e) = rw (lt-leb (suc k) n (omega arith), lt-leb k n (omega arith))
+
+-- the pairs of backup segments from j on that have slot i
+abbrev pub slotted : (ℕ → ℕ) → ℕ → ℕ → ℕ → ℕ → Bool
+slotted pr mains i j = from j (λ (n : ℕ). eqb (slotOf mains (pr n)) i)
+
+-- no slot has a backup segment yet
+pub slots-none : (pr : ℕ → ℕ) (mains backups i : ℕ) → i ≤ 64 → getD (replicate 65 backups) i 0 ≡ firstB backups (slotted pr mains i backups)
+slots-none pr mains backups i l =
+    getD-replicate 65 i backups 0 (omega arith) ∙ sym (first-none backups (slotted pr mains i backups) (λ k h. rw (lt-leb backups k h)))
+
+-- the slots after one more pair
+pub slots-more : (slots : List ℕ) (pr : ℕ → ℕ) (mains backups k s : ℕ) → 65 ≤ length slots → k < backups → s ≡ slotOf mains (pr k)
+    → ((i : ℕ) → i ≤ 64 → getD slots i 0 ≡ firstB backups (slotted pr mains i (suc k)))
+    → (i : ℕ) → i ≤ 64 → getD (set slots s k) i 0 ≡ firstB backups (slotted pr mains i k)
+slots-more slots pr mains backups k s len b e h i l = go (ℕ-discrete i s)
+  where
+    go : Dec (i ≡ s) → getD (set slots s k) i 0 ≡ firstB backups (slotted pr mains i k)
+    go (yes q) =
+        ap (λ (n : ℕ). getD (set slots n k) i 0) (sym q) ∙ getD-set-same slots i k 0 (omega arith)
+        ∙ sym (first-found backups (slotted pr mains i k) k b (λ n h. rw (lt-leb k n h)) (both (le-leb k k (omega arith)) (eq-eqb _ _ (sym (q ∙ e)))))
+    go (no q) =
+        getD-set-other slots s i k 0 q ∙ h i l
+        ∙ first-ext backups _ _ (λ n c. from-more k n (λ (n : ℕ). eqb (slotOf mains (pr n)) i) (ne-eqb _ _ (λ x. q (sym x ∙ sym e))))
+
+-- all backup segments are passed
+pub slots-all : (pr : ℕ → ℕ) (mains backups i : ℕ) → firstB backups (slotted pr mains i 0) ≡ slotBackup pr mains backups i
+unfolding slotBackup
+slots-all pr mains backups i = first-ext backups _ _ (λ n h. rw (le-leb 0 n (omega arith)))
+
+-- the slot of a pair's main segment says whether a later backup segment has it
+pub pair-by-slot : (pr : ℕ → ℕ) (mains backups k later : ℕ) (r : Bool) → mains ≤ 64
+    → later ≡ firstB backups (slotted pr mains (slotOf mains (pr k)) (suc k))
+    → r ≡ ((ltb (pr k) mains || eqb (pr k) 255) && not (ltb (pr k) mains && ltb later backups)) → r ≡ pairFits pr mains backups k
 unfolding pairFits
-pair-by-mark marks pr mains j k r e h q = q ∙ go (decLt (pr j) mains)
+pair-by-slot pr mains backups k later r m h q = q ∙ go (decLt (pr k) mains)
   where
-    go : Dec (pr j < mains) → ((ltb (pr j) mains || eqb (pr j) 255) && not (ltb (pr j) mains && getD marks k false))
-        ≡ ((ltb (pr j) mains || eqb (pr j) 255) && not (ltb (pr j) mains && anyB j (λ n. eqb (pr n) (pr j))))
-    go (yes l) = rw (e l, h (pr j) l)
-    go (no l) = rw (le-ltb (pr j) mains (omega arith))
+    go : Dec (pr k < mains) → ((ltb (pr k) mains || eqb (pr k) 255) && not (ltb (pr k) mains && ltb later backups))
+        ≡ ((ltb (pr k) mains || eqb (pr k) 255) && not (ltb (pr k) mains && anyB backups (λ n. ltb k n && eqb (pr n) (pr k))))
+    go (yes l) =
+        let e : later ≡ firstB backups (λ n. ltb k n && eqb (pr n) (pr k)) =
+        h ∙ ap (λ (s : ℕ). firstB backups (slotted pr mains s (suc k))) (slot-main mains (pr k) l)
+        ∙ first-ext backups _ _ (λ n b. ap (λ (t : Bool). ltb k n && t) (slot-test mains (pr n) (pr k) m l))
+        in
+        ap (λ (t : Bool). (ltb (pr k) mains || eqb (pr k) 255) && not (ltb (pr k) mains && t))
+        (ap (λ (n : ℕ). ltb n backups) e ∙ sym (any-first backups (λ n. ltb k n && eqb (pr n) (pr k))))
+    go (no l) = rw (le-ltb (pr k) mains (omega arith))
 
-pub any-more : (n : ℕ) (P : ℕ → Bool) → anyB (n + 1) P ≡ (anyB n P || P n)
-unfolding anyB
-any-more n P = rw add-one
+-- a test of the numbers from j on: none yet, one more, all
+pub fits-none : (n : ℕ) (F : ℕ → Bool) → true ≡ allB n (λ k. ltb k n || F k)
+fits-none n F = sym (all-from n (λ k. ltb k n || F k) (λ k l. or-left _ (lt-ltb _ _ l)))
 
--- the marks of paired main segments after one more pair
-pub marks-more : (marks : List Bool) (pr : ℕ → ℕ) (mains j k : ℕ) → mains ≤ 64 → 64 ≤ length marks → (pr j < mains → k ≡ pr j) → (mains ≤ pr j → k ≡ 64)
-    → ((i : ℕ) → i < mains → getD marks i false ≡ anyB j (λ n. eqb (pr n) i))
-    → (i : ℕ) → i < mains → getD (set marks k true) i false ≡ anyB (j + 1) (λ n. eqb (pr n) i)
-marks-more marks pr mains j k m len e f h i l = go (decLt (pr j) mains) (ℕ-discrete i (pr j)) ∙ sym (any-more j (λ n. eqb (pr n) i))
+pub fits-more : (n k : ℕ) (F : ℕ → Bool) (a b : Bool) → k < n → a ≡ allB n (λ i. ltb i (suc k) || F i) → b ≡ F k → (a && b) ≡ allB n (λ i. ltb i k || F i)
+fits-more n k F a b l p q = same-test _ _ (λ h. there (and-left a b h) (and-right a b h)) (λ h. both (p ∙ back h) (q ∙ here h))
   where
-    other : k ≢ i → pr j ≢ i → getD (set marks k true) i false ≡ (anyB j (λ n. eqb (pr n) i) || eqb (pr j) i)
-    other q w =
-        getD-set-other marks k i true false (λ x. q (sym x)) ∙ h i l
-        ∙ sym (ap (λ (x : Bool). anyB j (λ n. eqb (pr n) i) || x) (ne-eqb (pr j) i w) ∙ or-false _)
+    there : a ≡ true → b ≡ true → allB n (λ i. ltb i k || F i) ≡ true
+    there x y = all-from n (λ i. ltb i k || F i) (λ i c. go i c (decLt i k) (ℕ-discrete i k))
+      where
+        go : (i : ℕ) → i < n → Dec (i < k) → Dec (i ≡ k) → (ltb i k || F i) ≡ true
+        go i c (yes d) f = or-left _ (lt-ltb _ _ d)
+        go i c (no d) (yes f) = or-right (ltb i k) (ap F f ∙ sym q ∙ y)
+        go i c (no d) (no f) = or-right (ltb i k) (or-else (ltb i (suc k)) (F i) (all-at n (λ i. ltb i (suc k) || F i) (sym p ∙ x) i c) (le-ltb i (suc k) (omega arith)))
 
-    go : Dec (pr j < mains) → Dec (i ≡ pr j) → getD (set marks k true) i false ≡ (anyB j (λ n. eqb (pr n) i) || eqb (pr j) i)
-    go (yes q) (yes w) =
-        let p : k ≡ i = e q ∙ sym w in
-        rw p (getD-set-same marks i true false (omega arith) ∙ sym (or-right (anyB j (λ n. eqb (pr n) i)) (eq-eqb (pr j) i (sym w))))
-    go (yes q) (no w) = other (λ x. w (sym x ∙ e q)) (λ x. w (sym x))
-    go (no q) d = let p : k ≡ 64 = f (omega arith) in other (λ x. omega arith) (λ x. omega arith)
+    back : allB n (λ i. ltb i k || F i) ≡ true → allB n (λ i. ltb i (suc k) || F i) ≡ true
+    back h = all-from n (λ i. ltb i (suc k) || F i) (λ i c. go i c (decLt i (suc k)))
+      where
+        go : (i : ℕ) → i < n → Dec (i < suc k) → (ltb i (suc k) || F i) ≡ true
+        go i c (yes d) = or-left _ (lt-ltb _ _ d)
+        go i c (no d) = or-right (ltb i (suc k)) (or-else (ltb i k) (F i) (all-at n (λ i. ltb i k || F i) h i c) (le-ltb i k (omega arith)))
+
+    here : allB n (λ i. ltb i k || F i) ≡ true → F k ≡ true
+    here h = or-else (ltb k k) (F k) (all-at n (λ i. ltb i k || F i) h k l) (le-ltb k k (omega arith))
+
+pub fits-all : (n : ℕ) (F : ℕ → Bool) → allB n (λ k. ltb k 0 || F k) ≡ allB n F
+fits-all n F = all-ext n _ _ (λ k l. rw (le-ltb k 0 (omega arith)))
 
 -- ---- the tests of the pass
 
-module _ (pr : ℕ → ℕ) (mains j : ℕ) where
+module _ (pr : ℕ → ℕ) (mains backups j : ℕ) where
   abbrev Fits : Type 0
-  Fits = ((pr j ≡ unpaired) ⊎ (pr j < mains)) × (pr j < mains → (k : ℕ) → k < j → pr k ≢ pr j)
+  Fits = ((pr j ≡ unpaired) ⊎ (pr j < mains)) × (pr j < mains → (k : ℕ) → j < k → k < backups → pr k ≢ pr j)
 
-  pair-fits : pairFits pr mains j ≡ true → Fits
+  abbrev later : ℕ → Bool
+  later k = ltb j k && eqb (pr k) (pr j)
+
+  pair-fits : pairFits pr mains backups j ≡ true → Fits
   unfolding pairFits
   pair-fits h =
       let k = simp and-eq-true-iff at h in (
         choice (ltb (pr j) mains) refl (k .0),
-        λ m n b e. true≢false (sym (both (lt-ltb _ _ m) (any-at j (λ k. eqb (pr k) (pr j)) n b (eq-eqb _ _ e))) ∙ not-true _ (k .1)),
+        λ m n a b e. true≢false (sym (both (lt-ltb _ _ m) (any-at backups later n b (both (lt-ltb _ _ a) (eq-eqb _ _ e)))) ∙ not-true _ (k .1)),
       )
     where
       choice : (a : Bool) → ltb (pr j) mains ≡ a → (a || eqb (pr j) unpaired) ≡ true → (pr j ≡ unpaired) ⊎ (pr j < mains)
       choice true e t = inr (ltb-true _ _ e)
       choice false e t = inl (eqb-true _ _ t)
 
-  fits-pair : Fits → pairFits pr mains j ≡ true
+  fits-pair : Fits → pairFits pr mains backups j ≡ true
   unfolding pairFits
   fits-pair r =
-      both (⊎-elim (λ e. or-right (ltb (pr j) mains) (eq-eqb _ _ e)) (λ m. or-left _ (lt-ltb _ _ m)) (r .0)) (go (ltb (pr j) mains) (anyB j (λ k. eqb (pr k) (pr j))) refl refl)
+      both (⊎-elim (λ e. or-right (ltb (pr j) mains) (eq-eqb _ _ e)) (λ m. or-left _ (lt-ltb _ _ m)) (r .0)) (go (ltb (pr j) mains) (anyB backups later) refl refl)
     where
-      go : (a b : Bool) → ltb (pr j) mains ≡ a → anyB j (λ k. eqb (pr k) (pr j)) ≡ b → not (a && b) ≡ true
-      go true true e f = let s = first-some j (λ k. eqb (pr k) (pr j)) f in absurd (r .1 (ltb-true _ _ e) _ (s .0) (eqb-true _ _ (s .1)))
+      go : (a b : Bool) → ltb (pr j) mains ≡ a → anyB backups later ≡ b → not (a && b) ≡ true
+      go true true e f =
+          let s = first-some backups later f in
+          let n = firstB backups later in
+          absurd (r .1 (ltb-true _ _ e) n (ltb-true _ _ (and-left (ltb j n) (eqb (pr n) (pr j)) (s .1))) (s .0) (eqb-true _ _ (and-right (ltb j n) (eqb (pr n) (pr j)) (s .1))))
       go true false e f = refl
       go false b e f = refl
 
@@ -188,7 +291,7 @@ restIs n v f = allB 64 (λ (i : ℕ). ltb i n || eqb (f i) v)
 module _ (l : Layout) (st pr : ℕ → ℕ) where
   abbrev pub scanned : Bool
   scanned =
-      (allB (l .backups) (pairFits pr (l .mains)) && restIs (l .backups) unpaired pr)
+      (allB (l .backups) (pairFits pr (l .mains) (l .backups)) && restIs (l .backups) unpaired pr)
       && (allB (l .mains) (λ (i : ℕ). stateFits (isPaired l pr i) (st i)) && restIs (l .mains) ssInitial st)
 
   rest-at : (n v : ℕ) (f : ℕ → ℕ) → restIs n v f ≡ true → (i : ℕ) → n ≤ i → i < 64 → f i ≡ v
@@ -218,13 +321,13 @@ module _ (l : Layout) (st pr : ℕ → ℕ) where
           → (st i ≤ ssBackup) × (isPaired l pr i ≡ false → st i ≢ ssBackup) × (isPaired l pr i ≡ true → st i ≢ ssInitial)
       state h i b = state-fits _ _ (all-at (l .mains) (λ (i : ℕ). stateFits (isPaired l pr i) (st i)) h i b)
 
-      pair : allB (l .backups) (pairFits pr (l .mains)) ≡ true → (j : ℕ) → j < l .backups → Fits pr (l .mains) j
-      pair h j b = pair-fits pr (l .mains) j (all-at (l .backups) _ h j b)
+      pair : allB (l .backups) (pairFits pr (l .mains) (l .backups)) ≡ true → (j : ℕ) → j < l .backups → Fits pr (l .mains) (l .backups) j
+      pair h j b = pair-fits pr (l .mains) (l .backups) j (all-at (l .backups) _ h j b)
 
-      once : allB (l .backups) (pairFits pr (l .mains)) ≡ true → (i j : ℕ) → i < l .backups → j < l .backups → pr i < l .mains → pr i ≡ pr j
+      once : allB (l .backups) (pairFits pr (l .mains) (l .backups)) ≡ true → (i j : ℕ) → i < l .backups → j < l .backups → pr i < l .mains → pr i ≡ pr j
           → Dec (i < j) → Dec (j < i) → i ≡ j
-      once h i j a b m e (yes c) d = absurd (pair h j b .1 (omega arith) i c e)
-      once h i j a b m e (no c) (yes d) = absurd (pair h i a .1 m j d (sym e))
+      once h i j a b m e (yes c) d = absurd (pair h i a .1 m j c b (sym e))
+      once h i j a b m e (no c) (yes d) = absurd (pair h j b .1 (omega arith) i d a e)
       once h i j a b m e (no c) (no d) = omega arith
 
       kept : (i : ℕ) (a : Bool) → isPaired l pr i ≡ a → (isPaired l pr i ≡ false → ⊥) → (j : ℕ) × (j < l .backups) × (pr j ≡ i)
@@ -234,11 +337,11 @@ module _ (l : Layout) (st pr : ℕ → ℕ) where
   scan-test : Valid l st pr → scanned ≡ true
   scan-test v =
       both
-      (both (all-from (l .backups) _ (λ j b. fits-pair pr (l .mains) j (v .pairs j b, λ m k c e. once j b k c e m))) (rest-from (l .backups) unpaired pr (v .pairsRest)))
+      (both (all-from (l .backups) _ (λ j b. fits-pair pr (l .mains) (l .backups) j (v .pairs j b, λ m k c d e. once j b k c d e m))) (rest-from (l .backups) unpaired pr (v .pairsRest)))
       (both (all-from (l .mains) _ (λ i b. fits-state _ _ (v .states i b) (λ n e. kept i b n e) (λ p e. bare i b p e))) (rest-from (l .mains) ssInitial st (v .statesRest)))
     where
-      once : (j : ℕ) → j < l .backups → (k : ℕ) → k < j → pr k ≡ pr j → pr j < l .mains → ⊥
-      once j b k c e m = let q : k ≡ j = v .once k j (omega arith) b (omega arith) e in omega arith
+      once : (j : ℕ) → j < l .backups → (k : ℕ) → j < k → k < l .backups → pr k ≡ pr j → pr j < l .mains → ⊥
+      once j b k c d e m = let q : j ≡ k = v .once j k b d m (sym e) in omega arith
 
       kept : (i : ℕ) → i < l .mains → isPaired l pr i ≡ false → st i ≡ ssBackup → ⊥
       kept i b n e = let p = v .kept i b e in unpaired-none l pr i n (p .0) (p .1) (p .2)
@@ -257,6 +360,10 @@ module _ (l : Layout) (st pr : ℕ → ℕ) where
 
   abbrev pub alone : ℕ
   alone = pairedBackup l pr unpaired
+
+  -- where none is unpaired, each has a main segment
+  pub none-alone : Valid l st pr → l .backups ≤ alone → (j : ℕ) → j < l .backups → pr j < l .mains
+  none-alone v b j h = ⊎-elim (λ e. absurd (unpaired-none l pr unpaired (is-paired l pr unpaired ∙ le-ltb _ _ b) j h e)) (λ m. m) (v .pairs j h)
 
   pub free-alone : alone < l .backups → freeBackup l st pr ≡ alone
   unfolding freeBackup
@@ -311,14 +418,60 @@ module _ (l : Layout) (st pr : ℕ → ℕ) where
   }
 
 -- validity by what the code finds
-pub valid-by-scan : (l : Layout) (I : Image) (line : ℕ) (r : PairScan) (a b c : Bool) → line ≡ activeLine I
-    → Scanned (backupToMain I) (l .mains) (l .backups) r
-    → a ≡ restIs (l .backups) unpaired (backupToMain I)
-    → b ≡ allB (l .mains) (λ (i : ℕ). stateFits (getD (r .paired) i false) (byteAt I (line + i)))
-    → c ≡ restIs (l .mains) ssInitial (segState I line)
-    → ((r .ok && a) && (b && c)) ≡ validMetadata l (segState I (activeLine I)) (backupToMain I)
-unfolding isPaired
-valid-by-scan l I line r a b c at s p q t =
-    ap₂ _&&_ (ap₂ _&&_ (s .fits) p)
-    (ap₂ _&&_ (q ∙ all-ext (l .mains) _ _ (λ i h. ap₂ stateFits (s .found i h) (ap (λ (n : ℕ). byteAt I (n + i)) at))) (t ∙ ap (λ (n : ℕ). restIs (l .mains) ssInitial (segState I n)) at))
-    ∙ scan-valid l (segState I (activeLine I)) (backupToMain I)
+pub valid-by-scan : (l : Layout) (st pr : ℕ → ℕ) (r : PairScan) (a b c : Bool) → l .mains ≤ 64
+    → Scanned pr (l .mains) (l .backups) r
+    → a ≡ restIs (l .backups) unpaired pr
+    → b ≡ allB (l .mains) (λ (i : ℕ). stateFits (ltb (getD (r .backup) i 0) (l .backups)) (st i))
+    → c ≡ restIs (l .mains) ssInitial st
+    → ((r .ok && a) && (b && c)) ≡ validMetadata l st pr
+valid-by-scan l st pr r a b c m s p q t =
+    ap₂ _&&_ (ap₂ _&&_ (s .fits) p) (ap₂ _&&_ (q ∙ all-ext (l .mains) _ _ (λ i h. ap (λ (x : Bool). stateFits x (st i)) (paired i h))) t) ∙ scan-valid l st pr
+  where
+    paired : (i : ℕ) → i < l .mains → ltb (getD (r .backup) i 0) (l .backups) ≡ isPaired l pr i
+    paired i h = ap (λ (n : ℕ). ltb n (l .backups)) (s .found i (omega arith)) ∙ sym (slot-paired l pr i m h)
+
+-- what the pass over states and pairs found of main segment i
+module _ (l : Layout) (st pr : ℕ → ℕ) (r : Examined) (x : ExaminedBy l st pr r) (m : l .mains ≤ 64) (i : ℕ) (b : i < l .mains) where
+  pub found-backup : getD (r .backup) i 0 ≡ pairedBackup l pr i
+  found-backup = x .found i (omega arith) ∙ slot-backup l pr i m b
+
+  pub found-paired : ltb (getD (r .backup) i 0) (l .backups) ≡ isPaired l pr i
+  found-paired = ap (λ (n : ℕ). ltb n (l .backups)) (x .found i (omega arith)) ∙ sym (slot-paired l pr i m b)
+
+-- ---- where the checkpoint stands
+
+-- a segment that starts there ends inside the image
+abbrev pub Inside : Layout → Image → Located → Type 0
+Inside l I Nowhere = Unit {0}
+Inside l I (At p) = p + segmentSize l ≤ length I
+
+module _ (l : Layout) (I : Image) (line i : ℕ) where
+  -- by the state of the main segment
+  pub located-nowhere : segState I line i ≡ ssInitial → Nowhere ≡ checkpointLocated l I line i
+  unfolding checkpointLocated byState
+  located-nowhere h = rw h
+
+  pub located-main : segState I line i ≡ ssMain → At (mainAt l i) ≡ checkpointLocated l I line i
+  unfolding checkpointLocated byState
+  located-main h = rw h
+
+  pub located-backup : segState I line i ≡ ssBackup → At (backupAt l (pairedBackup l (backupToMain I) i)) ≡ checkpointLocated l I line i
+  unfolding checkpointLocated byState
+  located-backup h = rw h
+
+  module _ (v : Valid l (segState I line) (backupToMain I)) (b : i < l .mains) where
+    -- a main segment in state 2 has a backup segment
+    pub backup-there : segState I line i ≡ ssBackup → pairedBackup l (backupToMain I) i < l .backups
+    backup-there h = let k = v .kept i b h in paired-at l (backupToMain I) i (paired-by l (backupToMain I) i (k .0) (k .1) (k .2)) .0
+
+    -- a checkpoint that stands somewhere stands inside the image
+    pub located-inside : length I ≡ imageSize l → Inside l I (checkpointLocated l I line i)
+    located-inside e = go (segState I line i) refl (v .states i b)
+      where
+        go : (s : ℕ) → segState I line i ≡ s → s ≤ ssBackup → Inside l I (checkpointLocated l I line i)
+        go zero q k = subst (Inside l I) (located-nowhere q) tt
+        go (suc zero) q k = subst (Inside l I) (located-main q) (omega (arith, segment-in-image l i (omega arith)))
+        go (suc (suc zero)) q k =
+            subst (Inside l I) (located-backup q)
+            (omega (arith, segment-in-image l (l .mains + pairedBackup l (backupToMain I) i) (omega (arith, backup-there q))))
+        go (suc (suc (suc s))) q k = let z : ⊥ = omega arith in absurd z

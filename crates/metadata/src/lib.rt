@@ -1,17 +1,22 @@
-// The metadata of an image: refusals 1 to 4, the active line of states, the backup segment of a main segment, a free
-// backup segment, and the places of segments.
+// The metadata of an image: the places of segments and lines, refusals 1 to 4, the backup segment of a main segment, where
+// its checkpoint stands, and a free backup segment.
 use model::Layout;
+use model::Located;
+use model::Status;
 ghost use mathlib.Core.Path.{_≡_};
-ghost use mathlib.Core.Bool.{false, not, _&&_, _||_};
-ghost use Prim.Native.Nat.{_+_, _*_, _≤_, _<_};
+ghost use mathlib.Core.Bool.{cond, not, _&&_, _||_};
+ghost use Prim.Native.Nat.{ℕ, _+_, _*_, _≤_, _<_};
 ghost use lib.Dec.{eqb, ltb};
 ghost use lib.ListN.{length, getD};
 ghost use Rattle.model.specs.Range.{allB, firstB};
 ghost use Rattle.model.specs.Words.{byteAt};
-ghost use Rattle.model.specs.Status.{firstError};
-ghost use Rattle.model.specs.Layout.{inRange, sizesOk, imageSize, segmentAt, mainAt, backupAt};
-ghost use Rattle.model.specs.Container.{activeLine, inactiveLine, segState, backupToMain, validMetadata, headerOk, containerErrors, pairedBackup};
-ghost use Rattle.metadata.specs.Scan.{stateFits, Scanned, Choice};
+ghost use Rattle.model.specs.Status.{codeOf, firstError};
+ghost use Rattle.model.specs.Layout.{SizesOk, inRange, sizesOk, imageSize, segmentAt, mainAt, backupAt};
+ghost use Rattle.model.specs.Container.{activeLine, inactiveLine, activeState, segState, backupToMain, Valid, headerOk, sizeErrors, layoutErrors, containerErrors, pairedBackup, checkpointLocated};
+ghost use Rattle.metadata.specs.Scan.{slotOf, stateFits, Scanned, ExaminedBy, Choice};
+
+// The slots that the pass over the pairs fills: one for each main segment, and the last for pairs that name none.
+pub const SLOTS: usize = Layout::MOST as usize + 1;
 
 // The most main segments or backup segments, the byte of an unpaired backup segment, and the states, as the code compares them.
 const MOST: usize = Layout::MOST as usize;
@@ -50,13 +55,23 @@ pub fn backup_at(layout: Layout, j: u64) -> usize
     segment_at(layout, layout.mains + j)
 }
 
-// The bytes of an image.
-pub fn image_size(layout: Layout) -> usize
+// The bytes of an image whose sizes are at most 64.
+pub fn allowed_image_size(layout: Layout) -> usize
     requires { ⌜ (layout .mains ≤ 64) × (layout .backups ≤ 64) × (layout .blocks ≤ 64) ⌝ }
     ensures { λ r. ⌜ (r ≡ imageSize layout) × (512 ≤ r) × (r ≤ 2097664) ⌝ }
 {
     (Layout::METADATA_SIZE
         + Layout::BLOCK_SIZE * layout.blocks * (layout.mains + layout.backups)) as usize
+}
+
+// The bytes of an image, or 0 where a size is not 1 to 64.
+pub fn image_size(layout: Layout) -> usize
+    ensures { λ r. ⌜ (r ≡ cond (sizesOk layout) (imageSize layout) 0) × (r ≤ 2097664) ⌝ }
+{
+    if !sizes_ok(layout) {
+        return 0;
+    }
+    allowed_image_size(layout)
 }
 
 // Where the line of states stands that the epoch's parity picks.
@@ -93,11 +108,11 @@ pub fn rest_is(image: &[u8], line: usize, n: usize, value: u8) -> bool
     ok
 }
 
-// What the pass over the pairs finds: whether they fit, and for each main segment whether it is paired. The last mark is
-// for pairs that name no main segment.
+// What the pass over the pairs finds: whether they fit, and for each slot the lowest backup segment that has it, or the
+// number of backup segments where none has it.
 pub struct PairScan {
     pub ok: bool,
-    pub paired: [bool; 65],
+    pub backup: [u8; SLOTS],
 }
 
 // A byte as a number.
@@ -107,17 +122,17 @@ pub fn wide(byte: u8) -> u64
     byte as u64
 }
 
-// Whether a pair byte may stand, given whether an earlier backup segment has the same main segment.
+// Whether a pair byte may stand, given whether a later backup segment has the same main segment.
 pub fn pair_fits(pair: u8, mains: u64, taken: bool) -> bool
     ensures { λ r. ⌜ r ≡ ((ltb pair mains || eqb pair 255) && not (ltb pair mains && taken)) ⌝ }
 {
     ((wide(pair) < mains) | (pair == UNPAIRED)) & !((wide(pair) < mains) & taken)
 }
 
-// The place of the mark of the main segment that a pair byte names, or of the last mark.
-pub fn mark_of(pair: u8, mains: u64) -> usize
+// The slot of a pair byte: the main segment that it names, or the last.
+pub fn slot_of(pair: u8, mains: u64) -> usize
     requires { ⌜ mains ≤ 64 ⌝ }
-    ensures { λ r. ⌜ (r ≤ 64) × (pair < mains → r ≡ pair) × (mains ≤ pair → r ≡ 64) ⌝ }
+    ensures { λ r. ⌜ (r ≡ slotOf mains pair) × (r ≤ 64) ⌝ }
 {
     if wide(pair) < mains {
         pair as usize
@@ -126,23 +141,24 @@ pub fn mark_of(pair: u8, mains: u64) -> usize
     }
 }
 
-// The pass over the pairs of backup segments.
+// The pass over the pairs of backup segments, downward, so that the lowest stays.
 pub fn scan_pairs(image: &[u8], mains: u64, backups: usize) -> PairScan
     requires { ⌜ (mains ≤ 64) × (backups ≤ 64) × (320 ≤ length (now image)) ⌝ }
     ensures { λ r. ⌜ Scanned (backupToMain (now (image .entry))) mains backups r ⌝ }
 {
+    let none = backups as u8;
     let mut scan = PairScan {
         ok: true,
-        paired: [false; 65],
+        backup: [none; SLOTS],
     };
-    let mut j = 0;
-    while j < backups {
+    let mut j = backups;
+    while 0 < j {
+        j -= 1;
         let pair = image[Layout::PAIRS_AT as usize + j];
-        let i = mark_of(pair, mains);
-        let taken = scan.paired[i];
-        scan.ok = scan.ok & pair_fits(pair, mains, taken);
-        scan.paired[i] = true;
-        j += 1;
+        let i = slot_of(pair, mains);
+        let later = scan.backup[i];
+        scan.ok = scan.ok & pair_fits(pair, mains, later < none);
+        scan.backup[i] = j as u8;
     }
     scan
 }
@@ -158,33 +174,48 @@ pub fn state_fits(state: u8, paired: bool) -> bool
     }
 }
 
-// Whether the states of main segments fit their pairs.
-pub fn states_fit(image: &[u8], line: usize, mains: usize, paired: &[bool; 65]) -> bool
+// Whether the states of main segments fit their pairs, given what the pass over the pairs of so many backup segments found.
+pub fn states_fit(
+    image: &[u8],
+    line: usize,
+    mains: usize,
+    backup: &[u8; SLOTS],
+    backups: u8,
+) -> bool
     requires { ⌜ (mains ≤ 64) × (line + 64 ≤ length (now image)) ⌝ }
-    ensures { λ r. ⌜ r ≡ allB mains (λ i. stateFits (getD (now (paired .entry)) i false) (byteAt (now (image .entry)) (line + i))) ⌝ }
+    ensures { λ r. ⌜ r ≡ allB mains (λ i. stateFits (ltb (getD (now (backup .entry)) i 0) backups) (byteAt (now (image .entry)) (line + i))) ⌝ }
 {
     let mut ok = true;
     let mut i = 0;
     while i < mains {
-        ok = ok & state_fits(image[line + i], paired[i]);
+        ok = ok & state_fits(image[line + i], backup[i] < backups);
         i += 1;
     }
     ok
 }
 
-// Whether the metadata is valid by the active line of states.
-pub fn metadata_valid(image: &[u8], layout: Layout) -> bool
-    requires { ⌜ (layout .mains ≤ 64) × (layout .backups ≤ 64) × (320 ≤ length (now image)) ⌝ }
-    ensures { λ r. ⌜ r ≡ validMetadata layout (segState (now (image .entry)) (activeLine (now (image .entry)))) (backupToMain (now (image .entry))) ⌝ }
+// What one pass over states and pairs finds: whether the metadata is valid, and the slots of the pairs.
+pub struct Examined {
+    pub valid: bool,
+    pub backup: [u8; SLOTS],
+}
+
+// The pass over a line of states and the pairs.
+pub fn examine(image: &[u8], layout: Layout, line: usize) -> Examined
+    requires { ⌜ (layout .mains ≤ 64) × (layout .backups ≤ 64) × (320 ≤ length (now image)) × (line + 64 ≤ length (now image)) ⌝ }
+    ensures { λ r. ⌜ ExaminedBy layout (segState (now (image .entry)) line) (backupToMain (now (image .entry))) r ⌝ }
 {
     let mains = layout.mains as usize;
     let backups = layout.backups as usize;
-    let line = active_at(image);
     let scan = scan_pairs(image, layout.mains, backups);
+    let backup = scan.backup;
     let pairs_ok = scan.ok & rest_is(image, Layout::PAIRS_AT as usize, backups, UNPAIRED);
-    let states_ok = states_fit(image, line, mains, &scan.paired)
+    let states_ok = states_fit(image, line, mains, &backup, layout.backups as u8)
         & rest_is(image, line, mains, SS_INITIAL);
-    pairs_ok & states_ok
+    Examined {
+        valid: pairs_ok & states_ok,
+        backup: backup,
+    }
 }
 
 // ---- refusals 1 to 4
@@ -214,23 +245,46 @@ pub fn header_ok(image: &[u8], layout: Layout) -> bool
     (mains == layout.mains) & (backups == layout.backups) & (blocks == layout.blocks)
 }
 
-// The number of the first of refusals 1 to 4 that applies, or 0.
-pub fn container_status(image: &[u8], layout: Layout) -> u64
-    ensures { λ r. ⌜ r ≡ firstError (containerErrors layout (now (image .entry))) ⌝ }
+// The first of refusals 1 and 2 that applies.
+pub fn size_status(image: &[u8], layout: Layout) -> Status
+    ensures { λ r. ⌜ codeOf r ≡ firstError (sizeErrors layout (now (image .entry))) ⌝ }
 {
     if !sizes_ok(layout) {
-        return 1;
+        return Status::BadSize;
     }
-    if image.len() != image_size(layout) {
-        return 2;
+    if image.len() != allowed_image_size(layout) {
+        return Status::BadLength;
+    }
+    Status::Served
+}
+
+// The first of refusals 1 to 3 that applies.
+pub fn layout_status(image: &[u8], layout: Layout) -> Status
+    ensures { λ r. ⌜ codeOf r ≡ firstError (layoutErrors layout (now (image .entry))) ⌝ }
+{
+    let status = size_status(image, layout);
+    if !status.is_served() {
+        return status;
     }
     if !header_ok(image, layout) {
-        return 3;
+        return Status::Foreign;
     }
-    if !metadata_valid(image, layout) {
-        return 4;
+    Status::Served
+}
+
+// The first of refusals 1 to 4 that applies.
+pub fn container_status(image: &[u8], layout: Layout) -> Status
+    ensures { λ r. ⌜ codeOf r ≡ firstError (containerErrors layout (now (image .entry))) ⌝ }
+{
+    let status = layout_status(image, layout);
+    if !status.is_served() {
+        return status;
     }
-    0
+    let found = examine(image, layout, active_at(image));
+    if !found.valid {
+        return Status::Invalid;
+    }
+    Status::Served
 }
 
 // ---- backup segments
@@ -251,17 +305,36 @@ pub fn find_paired_backup(image: &[u8], layout: Layout, main: u64) -> u64
     backups
 }
 
-// The state on a line of states at the main segment that a pair byte names.
+// Where the checkpoint of a main segment stands, by a line of states and pairs that are valid.
+pub fn checkpoint_located(image: &[u8], layout: Layout, line: usize, main: u64) -> Located
+    requires { ⌜ (main < layout .mains) × SizesOk layout × (320 ≤ length (now image)) × (line + 64 ≤ length (now image)) ⌝ }
+    requires { ⌜ Valid layout (segState (now image) line) (backupToMain (now image)) ⌝ }
+    ensures { λ r. ⌜ r ≡ checkpointLocated layout (now (image .entry)) line main ⌝ }
+{
+    let state = image[line + main as usize];
+    if state == SS_INITIAL {
+        return Located::Nowhere;
+    }
+    if state == SS_MAIN {
+        return Located::At(main_at(layout, main) as u64);
+    }
+    let backup = find_paired_backup(image, layout, main);
+    Located::At(backup_at(layout, backup) as u64)
+}
+
+// The state on a line of states of the main segment that a pair byte names.
 pub fn paired_state(image: &[u8], line: usize, pair: u8) -> u8
-    requires { ⌜ (line ≤ 192) × (448 ≤ length (now image)) ⌝ }
+    requires { ⌜ (pair < 64) × (line + 64 ≤ length (now image)) ⌝ }
     ensures { λ r. ⌜ r ≡ segState (now (image .entry)) line pair ⌝ }
 {
     image[line + pair as usize]
 }
 
-// The lowest backup segment whose main segment is not in state 2, or the number of backup segments where there is none.
+// Of backup segments that all have a main segment, the lowest whose main segment is not in state 2, or the number of backup
+// segments where there is none.
 pub fn find_unused_backup(image: &[u8], layout: Layout, line: usize) -> u64
-    requires { ⌜ (layout .backups ≤ 64) × (line ≤ 192) × (448 ≤ length (now image)) ⌝ }
+    requires { ⌜ (layout .backups ≤ 64) × (320 ≤ length (now image)) × (line + 64 ≤ length (now image)) ⌝ }
+    requires { ⌜ ((j : ℕ) → j < layout .backups → backupToMain (now image) j < 64) ⌝ }
     ensures { λ r. ⌜ r ≡ firstB (layout .backups) (λ j. not (eqb (segState (now (image .entry)) line (backupToMain (now (image .entry)) j)) 2)) ⌝ }
     ensures { λ r. ⌜ r ≤ layout .backups ⌝ }
 {
@@ -276,15 +349,16 @@ pub fn find_unused_backup(image: &[u8], layout: Layout, line: usize) -> u64
     backups
 }
 
-// A free backup segment by this line of states: the lowest that is unpaired, else the lowest whose main segment is not in
-// state 2, else the number of backup segments.
-pub fn find_free_backup(image: &[u8], layout: Layout, active: usize) -> u64
-    requires { ⌜ (layout .backups ≤ 64) × (active ≤ 192) × (448 ≤ length (now image)) ⌝ }
-    ensures { λ r. ⌜ Choice layout (segState (now (image .entry)) active) (backupToMain (now (image .entry))) r ⌝ }
+// A free backup segment by the active line of states: the lowest that is unpaired, else the lowest whose main segment is not
+// in state 2, else the number of backup segments.
+pub fn find_free_backup(image: &[u8], layout: Layout) -> u64
+    requires { ⌜ (layout .mains ≤ 64) × (layout .backups ≤ 64) × (320 ≤ length (now image)) ⌝ }
+    requires { ⌜ Valid layout (activeState (now image)) (backupToMain (now image)) ⌝ }
+    ensures { λ r. ⌜ Choice layout (activeState (now (image .entry))) (backupToMain (now (image .entry))) r ⌝ }
 {
     let alone = find_paired_backup(image, layout, Layout::UNPAIRED);
     if alone < layout.backups {
         return alone;
     }
-    find_unused_backup(image, layout, active)
+    find_unused_backup(image, layout, active_at(image))
 }

@@ -28,7 +28,9 @@ shared-slice-read-paired-state : tie.Need-shared-slice-read-paired-state Inv-loo
 shared-slice-read-paired-state c = search needs
 
 paired-state-requires : tie.Need-paired-state-requires Inv-loop μ-loop
-paired-state-requires c κs = search needs
+paired-state-requires c κs =
+    let b = c .before .before in
+    omega (arith, b .before .before .pre .1 (b .loop .j) (omega arith))
 
 returns : tie.Need-returns Inv-loop μ-loop
 returns c =

@@ -1,7 +1,7 @@
 use Prim.Native.Nat.{_+_, _-_, _≤_}
-use mathlib.Core.Bool.{false}
 use mathlib.Core.Path.{_≡_}
 use native.Mathlib.Omega.{arith}
+use lib.Dec.{ltb}
 use lib.ListN.{getD}
 use borrow.Author.Needs.{needs}
 use Rattle.model.proofs.Gather.{all-none, all-more}
@@ -11,10 +11,11 @@ use Rattle.metadata.proofs.states_fit.Statement.{statement}
 use Rattle.metadata.proofs.states_fit.Tie as tie
 
 abbrev Inv-loop : tie.InvT-loop
-Inv-loop image line mains paired ok₀ i₀ ok i = (i ≤ mains) × (ok ≡ allB i (λ k. stateFits (getD paired k false) (getD image (line + k) 0)))
+Inv-loop image line mains backup backups ok₀ i₀ ok i =
+    (i ≤ mains) × (ok ≡ allB i (λ k. stateFits (ltb (getD backup k 0) backups) (getD image (line + k) 0)))
 
 abbrev μ-loop : tie.MeasureT-loop
-μ-loop image line mains paired ok₀ i₀ ok i = mains - i
+μ-loop image line mains backup backups ok₀ i₀ ok i = mains - i
 
 loop-holds : tie.Need-loop-holds Inv-loop μ-loop
 loop-holds c = (search needs, all-none _)
@@ -44,17 +45,4 @@ returns : tie.Need-returns Inv-loop μ-loop
 returns c = let e : c .before .loop .i ≡ c .before .before .before .args .mains = omega arith in rw e at (c .before .loop .inv .1)
 
 pub states-fit-spec : {M : Type 1} → statement M
-states-fit-spec =
-    tie.close
-    (tie.spec
-    Inv-loop
-    μ-loop
-    loop-holds
-    add-state-fits
-    shared-slice-read-state-fits
-    element-copy-out-state-fits
-    state-fits-requires
-    add-i
-    loop-less
-    loop-again
-    returns)
+states-fit-spec = tie.close (tie.spec Inv-loop μ-loop loop-holds add-state-fits shared-slice-read-state-fits element-copy-out-state-fits state-fits-requires add-i loop-less loop-again returns)

@@ -1,0 +1,48 @@
+use Prim.Native.Nat.{ℕ}
+use mathlib.Core.Path.{_≡_, _∙_, ap}
+use native.Mathlib.Omega.{arith}
+use borrow.Author.Needs.{needs}
+use Rattle.model.specs.declared.Located.the-variants.{At}
+use Rattle.model.specs.Layout.{backupAt}
+use Rattle.model.specs.Container.{segState}
+use Rattle.metadata.proofs.Laws.{located-nowhere, located-main, located-backup, backup-there}
+use Rattle.metadata.proofs.checkpoint_located.Statement.{statement}
+use Rattle.metadata.proofs.checkpoint_located.Tie as tie
+
+add-state : tie.Need-add-state
+add-state c = search needs
+
+shared-slice-read-state : tie.Need-shared-slice-read-state
+shared-slice-read-state c = search needs
+
+returns : tie.Need-returns
+returns c = let g = c .before .before .before .args in located-nowhere (g .layout) (g .image .now) (g .line) (g .main) (c .if1 .taken)
+
+main-at-requires : tie.Need-main-at-requires
+main-at-requires c κs = search needs
+
+returns-2 : tie.Need-returns-2
+returns-2 c =
+    let g = c .before .before .before .before .before .args in
+    ap At (c .main-at .ensures .0) ∙ located-main (g .layout) (g .image .now) (g .line) (g .main) (c .before .if2 .taken)
+
+find-paired-backup-requires : tie.Need-find-paired-backup-requires
+find-paired-backup-requires c κs = search needs
+
+backup-at-requires : tie.Need-backup-at-requires
+backup-at-requires c κs =
+    let f = c .before .before .before .before .before in
+    let g = f .args in
+    let s : segState (g .image .now) (g .line) (g .main) ≡ 2 = omega (arith, f .pre .1 .states (g .main) (omega arith)) in
+    omega (arith, c .find-paired-backup .ensures .0, backup-there (g .layout) (g .image .now) (g .line) (g .main) (f .pre .1) (omega arith) s)
+
+returns-3 : tie.Need-returns-3
+returns-3 c =
+    let f = c .before .before .before .before .before .before in
+    let g = f .args in
+    let s : segState (g .image .now) (g .line) (g .main) ≡ 2 = omega (arith, f .pre .1 .states (g .main) (omega arith)) in
+    ap At (c .backup-at .ensures .0 ∙ ap (λ (j : ℕ). backupAt (g .layout) j) (c .before .find-paired-backup .ensures .0))
+    ∙ located-backup (g .layout) (g .image .now) (g .line) (g .main) s
+
+pub checkpoint-located-spec : {M : Type 1} → statement M
+checkpoint-located-spec = tie.close (tie.spec add-state shared-slice-read-state returns main-at-requires returns-2 find-paired-backup-requires backup-at-requires returns-3)
