@@ -1,20 +1,16 @@
 -- Laws of tests gathered over bytes: a number that is 0 exactly if every byte passed.
 use Prim.Native.Nat.{ℕ, _+_}
-use mathlib.Core.Path.{_≡_, sym, ap, ap₂, _∙_}
-use mathlib.Core.Bool.{Bool, _&&_}
+use mathlib.Core.Path.{_≡_, refl, sym, _∙_}
+use mathlib.Core.Bool.{_&&_}
 use mathlib.Core.List.{List}
 use native.Mathlib.Omega.{arith}
-use native.Mathlib.Numerals.{add-one}
 use native.Mathlib.Decide.{ℕ-discrete}
 use lib.Bits.{bitOr, bitXor, and-le-l, and-le-r, or-add-and, xor-add-and, xor-self}
 use lib.Dec.{eqb}
 use lib.ListN.{getD}
 use borrow.Author.Tests.{eq-eqb, ne-eqb}
 use Rattle.model.specs.Range.{allB}
-
-all-more : (n : ℕ) (P : ℕ → Bool) → allB (n + 1) P ≡ (allB n P && P n)
-unfolding allB
-all-more n P = rw add-one
+use Rattle.model.proofs.Gather.{all-more}
 
 or-zero : (a b : ℕ) → eqb (bitOr a b) 0 ≡ (eqb a 0 && eqb b 0)
 or-zero a b = go (ℕ-discrete a 0) (ℕ-discrete b 0)
@@ -34,9 +30,9 @@ xor-zero a b = go (ℕ-discrete a b)
 -- acc is 0 as long as all bytes were, and as long as all pairs of bytes agreed
 pub zeros-more : (acc n : ℕ) (l : List ℕ) → eqb acc 0 ≡ allB n (λ k. eqb (getD l k 0) 0)
     → eqb (bitOr acc (getD l n 0)) 0 ≡ allB (n + 1) (λ k. eqb (getD l k 0) 0)
-zeros-more acc n l h = or-zero acc (getD l n 0) ∙ ap (λ (x : Bool). x && eqb (getD l n 0) 0) h ∙ sym (all-more n _)
+zeros-more acc n l h = or-zero acc (getD l n 0) ∙ all-more n _ h refl
 
 pub same-more : (acc n : ℕ) (l m : List ℕ) → eqb acc 0 ≡ allB n (λ k. eqb (getD l k 0) (getD m k 0))
     → eqb (bitOr acc (bitXor (getD l n 0) (getD m n 0))) 0 ≡ allB (n + 1) (λ k. eqb (getD l k 0) (getD m k 0))
 same-more acc n l m h =
-    or-zero acc _ ∙ ap₂ (λ (x y : Bool). x && y) h (xor-zero (getD l n 0) (getD m n 0)) ∙ sym (all-more n _)
+    or-zero acc _ ∙ all-more n _ h (xor-zero (getD l n 0) (getD m n 0))

@@ -1,20 +1,20 @@
-use native.Mathlib.Omega.{arith}
-use lib.ListN.{getD}
-use borrow.Author.Needs.{needs}
+use Rattle.trace.proofs.EmitLaws.{fits-first, fits-then, fits-if, emitted-then, emitted-if, emitted-unless}
 use Rattle.model.specs.Ops.{putBlock}
-use Rattle.model.proofs.Counts.{length-stores}
-use Rattle.trace.proofs.EmitLaws.{emitted-then}
+use mathlib.Core.Path.{refl}
+use borrow.Author.Needs.{needs}
 use Rattle.blocks.proofs.put_block.Statement.{statement}
 use Rattle.blocks.proofs.put_block.Tie as tie
 
-store-words-requires : tie.Need-store-words-requires
-store-words-requires c κs = search needs
+put-stores-requires : tie.Need-put-stores-requires
+unfolding putBlock
+put-stores-requires c κs = (search needs, fits-first _ (c .before .before .pre .1))
 
-add-flush-block : tie.Need-add-flush-block
-add-flush-block c = search needs
-
-flush-block-requires : tie.Need-flush-block-requires
-flush-block-requires c κs = search needs
+put-clwbs-requires : tie.Need-put-clwbs-requires
+unfolding putBlock
+put-clwbs-requires c κs =
+    let s = c .before .before .before .before in
+    let a = s .before .before .before in
+    (search needs, fits-if (a .args .flush) (c .before .if1 .taken) (fits-then (a .pre .1) (s .put-stores .ensures)))
 
 same-length : tie.Need-same-length
 same-length c = search needs
@@ -22,12 +22,20 @@ same-length c = search needs
 returns : tie.Need-returns
 unfolding putBlock
 returns c =
-    let b = c .before .before .before .before .before .before in
-    let a = b .before .before .before .args in
-    emitted-then _ _ _ _ _ _ _ (b .store-words .ensures) (c .before .before .flush-block .ensures)
-    (omega (arith, length-stores 32 (a .to) (λ k. getD (a .words) k 0)))
+    let i = c .before .before .before .before in
+    let s = i .before .before .before in
+    emitted-then (s .put-stores .ensures) (emitted-if (s .before .before .before .args .flush) (i .if1 .taken) (c .before .before .put-clwbs .ensures))
+
+same-length-2 : tie.Need-same-length-2
+same-length-2 c = search needs
+
+returns-2 : tie.Need-returns-2
+unfolding putBlock
+returns-2 c =
+    let s = c .before .before .before in
+    emitted-then (s .put-stores .ensures) (emitted-unless (s .before .before .before .args .flush) _ (c .if1 .left) refl refl)
 
 pub put-block-spec : {M : Type 1} → statement M
 put-block-spec =
     tie.close
-    (tie.spec store-words-requires add-flush-block flush-block-requires same-length returns)
+    (tie.spec put-stores-requires put-clwbs-requires same-length returns same-length-2 returns-2)
