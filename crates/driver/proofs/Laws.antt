@@ -1,20 +1,18 @@
--- Laws of a call's answer and its trace: the reported part, and the step of a history that they give.
+-- Laws of a call that the code made: what it reports is what the model's call writes, and its step is the model's step.
 use Prim.Native.Nat.{ℕ, _*_, _≤_}
-use mathlib.Core.Path.{_≡_, sym, ap, ap₂, _∙_, subst}
+use mathlib.Core.Path.{_≡_, sym, ap, ap₂, _∙_}
+use mathlib.Core.List.{_++_}
 use native.Mathlib.Omega.{arith}
 use lib.ListN.{length, take, drop, length-append}
-use Rattle.model.specs.declared.Layout.{Layout}
 use Rattle.model.specs.declared.Session.{Session}
 use Rattle.model.specs.declared.Answer.{Answer}
-use Rattle.model.specs.Words.{Image, Bytes}
-use Rattle.model.specs.Ops.{Trace, Outcome, Gives, encode, written}
-use Rattle.model.specs.Replay.{replayOutcome}
-use Rattle.model.specs.Open.{openOutcome}
-use Rattle.model.specs.Write.{WriteArgs, writeOutcome, Chosen}
-use Rattle.model.specs.Checkpoint.{checkpointOutcome}
-use Rattle.model.specs.History.{State, Call, callOpen, callWrite, callCheckpoint, traceOf, outcome, reported, replayedImage, step, Permitted}
+use Rattle.model.specs.Words.{Image}
+use Rattle.model.specs.Ops.{Ops, Trace, encode, written}
+use Rattle.model.specs.Outcome.{Outcome, Gives}
+use Rattle.model.specs.Replay.{replayOutcome, replayedOps}
+use Rattle.model.specs.History.{Call, Device, answers, outcome, reported, playedOps, calledOps, replayedImage, deviceStep, Permitted}
 use Rattle.model.proofs.TraceLaws.{length-encode}
-use Rattle.driver.specs.Stepped.{Stepped}
+use Rattle.driver.specs.Stepped.{Called, reportedPart, playedPart, Stepped}
 
 module _ (o : Outcome) (T : Trace) (r : Answer) (t : Trace) (g : Gives o T r t) where
   -- the operations that an answer reports stand on the trace
@@ -23,38 +21,36 @@ module _ (o : Outcome) (T : Trace) (r : Answer) (t : Trace) (g : Gives o T r t) 
   part-inside =
       omega (arith, g .2, ap (λ (x : Trace). length x) (g .3), length-append (encode (o .ops)) (drop (3 * length (o .ops)) T), length-encode (o .ops))
 
-  pub part-reported : take (3 * r .ops) t ≡ reported (o .ops) T
+  pub part-reported : reportedPart r t ≡ reported (o .ops) T
   unfolding reported
   part-reported = ap₂ (λ (n : ℕ) (x : Trace). take (3 * n) x) (g .2) (g .3)
 
--- the step, from the call's outcome and the replay of the reported part
-stepped : (I : Image) (s : Session) (c : Call) (o : Outcome) (r : Answer) (t : Trace) (I′ : Image)
-    → ((h : State) → h .image ≡ I → h .session ≡ s → Permitted h c × (outcome h c ≡ o)) → Gives o (traceOf c) r t
-    → I′ ≡ replayOutcome I (take (3 * r .ops) t) (r .ops) .image → Stepped I s c r t I′
-unfolding step replayedImage
-stepped I s c o r t I′ f g e h i k =
-    let p = f h i k in (
-      p .0,
-      subst (λ (x : Outcome). Gives x (traceOf c) r t) (sym (p .1)) g,
-      e ∙ ap₂ (λ (x : Trace) (n : ℕ). replayOutcome I x n .image) (part-reported o (traceOf c) r t g) (g .2)
-          ∙ sym (ap₂ (λ (J : Image) (x : Outcome). replayOutcome J (reported (x .ops) (traceOf c)) (length (x .ops)) .image) i (p .1)),
-      g .1 ∙ sym (ap (λ (x : Outcome). x .session) (p .1)),
+  -- and what replay plays of them
+  pub part-played : (I : Image) (p : ℕ) → playedPart I r t p ≡ playedOps I (o .ops) T p
+  unfolding playedOps
+  part-played I p = ap (λ (x : Trace). replayedOps x (replayOutcome I x p .played)) part-reported
+
+  pub part-image : (I : Image) (p : ℕ) → replayOutcome I (reportedPart r t) p .image ≡ replayedImage I (o .ops) T p
+  unfolding replayedImage
+  part-image I p = ap (λ (x : Trace). replayOutcome I x p .image) part-reported
+
+-- where a module stands with the image I and the session s, a call that the code makes there is permitted, and plays the
+-- operations that are called
+module _ (d : Device) (c : Call) (r : Answer) (t : Trace) (k : Called (d .image) (d .session) c r t) where
+  pub called-permitted : Permitted d c
+  called-permitted = k .0
+
+  pub called-played : (p : ℕ) → playedPart (d .image) r t p ≡ calledOps d c p
+  called-played p = part-played (outcome d c) (c .trace) r t (k .1) (d .image) p
+
+-- and a step of the code is the module's step
+pub stepped-device : (d : Device) (c : Call) (r : Answer) (t : Trace) (I′ : Image) → Stepped (d .image) (d .session) c r t I′
+    → (deviceStep d c .image ≡ I′) × (deviceStep d c .session ≡ r .session)
+    × (deviceStep d c .played ≡ d .played ++ playedPart (d .image) r t (r .ops))
+unfolding deviceStep
+stepped-device d c r t I′ k =
+    let g = k .0 .1 in (
+      sym (k .1 ∙ part-image (outcome d c) (c .trace) r t g (d .image) (r .ops) ∙ ap (λ (n : ℕ). replayedImage (d .image) (outcome d c .ops) (c .trace) n) (g .2)),
+      sym (g .1),
+      ap (λ (X : Ops). d .played ++ X) (ap (λ (n : ℕ). calledOps d c n) (sym (g .2)) ∙ sym (called-played d c r t (k .0) (r .ops))),
     )
-
--- of each call
-module _ (I : Image) (s : Session) (T : Trace) (r : Answer) (t : Trace) (I′ : Image)
-    (e : I′ ≡ replayOutcome I (take (3 * r .ops) t) (r .ops) .image) where
-  pub stepped-open : (l : Layout) → Gives (openOutcome l I T) T r t → Stepped I s (callOpen l T) r t I′
-  stepped-open l g =
-      stepped I s (callOpen l T) (openOutcome l I T) r t I′ (λ h i k. (tt, ap (λ (J : Image). openOutcome l J T) i)) g e
-
-  pub stepped-write : (w : WriteArgs) (j : ℕ) → Bytes (w .bytes) → Chosen s I w T j → Gives (writeOutcome s I w j T) T r t
-      → Stepped I s (callWrite w T j) r t I′
-  stepped-write w j b chosen g =
-      stepped I s (callWrite w T j) (writeOutcome s I w j T) r t I′
-      (λ h i k. ((b, rw (i, k) chosen), ap₂ (λ (x : Session) (J : Image). writeOutcome x J w j T) k i)) g e
-
-  pub stepped-checkpoint : Gives (checkpointOutcome s I T) T r t → Stepped I s (callCheckpoint T) r t I′
-  stepped-checkpoint g =
-      stepped I s (callCheckpoint T) (checkpointOutcome s I T) r t I′
-      (λ h i k. (tt, ap₂ (λ (x : Session) (J : Image). checkpointOutcome x J T) k i)) g e

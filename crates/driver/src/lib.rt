@@ -2,23 +2,27 @@
 // of which crash safety is proved.
 use model::Answer;
 use model::Session;
+use replay::Replayed;
 ghost use mathlib.Core.Path.{_≡_};
 ghost use Prim.Native.Nat.{ℕ, _*_, _≤_};
 ghost use lib.ListN.{length, take};
 ghost use Rattle.model.specs.declared.Session.{Session};
 ghost use Rattle.model.specs.Layout.{layoutOf};
+ghost use Rattle.model.specs.Status.{codeOf};
 ghost use Rattle.model.specs.Replay.{replayOutcome};
 ghost use Rattle.model.specs.History.{callOpen, callWrite, callCheckpoint};
-ghost use Rattle.write.specs.Steps.{writeArgsOf};
+ghost use Rattle.model.specs.Write.{writeArgsOf};
 ghost use Rattle.driver.specs.Stepped.{Stepped};
 
-// Replays the first `ops` operations of a trace: all that a call reports.
-pub fn play_reported(image: &mut [u8], trace: &[u64], ops: u64)
+// Replays the first `ops` operations of a trace: all that a call reports. How the replay ends, and how many it played.
+pub fn play_reported(image: &mut [u8], trace: &[u64], ops: u64) -> Replayed
     requires { ⌜ 3 * ops ≤ length (now trace) ⌝ }
+    ensures { λ r. ⌜ codeOf (r .status) ≡ replayOutcome (now (image .entry)) (take (3 * ops) (now (trace .entry))) ops .status ⌝ }
+    ensures { λ r. ⌜ r .played ≡ replayOutcome (now (image .entry)) (take (3 * ops) (now (trace .entry))) ops .played ⌝ }
     ensures { λ _. ⌜ now (image .exit) ≡ replayOutcome (now (image .entry)) (take (3 * ops) (now (trace .entry))) ops .image ⌝ }
 {
     let end = 3 * ops as usize;
-    replay::crpm_replay(image, &trace[..end], ops);
+    replay::crpm_replay(image, &trace[..end], ops)
 }
 
 // An opening, replayed whole.

@@ -1,7 +1,7 @@
 use native.Mathlib.Omega.{arith}
 use borrow.Author.Needs.{needs}
 use Rattle.model.specs.Checkpoint.{checkpointOutcome}
-use Rattle.driver.proofs.Laws.{part-inside, stepped-checkpoint}
+use Rattle.driver.proofs.Laws.{part-inside}
 use Rattle.driver.proofs.step_checkpoint.Statement.{statement}
 use Rattle.driver.proofs.step_checkpoint.Tie as tie
 
@@ -24,8 +24,7 @@ returns : tie.Need-returns
 returns c =
     let p = c .before .before in
     let r = p .before .before .before .before .before in
-    let a = r .before .before .before .before .before .args in
-    stepped-checkpoint (a .image .now) (a .session) (a .trace .now) (r .crpm-checkpoint .result) _ _ (p .play-reported .ensures) (r .crpm-checkpoint .ensures)
+    ((tt, r .crpm-checkpoint .ensures), p .play-reported .ensures .2)
 
 pub step-checkpoint-spec : {M : Type 1} → statement M
 step-checkpoint-spec =

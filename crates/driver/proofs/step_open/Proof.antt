@@ -2,7 +2,7 @@ use native.Mathlib.Omega.{arith}
 use borrow.Author.Needs.{needs}
 use Rattle.model.specs.Layout.{layoutOf}
 use Rattle.model.specs.Open.{openOutcome}
-use Rattle.driver.proofs.Laws.{part-inside, stepped-open}
+use Rattle.driver.proofs.Laws.{part-inside}
 use Rattle.driver.proofs.step_open.Statement.{statement}
 use Rattle.driver.proofs.step_open.Tie as tie
 
@@ -25,8 +25,7 @@ returns : tie.Need-returns
 returns c =
     let p = c .before .before in
     let r = p .before .before .before .before .before in
-    let a = r .before .before .before .before .before .args in
-    λ s. stepped-open (a .image .now) s (a .trace .now) (r .crpm-open .result) _ _ (p .play-reported .ensures) (layoutOf (a .mains) (a .backups) (a .blocks)) (r .crpm-open .ensures)
+    λ s. ((tt, r .crpm-open .ensures), p .play-reported .ensures .2)
 
 pub step-open-spec : {M : Type 1} → statement M
 step-open-spec =

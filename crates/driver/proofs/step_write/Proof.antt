@@ -1,8 +1,8 @@
 use native.Mathlib.Omega.{arith}
 use borrow.Author.Needs.{needs}
 use Rattle.model.specs.Write.{writeOutcome}
-use Rattle.write.specs.Steps.{writeArgsOf}
-use Rattle.driver.proofs.Laws.{part-inside, stepped-write}
+use Rattle.model.specs.Write.{writeArgsOf}
+use Rattle.driver.proofs.Laws.{part-inside}
 use Rattle.driver.proofs.step_write.Statement.{statement}
 use Rattle.driver.proofs.step_write.Tie as tie
 
@@ -27,9 +27,8 @@ returns c =
     let p = c .before .before in
     let r = p .before .before .before .before .before in
     let b = r .before .before .before .before in
-    let a = b .before .before .args in
     let g = r .crpm-write .ensures in
-    (g .0, stepped-write (a .image .now) (a .session) (a .trace .now) (r .crpm-write .result) _ _ (p .play-reported .ensures) (writeArgsOf (a .main) (a .block) (a .offset) (a .bytes .now)) (g .0) (λ i. b .shared-slice-known .given i .fits) (g .1) (g .2))
+    (g .0, (((λ i. b .shared-slice-known .given i .fits), g .1), g .2), p .play-reported .ensures .2)
 
 pub step-write-spec : {M : Type 1} → statement M
 step-write-spec =
