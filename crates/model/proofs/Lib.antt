@@ -35,3 +35,4 @@ pub mod CheckpointCall
 pub mod Openings
 pub mod Theorem
 pub mod Sisters
+pub mod Knows
