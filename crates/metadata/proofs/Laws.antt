@@ -5,7 +5,7 @@ use Prim.Native.Nat.{ℕ, zero, suc, _+_, _-_, _*_, _%_, _≤_, _<_}
 use mathlib.Core.Path.{_≡_, refl, sym, ap, ap₂, _∙_, subst}
 use mathlib.Core.Logic.{_≢_, _⊎_, inl, inr, ⊎-elim}
 use mathlib.Core.Bool.{Bool, true, false, not, cond, _&&_, _||_, true≢false, and-eq-true-iff}
-use mathlib.Core.List.{List, [], _∷_, _++_}
+use mathlib.Core.List.{List, _++_}
 use native.Mathlib.Omega.{arith}
 use native.Mathlib.Decide.{decLt, ℕ-discrete}
 use native.Mathlib.Nat.{mul-le-mul, suc-mul}
@@ -19,10 +19,10 @@ use Rattle.model.specs.declared.Located.{Located}
 use Rattle.model.specs.declared.Located.the-variants.{Nowhere, At}
 use Rattle.model.specs.Layout.{unpaired, ssInitial, ssMain, ssBackup, stateLine, SizesOk, imageSize, segmentSize, mainAt, backupAt}
 use Rattle.model.specs.Words.{Image}
-use Rattle.model.specs.Status.{Errors, firstError, served}
+use Rattle.model.specs.Status.{Errors, firstError}
 use Rattle.model.specs.Container.{segState, backupToMain, Valid, isPaired, validMetadata, pairedBackup, Free, isFree, anyFree, byState, checkpointLocated, sizeErrors}
 use Rattle.model.proofs.Range.{both, and-left, and-right, or-left, or-right, or-else, all-at, all-from, any-at, any-none, first-none, first-some}
-use Rattle.model.proofs.Refusals.{Numbered, served-cons, before-refused, after-served}
+use Rattle.model.proofs.Refusals.{served-parts, served-condition}
 use Rattle.model.proofs.Places.{segment-in-image}
 use Rattle.model.proofs.Metadata.{sizes-ok, paired-at, unpaired-none, paired-by, valid-means, valid-test}
 use Rattle.model.proofs.Gather.{all-ext, same-test}
@@ -73,37 +73,13 @@ unfolding firstB
 first-ext zero P Q h = refl
 first-ext (suc n) P Q h = ap₂ (λ (f : ℕ) (b : Bool). orNext f n b) (first-ext n P Q (λ i l. h i (omega arith))) (h n (omega arith))
 
--- ---- refusals in a row
-
--- the first condition holds
-pub first-holds : (n : ℕ) (b : Bool) (es : Errors) → b ≡ true → n ≡ firstError ((n, b) ∷ es)
-unfolding firstError
-first-holds n b es e = rw e
-
--- it does not, and the rest gives the number
-pub first-fails : (n r : ℕ) (b : Bool) (es : Errors) → b ≡ false → r ≡ firstError es → r ≡ firstError ((n, b) ∷ es)
-unfolding firstError
-first-fails n r b es e h = rw e h
-
--- no condition is left
-pub first-of-none : 0 ≡ firstError []
-unfolding firstError
-first-of-none = refl
-
--- the first part of a list refuses
-pub part-refused : (n : ℕ) (es fs : Errors) → n ≡ firstError es → served n ≡ false → n ≡ firstError (es ++ fs)
-part-refused n es fs e s = e ∙ sym (before-refused es fs (λ z. eqb-false n 0 s (e ∙ z)))
-
--- it does not, and the second gives the number
-pub part-served : (n r : ℕ) (es fs : Errors) → Numbered es → n ≡ firstError es → served n ≡ true → r ≡ firstError fs → r ≡ firstError (es ++ fs)
-part-served n r es fs k e s h = h ∙ sym (after-served es fs k (sym e ∙ eqb-true n 0 s))
+-- ---- refusals
 
 -- where refusals 1 and 2 do not apply, the sizes are allowed and the image has their length
 pub sized : (l : Layout) (I : Image) (es : Errors) → firstError (sizeErrors l I ++ es) ≡ 0 → SizesOk l × (length I ≡ imageSize l)
 sized l I es h =
-    let a = served-cons 0 _ _ h in
-    let b = served-cons 1 _ _ (a .1) in
-    (sizes-ok l .0 (not-false _ (a .0)), eqb-true _ _ (not-false _ (b .0)))
+    let r = served-condition (sizeErrors l I) (omega arith) (served-parts (sizeErrors l I) es (omega arith) h .0) in
+    (sizes-ok l .0 (not-false _ (r 1)), eqb-true _ _ (not-false _ (r 2)))
 
 -- ---- places
 

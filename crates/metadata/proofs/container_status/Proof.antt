@@ -7,7 +7,8 @@ use borrow.Author.Tests.{eqb-true, not-true, not-false}
 use borrow.Author.Needs.{needs}
 use Rattle.model.specs.Container.{activeLine, segState, backupToMain, validMetadata, headerOk, layoutErrors, validErrors}
 use Rattle.model.proofs.Places.{metadata-inside}
-use Rattle.metadata.proofs.Laws.{first-holds, first-fails, first-of-none, part-refused, part-served, sized}
+use Rattle.model.proofs.Refusals.{first-holds, first-fails, first-of-none, stage-refused, stage-passed}
+use Rattle.metadata.proofs.Laws.{sized}
 use Rattle.metadata.proofs.container_status.Statement.{statement}
 use Rattle.metadata.proofs.container_status.Tie as tie
 
@@ -22,7 +23,7 @@ returns c =
     let b = c .before .before in
     let g = b .before .before .args in
     let I = g .image .now in
-    part-refused _ (layoutErrors (g .layout) I) (validErrors (g .layout) I (activeLine I)) (b .layout-status .ensures)
+    stage-refused _ (layoutErrors (g .layout) I) (validErrors (g .layout) I (activeLine I)) (b .layout-status .ensures)
     (sym (c .before .is-served .ensures) ∙ not-true _ (c .if1 .taken))
 
 active-at-requires : tie.Need-active-at-requires
@@ -54,8 +55,9 @@ returns-2 c =
     let g = b .before .before .args in
     let I = g .image .now in
     let v = c .before .before .examine .ensures .valid ∙ ap (λ (n : ℕ). validMetadata (g .layout) (segState I n) (backupToMain I)) (a .active-at .ensures .0) in
-    part-served _ _ (layoutErrors (g .layout) I) (validErrors (g .layout) I (activeLine I)) (omega arith) (b .layout-status .ensures)
-    (sym (d .before .is-served .ensures) ∙ not-false _ (d .if1 .left)) (first-holds 4 _ _ (ap not (sym v) ∙ c .if2 .taken))
+    first-holds 4 _ _ (ap not (sym v) ∙ c .if2 .taken)
+    ∙ sym (stage-passed _ (layoutErrors (g .layout) I) (validErrors (g .layout) I (activeLine I)) (omega arith) (b .layout-status .ensures)
+    (sym (d .before .is-served .ensures) ∙ not-false _ (d .if1 .left)))
 
 returns-3 : tie.Need-returns-3
 returns-3 c =
@@ -65,8 +67,9 @@ returns-3 c =
     let g = b .before .before .args in
     let I = g .image .now in
     let v = c .before .before .examine .ensures .valid ∙ ap (λ (n : ℕ). validMetadata (g .layout) (segState I n) (backupToMain I)) (a .active-at .ensures .0) in
-    part-served _ _ (layoutErrors (g .layout) I) (validErrors (g .layout) I (activeLine I)) (omega arith) (b .layout-status .ensures)
-    (sym (d .before .is-served .ensures) ∙ not-false _ (d .if1 .left)) (first-fails 4 _ _ _ (ap not (sym v) ∙ c .if2 .left) first-of-none)
+    first-fails 4 _ _ _ (ap not (sym v) ∙ c .if2 .left) first-of-none
+    ∙ sym (stage-passed _ (layoutErrors (g .layout) I) (validErrors (g .layout) I (activeLine I)) (omega arith) (b .layout-status .ensures)
+    (sym (d .before .is-served .ensures) ∙ not-false _ (d .if1 .left)))
 
 pub container-status-spec : {M : Type 1} → statement M
 container-status-spec = tie.close (tie.spec layout-status-requires is-served-requires returns active-at-requires examine-requires returns-2 returns-3)

@@ -6,7 +6,8 @@ use borrow.Author.Tests.{eqb-true, not-true, not-false}
 use borrow.Author.Needs.{needs}
 use Rattle.model.specs.Container.{headerOk, sizeErrors}
 use Rattle.model.proofs.Places.{metadata-inside}
-use Rattle.metadata.proofs.Laws.{first-holds, first-fails, first-of-none, part-refused, part-served, sized}
+use Rattle.model.proofs.Refusals.{first-holds, first-fails, first-of-none, stage-refused, stage-passed}
+use Rattle.metadata.proofs.Laws.{sized}
 use Rattle.metadata.proofs.layout_status.Statement.{statement}
 use Rattle.metadata.proofs.layout_status.Tie as tie
 
@@ -20,7 +21,7 @@ returns : tie.Need-returns
 returns c =
     let b = c .before .before in
     let g = b .before .before .args in
-    part-refused _ (sizeErrors (g .layout) (g .image .now)) ((3, not (headerOk (g .layout) (g .image .now))) ∷ []) (b .size-status .ensures)
+    stage-refused _ (sizeErrors (g .layout) (g .image .now)) ((3, not (headerOk (g .layout) (g .image .now))) ∷ []) (b .size-status .ensures)
     (sym (c .before .is-served .ensures) ∙ not-true _ (c .if1 .taken))
 
 header-ok-requires : tie.Need-header-ok-requires
@@ -35,16 +36,18 @@ returns-2 c =
     let d = c .before .before in
     let b = d .before .before in
     let g = b .before .before .args in
-    part-served _ _ (sizeErrors (g .layout) (g .image .now)) ((3, not (headerOk (g .layout) (g .image .now))) ∷ []) (omega arith) (b .size-status .ensures)
-    (sym (d .before .is-served .ensures) ∙ not-false _ (d .if1 .left)) (first-holds 3 _ _ (ap not (sym (c .before .header-ok .ensures)) ∙ c .if2 .taken))
+    first-holds 3 _ _ (ap not (sym (c .before .header-ok .ensures)) ∙ c .if2 .taken)
+    ∙ sym (stage-passed _ (sizeErrors (g .layout) (g .image .now)) ((3, not (headerOk (g .layout) (g .image .now))) ∷ []) (omega arith) (b .size-status .ensures)
+    (sym (d .before .is-served .ensures) ∙ not-false _ (d .if1 .left)))
 
 returns-3 : tie.Need-returns-3
 returns-3 c =
     let d = c .before .before in
     let b = d .before .before in
     let g = b .before .before .args in
-    part-served _ _ (sizeErrors (g .layout) (g .image .now)) ((3, not (headerOk (g .layout) (g .image .now))) ∷ []) (omega arith) (b .size-status .ensures)
-    (sym (d .before .is-served .ensures) ∙ not-false _ (d .if1 .left)) (first-fails 3 _ _ _ (ap not (sym (c .before .header-ok .ensures)) ∙ c .if2 .left) first-of-none)
+    first-fails 3 _ _ _ (ap not (sym (c .before .header-ok .ensures)) ∙ c .if2 .left) first-of-none
+    ∙ sym (stage-passed _ (sizeErrors (g .layout) (g .image .now)) ((3, not (headerOk (g .layout) (g .image .now))) ∷ []) (omega arith) (b .size-status .ensures)
+    (sym (d .before .is-served .ensures) ∙ not-false _ (d .if1 .left)))
 
 pub layout-status-spec : {M : Type 1} → statement M
 layout-status-spec = tie.close (tie.spec size-status-requires is-served-requires returns header-ok-requires returns-2 returns-3)

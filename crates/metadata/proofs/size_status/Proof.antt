@@ -4,7 +4,7 @@ use native.Mathlib.Omega.{arith}
 use borrow.Author.Tests.{eq-eqb, ne-eqb, not-false}
 use borrow.Author.Needs.{needs}
 use Rattle.model.proofs.Metadata.{sizes-ok}
-use Rattle.metadata.proofs.Laws.{first-holds, first-fails, first-of-none}
+use Rattle.model.proofs.Refusals.{first-holds, first-fails, first-of-none}
 use Rattle.metadata.proofs.size_status.Statement.{statement}
 use Rattle.metadata.proofs.size_status.Tie as tie
 
