@@ -2,12 +2,11 @@
 use Prim.Native.Nat.{ℕ, zero, suc, _+_, _*_, _/_, _%_, _≤_, _<_}
 use mathlib.Core.Path.{_≡_, refl, sym, ap, _∙_, subst}
 use mathlib.Core.Logic.{_⊎_, inl, inr}
-use mathlib.Core.List.{List, [], _∷_, _++_}
+use mathlib.Core.List.{List, [], _++_}
 use native.Mathlib.Decide.{decLt}
 use native.Mathlib.Nat.{mul-le-mul-right, mul-assoc, mul-comm, mul-left-comm, suc-mul, div-add-mod', mod-lt, div-lt-iff-lt-mul}
 use native.Mathlib.Omega.{arith}
 use borrow.Author.Tests.{lt-leb}
-use lib.Dec.{leb}
 use lib.ListN.{length, getD, take, drop, replicate, length-drop, length-replicate, getD-replicate, List·getD-append}
 use lib.Seq.{length-take-le, getD-take, getD-drop, getD-append-add, ext-getD}
 use Rattle.model.specs.declared.Layout.{Layout}
@@ -15,7 +14,7 @@ use Rattle.model.specs.Range.{cat}
 use Rattle.model.specs.Words.{Image, byteAt}
 use Rattle.model.specs.Layout.{segmentSize, segmentAt, mainAt, backupAt}
 use Rattle.model.specs.Status.{firstError}
-use Rattle.model.specs.Container.{activeState, activeLine, segState, backupToMain, pairedBackup, byState, segmentBytes, checkpointLocated, checkpointSegment, checkpointBytes}
+use Rattle.model.specs.Container.{activeState, activeLine, segState, backupToMain, pairedBackup, byState, segmentBytes, checkpointLocated, checkpointSegment, checkpointBytes, mainErrors, blockErrors}
 use Rattle.model.specs.Reads.{readStatus, workingPart, checkpointPart, checkpointBlock, blockPart, partOf}
 use Rattle.model.specs.Reference.{Page, pageBlock, pageAt}
 use Rattle.model.specs.CrashSafety.{Reads}
@@ -135,7 +134,7 @@ module _ (l : Layout) (I : Image) (P W : Page) (wp : Whole l P) (ww : Whole l W)
     (working : (i x : ℕ) → i < l .mains → x < segmentSize l → byteAt I (mainAt l i + x) ≡ contentsOf l W i x) where
   served : (i b : ℕ) → i < l .mains → b < l .blocks → readStatus l I i b ≡ 0
   unfolding readStatus firstError
-  served i b h k = container-passes l I ((6, leb (l .mains) i) ∷ (7, leb (l .blocks) b) ∷ []) (container-of l I (contentsOf l P) r) ∙ rw (lt-leb (l .mains) i h, lt-leb (l .blocks) b k)
+  served i b h k = container-passes l I (mainErrors l i ++ blockErrors l b) (container-of l I (contentsOf l P) r) ∙ rw (lt-leb (l .mains) i h, lt-leb (l .blocks) b k)
 
   -- a block of the image, from a segment that holds the contents of a page
   block-is : (Q : Page) (k i b : ℕ) → Whole l Q → k < l .mains + l .backups → i < l .mains → b < l .blocks
