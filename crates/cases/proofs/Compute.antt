@@ -11,21 +11,22 @@ use Rattle.model.specs.Range.{cat, allB, anyB, orNext, firstB}
 use Rattle.model.specs.Words.{Bytes, littleEndian, wordOf, bytesOf, storeWord, overlay}
 use Rattle.model.specs.Layout.{inRange, sizesOk, imageSize, stateLine}
 use Rattle.model.specs.Status.{firstError}
-use Rattle.model.specs.Container.{isPaired, validMetadata, pairedBackup, isFree, anyFree, byState, checkpointSegment, checkpointBytes, headerOk}
-use Rattle.model.specs.Session.{bit, setBit, dirtySegment, dirtyBlock, freshSession, zeroSession, withDirty, withCheckpoint, validSession}
-use Rattle.model.specs.Ops.{encode, opOf, decode, written, traceShort, apply, replay, stores, clwbs, putBlock, persistCopy, persistZero}
+use Rattle.model.specs.Container.{isPaired, validMetadata, pairedBackup, isFree, anyFree, byState, checkpointLocated, checkpointSegment, checkpointBytes, headerOk}
+use Rattle.model.specs.Session.{bit, setBit, setBits, dirtySegment, dirtyBlock, freshSession, zeroSession, withDirty, withCheckpoint, validSession}
+use Rattle.model.specs.Ops.{encode, opOf, decode, written, traceShort, apply, replay, stores, clwbs, putBlock, persistCopy, persistZero, copySegment, zeroSegment}
+use Rattle.model.specs.Outcome.{outcomeOf}
 use Rattle.model.specs.Replay.{wellFormed, allWellFormed, replayCount, replayedOps, replayStatus, replayOutcome}
 use Rattle.model.specs.Format.{container, formatted, formatOutcome}
-use Rattle.model.specs.Open.{recoveryAction, copySegment, zeroSegment, actionOps, recoverSegment, recoveryOps, openStatus, openOutcome}
-use Rattle.model.specs.Write.{needsCopy, needsBackup, pairOps, copyDirty, backupOps, stateOps, copyOnWriteOps, spanOps, writeOps, writeSession, spanBad, writeStatus, writeOutcome}
+use Rattle.model.specs.Open.{recoveryAction, actionOps, recoverSegment, recoveryOps, openStatus, openOutcome}
+use Rattle.model.specs.Write.{needsCopy, needsBackup, copyPlan, pairOps, copyDirty, backupOps, stateOps, copyOnWriteOps, spanOps, writeOps, writeSession, spanBad, writeStatus, writeOutcome}
 use Rattle.model.specs.Checkpoint.{flushDirty, nextState, statesOps, epochOps, checkpointOps, checkpointStatus, checkpointOutcome}
 use Rattle.model.specs.Reads.{readStatus, workingPart, checkpointPart}
 use Rattle.model.specs.Reference.{modelStep}
-use Rattle.model.specs.History.{reported, playedOps, replayedImage, step, run, openedImage, start}
+use Rattle.model.specs.History.{reported, playedOps, replayedImage, deviceStep, step, run, openedImage, start}
 use Rattle.model.specs.CrashSafety.{lastCheckpoint}
 
 unfoldable pub model-rules : Unit {0}
-unfolding cat allB anyB orNext firstB littleEndian wordOf bytesOf storeWord overlay inRange sizesOk imageSize stateLine firstError isPaired validMetadata pairedBackup isFree anyFree byState checkpointSegment checkpointBytes headerOk bit setBit dirtySegment dirtyBlock freshSession zeroSession withDirty withCheckpoint validSession encode opOf decode written traceShort apply replay stores clwbs putBlock persistCopy persistZero wellFormed allWellFormed replayCount replayedOps replayStatus replayOutcome container formatted formatOutcome recoveryAction copySegment zeroSegment actionOps recoverSegment recoveryOps openStatus openOutcome needsCopy needsBackup pairOps copyDirty backupOps stateOps copyOnWriteOps spanOps writeOps writeSession spanBad writeStatus writeOutcome flushDirty nextState statesOps epochOps checkpointOps checkpointStatus checkpointOutcome readStatus workingPart checkpointPart modelStep reported playedOps replayedImage step run openedImage start lastCheckpoint
+unfolding cat allB anyB orNext firstB littleEndian wordOf bytesOf storeWord overlay inRange sizesOk imageSize stateLine firstError isPaired validMetadata pairedBackup isFree anyFree byState checkpointLocated checkpointSegment checkpointBytes headerOk bit setBit setBits dirtySegment dirtyBlock freshSession zeroSession withDirty withCheckpoint validSession encode opOf decode written traceShort apply replay stores clwbs putBlock persistCopy persistZero copySegment zeroSegment outcomeOf wellFormed allWellFormed replayCount replayedOps replayStatus replayOutcome container formatted formatOutcome recoveryAction actionOps recoverSegment recoveryOps openStatus openOutcome needsCopy needsBackup copyPlan pairOps copyDirty backupOps stateOps copyOnWriteOps spanOps writeOps writeSession spanBad writeStatus writeOutcome flushDirty nextState statesOps epochOps checkpointOps checkpointStatus checkpointOutcome readStatus workingPart checkpointPart modelStep reported playedOps replayedImage deviceStep step run openedImage start lastCheckpoint
 model-rules = tt
 
 unfoldable pub same : List ℕ → List ℕ → Bool

@@ -14,7 +14,7 @@ use Rattle.model.specs.Format.{container, formatted}
 use Rattle.model.specs.Open.{openStatus}
 use Rattle.model.specs.Crash.{CrashImage}
 use Rattle.model.specs.Reference.{Page}
-use Rattle.model.specs.History.{State, start, step, run, openedImage, AllPermitted}
+use Rattle.model.specs.History.{State, start, deviceStep, step, run, openedImage, AllPermitted}
 use Rattle.model.specs.CrashSafety.{ReadsBlock, Reads, Recovers, during, playedAt, Window, lastCheckpoint, MayShow, none}
 use Rattle.model.proofs.Range.{or-right}
 use Rattle.model.proofs.Persist.{length-replay}
@@ -30,11 +30,13 @@ writeOps = store 512 0xb2a1000000000000 ∷ store 520 0xd4c3 ∷ []
 -- the state before P4, written out
 abbrev written : State
 written = record {
-  layout = l211;
-  durable = formatted l211;
-  played = writeOps;
-  image = replay writeOps (formatted l211);
-  session = record { layout = l211; «dirty_segments» = 1; «dirty_blocks» = 1 ∷ replicate 63 0 };
+  device = record {
+    layout = l211;
+    durable = formatted l211;
+    played = writeOps;
+    image = replay writeOps (formatted l211);
+    session = record { layout = l211; «dirty_segments» = 1; «dirty_blocks» = 1 ∷ replicate 63 0 };
+  };
   model = record { working = newBytes; checkpoint = zeros };
 }
 
@@ -75,7 +77,7 @@ cutImage epoch =
     (replicate 6 0 ++ fourBytes ++ replicate 758 0)
 
 -- what stood after k of the operations, the last of which were p of the checkpoint
-left : (p k epoch : ℕ) → (O : Ops) → O ≡ playedAt written (during checkpoint p) → T (leb k (length O)) → T (leb (length O) (k + 2))
+left : (p k epoch : ℕ) → (O : Ops) → O ≡ playedAt (written .device) (during checkpoint p) → T (leb k (length O)) → T (leb (length O) (k + 2))
     → same (replay (take k O) (formatted l211)) (cutImage epoch) ≡ true → MayLeave written p (cutImage epoch)
 left p k epoch O e k≤ ≤k test =
     subst (λ (X : Ops). CrashImage (formatted l211) X (cutImage epoch)) e (late (formatted l211) O k (cutImage epoch) (lit≤ k≤) (lit≤ ≤k) (same-equal _ _ test))
@@ -167,13 +169,13 @@ epoch-stored (store p v ∷ A) D w = or-right (eqb p epochAt) (epoch-stored A D 
 epoch-stored (clwb p ∷ A) D w = epoch-stored A D w
 epoch-stored (sfence ∷ A) D w = epoch-stored A D w
 
-not-yet : Window written checkpoint 15 → ⊥
+not-yet : Window (written .device) checkpoint 15 → ⊥
 unfolding model-rules storesEpoch
-not-yet w = false≢true (ap storesEpoch (w .0 .3) ∙ epoch-stored (w .0 .0) (w .0 .1) (w .0 .2))
+not-yet w = false≢true (ap storesEpoch (w .1 .3) ∙ epoch-stored (w .1 .0) (w .1 .1) (w .1 .2))
 
-no-more : Window written checkpoint 18 → ⊥
+no-more : Window (written .device) checkpoint 18 → ⊥
 unfolding model-rules
-no-more w = let below : 18 < 18 = w .1 in omega arith
+no-more w = let below : 18 < 18 = w .2 in omega arith
 
 old-last : lastCheckpoint written checkpoint 15 ≡ zeros
 unfolding model-rules
@@ -196,7 +198,8 @@ unfolding model-rules small
 permitted = ((small-bytes fourBytes refl, λ served needs. absurd (false≢true needs)), tt)
 
 -- outside the window demand 3 leaves one page
-only : (p : ℕ) (Q : Page) → (Window written checkpoint p → ⊥) → lastCheckpoint written checkpoint p ≡ Q → OnlyShows before p Q
+only : (p : ℕ) (Q : Page) → (Window (written .device) checkpoint p → ⊥) → lastCheckpoint written checkpoint p ≡ Q → OnlyShows before p Q
+unfolding run step deviceStep start
 only p Q closed last H crash t long = subst (λ (R : Page). Recovers l211 H t R) (is-last (r .1)) (r .2)
   where
     r : (R : Page) × MayShow before (during checkpoint p) R × Recovers l211 H t R × Bytes H

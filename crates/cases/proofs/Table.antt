@@ -13,13 +13,13 @@ use Rattle.cases.proofs.Compute.{model-rules, same, same-equal}
 
 agree : List Row → Bool
 agree [] = true
-agree (r ∷ rs) = same (r .given) (r .stated) && agree rs
+agree (r ∷ rs) = same (r .given) (r .expected) && agree rs
 
-agree-equal : (rs : List Row) → agree rs ≡ true → map (λ r. r .given) rs ≡ map (λ r. r .stated) rs
+agree-equal : (rs : List Row) → agree rs ≡ true → map (λ r. r .given) rs ≡ map (λ r. r .expected) rs
 unfolding agree
 agree-equal [] e = refl
 agree-equal (r ∷ rs) e =
-    ap₂ _∷_ (same-equal (r .given) (r .stated) (and-left _ (agree rs) e)) (agree-equal rs (and-right (same (r .given) (r .stated)) (agree rs) e))
+    ap₂ _∷_ (same-equal (r .given) (r .expected) (and-left _ (agree rs) e)) (agree-equal rs (and-right (same (r .given) (r .expected)) (agree rs) e))
 
 -- ---- a list, and the image of a state, computed before they are handed on
 
@@ -33,10 +33,19 @@ known-same [] k = refl
 known-same (x ∷ xs) k = known-same xs (λ ys. k (x ∷ ys))
 
 abbrev withImage : State → List ℕ → State
-withImage s I = record { layout = s .layout; durable = s .durable; played = s .played; image = I; session = s .session; model = s .model }
+withImage s I = record {
+  device = record {
+    layout = s .device .layout;
+    durable = s .device .durable;
+    played = s .device .played;
+    image = I;
+    session = s .device .session;
+  };
+  model = s .model;
+}
 
 abbrev knownState : {A : Type 0} → State → (State → A) → A
-knownState s k = known (s .image) (λ I. k (withImage s I))
+knownState s k = known (s .device .image) (λ I. k (withImage s I))
 
 followKnown : List Case → State → List Row
 followKnown [] s = []
@@ -46,7 +55,7 @@ follow-same : (cs : List Case) (s : State) → followKnown cs s ≡ follow cs s
 unfolding followKnown follow
 follow-same [] s = refl
 follow-same (c ∷ cs) s =
-    known-same (step s (c .call) .image) (λ I. rowOf s c (withImage (step s (c .call)) I) ∷ followKnown cs (withImage (step s (c .call)) I))
+    known-same (step s (c .call) .device .image) (λ I. rowOf s c (withImage (step s (c .call)) I) ∷ followKnown cs (withImage (step s (c .call)) I))
     ∙ ap (λ (rs : List Row). rowOf s c (step s (c .call)) ∷ rs) (follow-same cs (step s (c .call)))
 
 -- ---- the table
@@ -58,7 +67,7 @@ rows-same : rowsKnown ≡ rows
 unfolding rowsKnown rows
 rows-same =
     ap (λ (rs : List Row). sizeCases ++ openCases ++ rs ++ copyCase)
-    (known-same (start l211 fresh room .image) (λ I. followKnown history (withImage (start l211 fresh room) I)) ∙ follow-same history (start l211 fresh room))
+    (known-same (start l211 fresh room .device .image) (λ I. followKnown history (withImage (start l211 fresh room) I)) ∙ follow-same history (start l211 fresh room))
 
 rows-agree : agree rowsKnown ≡ true
 unfolding model-rules rowsKnown history known followKnown sizeCases openCases copyCase same agree

@@ -26,7 +26,7 @@ newBytes = replicate 6 0 ++ fourBytes ++ replicate 502 0
 
 -- a crash after p operations of a checkpoint made in state s may leave H
 abbrev pub MayLeave : State → ℕ → Image → Type 0
-MayLeave s p H = CrashImage (s .durable) (playedAt s (during checkpoint p)) H
+MayLeave s p H = CrashImage (s .device .durable) (playedAt (s .device) (during checkpoint p)) H
 
 -- some crash there is followed by an opening that shows the page Q
 abbrev pub CanShow : State → ℕ → Page → Type 0

@@ -1,6 +1,9 @@
 -- Document 01's bench cases P1 to P10 as one table. Each row holds the numbers that the definitions of `model` give and
--- the numbers that document 01 states; `Holds` says that they agree in every row. P2 to P9 are one history, each call made
--- by the step of model's histories. Proved in proofs/Table.antt.
+-- those that are expected; `Holds` says that they agree in every row. P2's two rows are openings of one fresh image, each
+-- made alone; P3 to P9 are one history from there, each call made by the step of model's histories. Expected are the numbers
+-- that document 01 states in these cases and, beside them, what its rules give: 0 for a served call, no operations of a
+-- refused one, the two words of P3, the two operations of P3, 43 and 1 of P8 and P9, and in P8 that the backup segment is
+-- free after the checkpoint and no more after the write that takes it. Proved in proofs/Table.antt.
 use Prim.Native.Nat.{ℕ}
 use mathlib.Core.Path.{_≡_}
 use mathlib.Core.Bool.{cond}
@@ -11,10 +14,11 @@ use Rattle.model.specs.declared.Session.{Session}
 use Rattle.model.specs.Words.{Image}
 use Rattle.model.specs.Layout.{lineSize, unpaired, imageSize}
 use Rattle.model.specs.Container.{activeLine, segState, backupToMain, isFree}
-use Rattle.model.specs.Ops.{Trace, Outcome, encode}
+use Rattle.model.specs.Ops.{Trace, encode}
+use Rattle.model.specs.Outcome.{Outcome}
 use Rattle.model.specs.Format.{container, formatOutcome}
 use Rattle.model.specs.Open.{openOutcome}
-use Rattle.model.specs.Reads.{checkpointPart}
+use Rattle.model.specs.Reads.{readStatus, checkpointPart}
 use Rattle.model.specs.Write.{WriteArgs, writeOutcome}
 use Rattle.model.specs.History.{Call, callWrite, callCheckpoint, State, outcome, start, step}
 
@@ -24,10 +28,10 @@ pub record Row : Type 0 where
   -- the number of the case in document 01
   pub case : ℕ
   pub given : List ℕ
-  pub stated : List ℕ
+  pub expected : List ℕ
 
 abbrev pub row : ℕ → List ℕ → List ℕ → Row
-row n given stated = record { case = n; given = given; stated = stated }
+row n given expected = record { case = n; given = given; expected = expected }
 
 -- the status of a call and its number of operations
 abbrev pub answer : Outcome → List ℕ
@@ -71,32 +75,32 @@ writeFour = write 0 6 fourBytes
 
 -- ---- the history
 
--- a call of the history, what is read off it besides its answer, and the numbers that document 01 states
+-- a call of the history, what is read off it besides its answer, and the numbers expected
 pub record Case : Type 0 where
   pub case : ℕ
   pub call : Call
   pub read : Outcome → State → List ℕ
-  pub stated : List ℕ
+  pub expected : List ℕ
 
 abbrev pub case : ℕ → Call → (Outcome → State → List ℕ) → List ℕ → Case
-case n c read stated = record { case = n; call = c; read = read; stated = stated }
+case n c read expected = record { case = n; call = c; read = read; expected = expected }
 
 abbrev pub answerOnly : Outcome → State → List ℕ
 answerOnly o s = []
 
 -- 1 if backup segment 0 is free
 abbrev pub backupFree : State → ℕ
-backupFree s = cond (isFree (segState (s .image) (activeLine (s .image))) (backupToMain (s .image)) 0) 1 0
+backupFree s = cond (isFree (segState (s .device .image) (activeLine (s .device .image))) (backupToMain (s .device .image)) 0) 1 0
 
 unfoldable pub history : List Case
 history =
     case 3 writeFour (λ o s. encode (o .ops)) (0 ∷ 2 ∷ 1 ∷ 512 ∷ 0xb2a1000000000000 ∷ 1 ∷ 520 ∷ 0xd4c3 ∷ [])
-    ∷ case 4 checkpoint (λ o s. take 2 (drop 192 (s .image))) (0 ∷ 18 ∷ 1 ∷ 0 ∷ [])
+    ∷ case 4 checkpoint (λ o s. take 2 (drop 192 (s .device .image))) (0 ∷ 18 ∷ 1 ∷ 0 ∷ [])
     ∷ case 5 (write 0 0 aWord) (λ o s. take 3 (encode (o .ops))) (0 ∷ 43 ∷ 1 ∷ 256 ∷ 0xffffffffffffff00 ∷ [])
-    ∷ case 6 (write 0 8 aWord) (λ o s. checkpointPart l211 (s .image) 0 0 .start ∷ []) (0 ∷ 1 ∷ 1024 ∷ [])
-    ∷ case 7 (write 1 0 aWord) (λ o s. checkpointPart l211 (s .image) 1 0 .size ∷ []) (0 ∷ 1 ∷ 0 ∷ [])
+    ∷ case 6 (write 0 8 aWord) (λ o s. checkpointPart l211 (s .device .image) 0 0 .start ∷ []) (0 ∷ 1 ∷ 1024 ∷ [])
+    ∷ case 7 (write 1 0 aWord) (λ o s. readStatus l211 (s .device .image) 1 0 ∷ checkpointPart l211 (s .device .image) 1 0 .size ∷ []) (0 ∷ 1 ∷ 0 ∷ 0 ∷ [])
     ∷ case 8 checkpoint (λ o s. backupFree s ∷ []) (0 ∷ 22 ∷ 1 ∷ [])
-    ∷ case 8 (write 1 0 aWord) (λ o s. backupToMain (s .image) 0 ∷ backupFree s ∷ []) (0 ∷ 43 ∷ 1 ∷ 0 ∷ [])
+    ∷ case 8 (write 1 0 aWord) (λ o s. backupToMain (s .device .image) 0 ∷ backupFree s ∷ []) (0 ∷ 43 ∷ 1 ∷ 0 ∷ [])
     ∷ case 8 (write 0 0 aWord) answerOnly (9 ∷ 0 ∷ [])
     ∷ case 9 (write 1 255 (9 ∷ [])) answerOnly (0 ∷ 1 ∷ [])
     ∷ case 9 (write 1 256 (9 ∷ [])) answerOnly (8 ∷ 0 ∷ [])
@@ -105,7 +109,7 @@ history =
 
 -- the row of a call that is made in state s and leaves the state after
 abbrev pub rowOf : State → Case → State → Row
-rowOf s c after = row (c .case) (answer (outcome s (c .call)) ++ c .read (outcome s (c .call)) after) (c .stated)
+rowOf s c after = row (c .case) (answer (outcome (s .device) (c .call)) ++ c .read (outcome (s .device) (c .call)) after) (c .expected)
 
 -- the calls, one after the other
 unfoldable pub follow : List Case → State → List Row
@@ -144,4 +148,4 @@ rows = sizeCases ++ openCases ++ follow history (start l211 fresh room) ++ copyC
 
 -- P1 TO P10
 abbrev pub Holds : Type 0
-Holds = map (λ r. r .given) rows ≡ map (λ r. r .stated) rows
+Holds = map (λ r. r .given) rows ≡ map (λ r. r .expected) rows
