@@ -1,21 +1,22 @@
--- Fault 1: the state's line may arrive before the pair's, since no fence stands between them.
-use Prim.Native.Nat.{ℕ, _/_, _%_}
+-- Fault 1: the state's line may arrive before the pair's and before the copied bytes, since no fence stands between them.
+use Prim.Native.Nat.{ℕ, _+_, _/_, _%_}
 use mathlib.Core.Path.{_≡_, refl, sym, ap, subst, _∙_}
-use mathlib.Core.Logic.{_≢_, inl}
-use mathlib.Core.Bool.{Bool, true, false, not, _&&_}
+use mathlib.Core.Logic.{_≢_, inl, ⊎-elim}
+use mathlib.Core.Bool.{Bool, true, false, not, _&&_, false≢true}
 use mathlib.Core.List.{[], _∷_, _++_}
 use native.Mathlib.Omega.{arith}
 use native.Mathlib.Decide.{ℕ-discrete}
 use lib.Dec.{eqb, lit<}
-use lib.ListN.{length, take, replicate}
-use lib.Seq.{take-length}
+use lib.ListN.{length, take, drop, getD, replicate, length-append}
+use lib.Seq.{take-length, take-append-add}
 use borrow.Author.Tests.{eqb-true, eqb-false, not-true}
 use Rattle.model.specs.Words.{Image, byteAt}
 use Rattle.model.specs.Layout.{wordSize, lineSize, unpaired}
 use Rattle.model.specs.Ops.{Ops, store, clwb, sfence, apply, replay}
 use Rattle.model.specs.Session.{freshSession}
-use Rattle.model.specs.History.{start}
-use Rattle.model.specs.Crash.{CrashImage, Stage}
+use Rattle.model.specs.Reference.{Page}
+use Rattle.model.specs.History.{State, start}
+use Rattle.model.specs.Crash.{Durable, CrashImage, Stage}
 use Rattle.model.proofs.Range.{and-left, and-right}
 use Rattle.model.proofs.Persist.{Misses, length-apply, length-replay, replay-clear, replay-append, apply-cong}
 use Rattle.model.proofs.Settled.{Off}
@@ -24,7 +25,9 @@ use Rattle.model.proofs.CrashExact.{unfenced-lost}
 use Rattle.cases.specs.Table.{room, writes, aWord}
 use Rattle.cases.proofs.Compute.{model-rules, same, same-equal, small, small-bytes}
 use Rattle.cases.proofs.Starts.{standing, started}
-use Rattle.faults.specs.Faults.{l111, one, earlyStateOps, earlyWriteOps, EarlyState}
+use Rattle.faults.specs.Faults.{l111, one, earlyStateOps, earlyWriteOps, EarlyState, ShowsBackup, EarlyStateUnseen}
+use Rattle.faults.proofs.Shown.{no-checkpoint}
+use Rattle.faults.proofs.TwoCalls.{image, old, new, marked, before, saved, stands, replayed, calls-permitted, old-shown}
 
 -- every store of O is of a word in another line than ℓ
 elsewhere : ℕ → ℕ → Bool
@@ -77,13 +80,31 @@ last-alone I A p w unfenced a whole = record { long = length-apply (store p w) I
       agree = λ i e. replay-clear (store p w ∷ []) I i ((λ low high. there (omega arith)), tt) ∙ old .agree i e;
     }
 
--- ---- the counterexample
+-- what came before may stand whole
+durable-after : (ℓ k : ℕ) (O E : Ops) → Durable ℓ E k → Durable ℓ (O ++ E) (length O + k)
+durable-after ℓ k [] E h A C D p l e = omega (arith, h A C D p l e)
+durable-after ℓ k (o ∷ O) E h [] C D p l e = omega arith
+durable-after ℓ k (o ∷ O) E h (a ∷ A) C D p l e = omega (arith, durable-after ℓ k O E h A C D p l (ap (drop 1) e))
 
-starts : start l111 (one unpaired) room ≡ standing l111 (one unpaired) (replicate 256 40)
+crash-after : (I H : Image) (O E : Ops) → CrashImage (replay O I) E H → CrashImage I (O ++ E) H
+crash-after I H O E c = record { long = c .long ∙ length-replay O I; lines = λ ℓ. stage (c .lines ℓ) }
+  where
+    stage : {ℓ : ℕ} → Stage ℓ (replay O I) E H → Stage ℓ I (O ++ E) H
+    stage {ℓ} s = record {
+      k = length O + s .k;
+      within = omega (arith, s .within, length-append O E);
+      durable = durable-after ℓ (s .k) O E (s .durable);
+      agree = λ i e. s .agree i e
+          ∙ sym (ap (λ (X : Ops). byteAt (replay X I) i) (take-append-add O E (s .k)) ∙ ap (λ (J : Image). byteAt J i) (replay-append O (take (s .k) E) I));
+    }
+
+-- ---- from an unpaired main segment
+
+starts : start l111 (one unpaired) room .device ≡ standing l111 (one unpaired) (replicate 256 40) .device
 unfolding model-rules same
-starts = started l111 (one unpaired) (one unpaired) room (replicate 256 40) refl (same-equal _ _ refl) (same-equal _ _ refl)
+starts = ap (λ (s : State). s .device) (started l111 (one unpaired) (one unpaired) room (replicate 256 40) refl (same-equal _ _ refl) (same-equal _ _ refl))
 
-refused : EarlyState (standing l111 (one unpaired) (replicate 256 40))
+refused : EarlyState (standing l111 (one unpaired) (replicate 256 40) .device)
 unfolding model-rules earlyWriteOps earlyStateOps hasFence avoids elsewhere small
 refused = (
   (small-bytes aWord refl, λ served needs. (lit< tt, inl refl)),
@@ -95,5 +116,34 @@ refused = (
   },
 )
 
-pub early-state : EarlyState (start l111 (one unpaired) room)
+pub early-state : EarlyState (start l111 (one unpaired) room .device)
 early-state = subst EarlyState (sym starts) refused
+
+-- ---- from a paired one
+
+abbrev early : ℕ → Ops
+early n = take n (earlyWriteOps marked (image 1 2 1 new) (writes 0 8 aWord) 0)
+
+-- the state's line arrives, the copied lines do not
+left-behind : CrashImage (image 0 1 0 old) (before ++ early 37) (image 1 2 2 new)
+unfolding model-rules earlyWriteOps earlyStateOps hasFence avoids elsewhere same
+left-behind =
+    subst (λ (H : Image). CrashImage (image 0 1 0 old) (before ++ early 37) H) (same-equal (apply (store 192 2) (image 1 2 1 new)) (image 1 2 2 new) refl)
+    (crash-after (image 0 1 0 old) _ before (early 37)
+    (subst (λ (I : Image). CrashImage I (early 37) (apply (store 192 2) (image 1 2 1 new))) (sym replayed)
+    (last-alone (image 1 2 1 new) (early 36) 192 2 refl refl refl)))
+
+unseen : ShowsBackup (saved (image 1 2 1 new) marked)
+unfolding model-rules small
+unseen = record {
+  permitted = (small-bytes aWord refl, λ served needs. absurd (false≢true needs));
+  left = image 1 2 2 new;
+  crash = left-behind;
+  accepted = refl;
+  page = old;
+  shown = old-shown;
+  wrong = ⊎-elim (λ e. let z : _≡_ {A = ℕ} 40 1 = ap (λ (P : Page). getD P 0 0) e in omega arith) (λ w. no-checkpoint (w .0 .0));
+}
+
+pub early-state-unseen : EarlyStateUnseen (start l111 (one 0) room)
+early-state-unseen = (calls-permitted, subst ShowsBackup (sym stands) unseen)

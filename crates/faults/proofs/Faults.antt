@@ -1,9 +1,9 @@
 -- The four faults, gathered.
 use Rattle.faults.specs.Faults.{Faults}
-use Rattle.faults.proofs.EarlyState.{early-state}
+use Rattle.faults.proofs.EarlyState.{early-state, early-state-unseen}
 use Rattle.faults.proofs.ClearedMarks.{cleared-marks}
 use Rattle.faults.proofs.SkippedCopy.{skipped-copy}
 use Rattle.faults.proofs.InactiveLine.{inactive-line}
 
 pub faults : Faults
-faults = record { earlyState = early-state; clearedMarks = cleared-marks; skippedCopy = skipped-copy; inactiveLine = inactive-line }
+faults = record { earlyState = early-state; earlyStateUnseen = early-state-unseen; clearedMarks = cleared-marks; skippedCopy = skipped-copy; inactiveLine = inactive-line }

@@ -1,5 +1,5 @@
 -- Fault 4: the backup segment of a main segment in state 2 is taken away from it.
-use mathlib.Core.Path.{_≡_, refl, sym, subst}
+use mathlib.Core.Path.{_≡_, refl, sym, ap, subst}
 use mathlib.Core.List.{[], _∷_, _++_}
 use lib.ListN.{replicate}
 use Rattle.model.specs.Words.{Image}
@@ -7,12 +7,12 @@ use Rattle.model.specs.Layout.{unpaired}
 use Rattle.model.specs.Ops.{store, apply}
 use Rattle.model.specs.Format.{container}
 use Rattle.model.specs.Reference.{Page}
-use Rattle.model.specs.History.{start}
+use Rattle.model.specs.History.{State, start}
 use Rattle.model.proofs.CrashExact.{newest}
 use Rattle.cases.specs.Table.{l211, room}
 use Rattle.cases.proofs.Compute.{model-rules, same, same-equal}
 use Rattle.cases.proofs.Starts.{standing, started}
-use Rattle.faults.specs.Faults.{two, inactiveWriteOps, InactiveLine}
+use Rattle.faults.specs.Faults.{two, inactivePlan, inactiveWriteOps, InactiveLine}
 
 -- what opening leaves of `two`, and the page that it shows
 abbrev opened : Image
@@ -23,12 +23,12 @@ opened =
 abbrev page : Page
 page = replicate 256 90 ++ replicate 256 41
 
-starts : start l211 two room ≡ standing l211 opened page
+starts : start l211 two room .device ≡ standing l211 opened page .device
 unfolding model-rules same
-starts = started l211 two opened room page refl (same-equal _ _ refl) (same-equal _ _ refl)
+starts = ap (λ (s : State). s .device) (started l211 two opened room page refl (same-equal _ _ refl) (same-equal _ _ refl))
 
-refused : InactiveLine (standing l211 opened page)
-unfolding model-rules inactiveWriteOps
+refused : InactiveLine (standing l211 opened page .device)
+unfolding model-rules inactivePlan inactiveWriteOps
 refused = (
   refl,
   record {
@@ -39,5 +39,5 @@ refused = (
   },
 )
 
-pub inactive-line : InactiveLine (start l211 two room)
+pub inactive-line : InactiveLine (start l211 two room .device)
 inactive-line = subst InactiveLine (sym starts) refused

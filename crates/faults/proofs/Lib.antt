@@ -1,5 +1,6 @@
-pub mod EarlyState
 pub mod Shown
+pub mod TwoCalls
+pub mod EarlyState
 pub mod ClearedMarks
 pub mod SkippedCopy
 pub mod InactiveLine

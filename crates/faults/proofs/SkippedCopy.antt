@@ -11,14 +11,14 @@ use Rattle.model.specs.Layout.{unpaired}
 use Rattle.model.specs.Ops.{store, apply}
 use Rattle.model.specs.Format.{container}
 use Rattle.model.specs.Reference.{Page}
-use Rattle.model.specs.History.{State}
-use Rattle.model.specs.CrashSafety.{Reads, during, playedAt}
+use Rattle.model.specs.History.{State, calledOps}
+use Rattle.model.specs.CrashSafety.{Reads}
 use Rattle.model.proofs.CrashExact.{newest}
 use Rattle.cases.specs.Table.{write, aWord}
 use Rattle.cases.proofs.Compute.{model-rules, same, same-equal, small, small-bytes}
 use Rattle.cases.proofs.Starts.{standing}
 use Rattle.faults.specs.Faults.{l111, one, skippingAction, skippingOps, skippingOpened, skippingStart, SkippedCopy}
-use Rattle.faults.proofs.Shown.{only-block}
+use Rattle.faults.proofs.Shown.{only-block, no-checkpoint}
 
 abbrev stale : State
 stale = standing l111 (one 0) (replicate 256 40)
@@ -47,10 +47,11 @@ unfolding model-rules small
 wrong = record {
   permitted = (small-bytes aWord refl, λ served needs. absurd (false≢true needs));
   left = left;
-  crash = newest (one 0) (playedAt stale (during (write 0 0 aWord) 2));
+  crash = newest (one 0) (calledOps (stale .device) (write 0 0 aWord) 2);
+  accepted = refl;
   page = replicate 256 90;
   shown = subst (λ (I : Image). Reads l111 I (replicate 256 90) (replicate 256 90)) (sym recovers) shown;
-  wrong = ⊎-elim (λ e. let z : _≡_ {A = ℕ} 90 40 = ap (λ (P : Page). getD P 0 0) e in omega arith) (λ w. w .0);
+  wrong = ⊎-elim (λ e. let z : _≡_ {A = ℕ} 90 40 = ap (λ (P : Page). getD P 0 0) e in omega arith) (λ w. no-checkpoint (w .0 .0));
 }
 
 pub skipped-copy : SkippedCopy (skippingStart l111 (one 0))

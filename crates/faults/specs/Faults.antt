@@ -1,49 +1,56 @@
 -- Document 01's "Faults a reader could mistake for good work". Each fault is model's own definition with one change, and
 -- each statement says that demand 3 then fails: a crash may leave an image that opening refuses, or of which it shows a
--- page that is not permitted. Proved in proofs/.
+-- page that is not permitted, which nobody notices. Proved in proofs/.
 use Prim.Native.Nat.{ℕ, _+_}
 use mathlib.Core.Path.{_≡_}
 use mathlib.Core.Bool.{Bool, true, false, cond}
-use mathlib.Core.List.{[], _∷_, _++_}
+use mathlib.Core.List.{List, [], _∷_, _++_}
 use lib.ListN.{take, replicate}
 use Rattle.model.specs.declared.Layout.{Layout}
 use Rattle.model.specs.declared.Session.{Session}
 use Rattle.model.specs.declared.Action.{Action}
 use Rattle.model.specs.declared.Action.the-variants.{Nothing, ZeroMain, CopyToMain}
+use Rattle.model.specs.declared.Plan.{Plan}
+use Rattle.model.specs.declared.Plan.the-variants.{NoCopy, OwnBackup, NewBackup, NoneFree}
 use Rattle.model.specs.Range.{cat, anyB, firstB}
 use Rattle.model.specs.Words.{Image}
 use Rattle.model.specs.Layout.{lineSize, unpaired, ssBackup}
 use Rattle.model.specs.Status.{served}
 use Rattle.model.specs.Container.{activeLine, inactiveLine, segState, backupToMain, isPaired, pairedBackup, isFree, byState, checkpointBytes}
-use Rattle.model.specs.Session.{freshSession}
+use Rattle.model.specs.Session.{dirtyWord, freshSession}
 use Rattle.model.specs.Ops.{clwb, sfence, Ops, replay, storeByte}
 use Rattle.model.specs.Format.{container}
 use Rattle.model.specs.Open.{actionOps, openStatus}
-use Rattle.model.specs.Write.{WriteArgs, needsCopy, backupOps, spanOps, writeOps, writeStatus}
+use Rattle.model.specs.Write.{WriteArgs, needsCopy, copyPlan, copies, noneFree, backupOps, copyOnWriteOps, spanOps, writeStatus}
 use Rattle.model.specs.Crash.{CrashImage}
 use Rattle.model.specs.Reference.{Page}
-use Rattle.model.specs.History.{Call, State, start, run, openedImage, Permitted, AllPermitted}
-use Rattle.model.specs.CrashSafety.{Reads, during, playedAt, MayShow}
+use Rattle.model.specs.History.{Call, Device, State, calledOps, start, run, openedImage, Permitted, AllPermitted}
+use Rattle.model.specs.CrashSafety.{Reads, during, MayShow}
 use Rattle.cases.specs.Table.{sizes, l211, room, writes, write, checkpoint, aWord}
 
 -- ---- how demand 3 fails
 
--- what was durable in state s is accepted, and a crash after the operations O may leave an image that opening refuses
-pub record Refuses (s : State) (O : Ops) : Type 0 where
-  pub accepted : openStatus (s .layout) (s .durable) room ≡ 0
+-- what was durable on the device d is accepted, and a crash after the operations O may leave an image that opening refuses
+pub record Refuses (d : Device) (O : Ops) : Type 0 where
+  pub accepted : openStatus (d .layout) (d .durable) room ≡ 0
   pub left : Image
-  pub crash : CrashImage (s .durable) (s .played ++ O) left
-  pub refused : openStatus (s .layout) left room ≡ 4
+  pub crash : CrashImage (d .durable) (d .played ++ O) left
+  pub refused : openStatus (d .layout) left room ≡ 4
 
--- a crash after p operations of the call c, made in state s, may leave an image that `recover` takes to one whose reads
--- show a page, and it is none of those that demand 3 permits
-pub record ShowsOther (recover : Image → Image) (s : State) (c : Call) (p : ℕ) : Type 0 where
-  pub permitted : Permitted s c
+-- a crash after O, the first p operations of the call c made in state s, may leave an image that opening accepts and
+-- `recover` takes to one whose reads show a page, and it is none of those that demand 3 permits
+pub record ShowsOther (recover : Image → Image) (s : State) (c : Call) (p : ℕ) (O : Ops) : Type 0 where
+  pub permitted : Permitted (s .device) c
   pub left : Image
-  pub crash : CrashImage (s .durable) (playedAt s (during c p)) left
+  pub crash : CrashImage (s .device .durable) (s .device .played ++ O) left
+  pub accepted : openStatus (s .device .layout) left room ≡ 0
   pub page : Page
-  pub shown : Reads (s .layout) (recover left) page page
+  pub shown : Reads (s .device .layout) (recover left) page page
   pub wrong : MayShow s (during c p) page → ⊥
+
+-- the same where the operations of the call are right
+abbrev pub CalledShowsOther : (Image → Image) → State → Call → ℕ → Type 0
+CalledShowsOther recover s c p = ShowsOther recover s c p (calledOps (s .device) c p)
 
 -- ---- start images: main segments hold 40 and 41, the backup segment 90
 
@@ -57,30 +64,52 @@ one pair =
 
 -- ---- 1. state 2 stored before the copy's fence
 
-unfoldable pub earlyStateOps : Session → Image → ℕ → ℕ → Ops
-earlyStateOps s I i j = backupOps s I i j ++ storeByte I (activeLine I + i) ssBackup ∷ sfence ∷ clwb (activeLine I) ∷ sfence ∷ []
+unfoldable pub earlyStateOps : Layout → Image → ℕ → ℕ → Plan → Ops
+earlyStateOps l I word i p =
+    cond (copies p) (backupOps l I word i p ++ storeByte I (activeLine I + i) ssBackup ∷ sfence ∷ clwb (activeLine I) ∷ sfence ∷ []) []
 
 -- the operations of a write with this fault; what it refuses is not changed
 unfoldable pub earlyWriteOps : Session → Image → WriteArgs → ℕ → Ops
 earlyWriteOps s I w j =
-    cond (served (writeStatus s I w j room)) (cond (needsCopy s I (w .main)) (earlyStateOps s I (w .main) j) [] ++ spanOps (s .layout) I w) []
+    cond (served (writeStatus s I w j room))
+    (earlyStateOps (s .layout) I (dirtyWord s (w .main)) (w .main) (copyPlan s I (w .main) j) ++ spanOps (s .layout) I w)
+    []
 
 -- from an unpaired main segment: a word written, cut after 39 of its 43 operations
-abbrev pub EarlyState : State → Type 0
-EarlyState s =
-    Permitted s (write 0 0 aWord) × Refuses s (take 39 (earlyWriteOps (s .session) (s .image) (writes 0 0 aWord) 0))
+abbrev pub EarlyState : Device → Type 0
+EarlyState d = Permitted d (write 0 0 aWord) × Refuses d (take 39 (earlyWriteOps (d .session) (d .image) (writes 0 0 aWord) 0))
+
+-- a word written and a checkpoint, for what follows
+abbrev pub twoCalls : List Call
+twoCalls = write 0 0 aWord ∷ checkpoint ∷ []
+
+-- a word written where these leave a paired main segment, in state 1 with its block dirty and its backup behind, and cut
+-- after 37 of its 41 operations: opening accepts what is left and shows the backup's old bytes
+abbrev pub ShowsBackup : State → Type 0
+ShowsBackup s =
+    ShowsOther (λ H. openedImage l111 H room) s (write 0 8 aWord) 37 (take 37 (earlyWriteOps (s .device .session) (s .device .image) (writes 0 8 aWord) 0))
+
+abbrev pub EarlyStateUnseen : State → Type 0
+EarlyStateUnseen s = AllPermitted s twoCalls × ShowsBackup (run s twoCalls)
 
 -- ---- 2. marks cleared at a checkpoint
 
 unfoldable pub marksCleared : State → State
-marksCleared s =
-    record { layout = s .layout; durable = s .durable; played = s .played; image = s .image; session = freshSession (s .session .layout); model = s .model }
+marksCleared s = record {
+  device = record {
+    layout = s .device .layout;
+    durable = s .device .durable;
+    played = s .device .played;
+    image = s .device .image;
+    session = freshSession (s .device .session .layout);
+  };
+  model = s .model;
+}
 
--- from a paired main segment: a word written, a checkpoint, another word written, this cut after 2 of its 5 operations
+-- from a paired main segment: the two calls, another word written, this cut after 2 of its 5 operations
 abbrev pub ClearedMarks : State → Type 0
 ClearedMarks s =
-    AllPermitted s (write 0 0 aWord ∷ checkpoint ∷ [])
-    × ShowsOther (λ H. openedImage l111 H room) (marksCleared (run s (write 0 0 aWord ∷ checkpoint ∷ []))) (write 0 8 aWord) 2
+    AllPermitted s twoCalls × CalledShowsOther (λ H. openedImage l111 H room) (marksCleared (run s twoCalls)) (write 0 8 aWord) 2
 
 -- ---- 3. opening skips the copy to the backup segment
 
@@ -98,27 +127,31 @@ skippingOpened l I = replay (skippingOps l I) I
 
 unfoldable pub skippingStart : Layout → Image → State
 skippingStart l I = record {
-  layout = l;
-  durable = skippingOpened l I;
-  played = [];
-  image = skippingOpened l I;
-  session = freshSession l;
+  device = record { layout = l; durable = skippingOpened l I; played = []; image = skippingOpened l I; session = freshSession l };
   model = record { working = checkpointBytes l I (activeLine I); checkpoint = checkpointBytes l I (activeLine I) };
 }
 
 -- from a paired main segment whose backup is stale: a word written, cut after 2 of its 5 operations
 abbrev pub SkippedCopy : State → Type 0
-SkippedCopy s = ShowsOther (skippingOpened l111) s (write 0 0 aWord) 2
+SkippedCopy s = CalledShowsOther (skippingOpened l111) s (write 0 0 aWord) 2
 
 -- ---- 4. a free backup segment judged by the inactive line
 
 abbrev pub inactiveFree : Image → ℕ → Bool
 inactiveFree I = isFree (segState I (inactiveLine I)) (backupToMain I)
 
--- the operations of a write that takes the first backup segment that this line calls free
+-- the plan of a write that takes the first backup segment that this line calls free, and its operations
+unfoldable pub inactivePlan : Session → Image → ℕ → Plan
+inactivePlan s I i =
+    cond (needsCopy s I i)
+    (cond (isPaired (s .layout) (backupToMain I) i) (OwnBackup (pairedBackup (s .layout) (backupToMain I) i))
+    (cond (anyB (s .layout .backups) (inactiveFree I)) (NewBackup (firstB (s .layout .backups) (inactiveFree I))) NoneFree))
+    NoCopy
+
 unfoldable pub inactiveWriteOps : Session → Image → WriteArgs → Ops
 inactiveWriteOps s I w =
-    cond (anyB (s .layout .backups) (inactiveFree I)) (writeOps s I w (firstB (s .layout .backups) (inactiveFree I))) []
+    cond (noneFree (inactivePlan s I (w .main))) []
+    (copyOnWriteOps (s .layout) I (dirtyWord s (w .main)) (w .main) (inactivePlan s I (w .main)) ++ spanOps (s .layout) I w)
 
 -- main segment 0 in state 2 with the only backup, but not so on the inactive line, and main segment 1 in state 1
 abbrev pub two : Image
@@ -127,14 +160,15 @@ two =
     (replicate 256 40 ++ replicate 256 41 ++ replicate 256 90)
 
 -- a word written to main segment 1, which a right write refuses with 9; this one, cut after its first operation
-abbrev pub InactiveLine : State → Type 0
-InactiveLine s =
-    (writeStatus (s .session) (s .image) (writes 1 0 aWord) 0 room ≡ 9)
-    × Refuses s (take 1 (inactiveWriteOps (s .session) (s .image) (writes 1 0 aWord)))
+abbrev pub InactiveLine : Device → Type 0
+InactiveLine d =
+    (writeStatus (d .session) (d .image) (writes 1 0 aWord) 0 room ≡ 9)
+    × Refuses d (take 1 (inactiveWriteOps (d .session) (d .image) (writes 1 0 aWord)))
 
--- THE FOUR FAULTS
+-- THE FOUR FAULTS, the first both ways
 pub record Faults : Type 0 where
-  pub earlyState : EarlyState (start l111 (one unpaired) room)
+  pub earlyState : EarlyState (start l111 (one unpaired) room .device)
+  pub earlyStateUnseen : EarlyStateUnseen (start l111 (one 0) room)
   pub clearedMarks : ClearedMarks (start l111 (one 0) room)
   pub skippedCopy : SkippedCopy (skippingStart l111 (one 0))
-  pub inactiveLine : InactiveLine (start l211 two room)
+  pub inactiveLine : InactiveLine (start l211 two room .device)
