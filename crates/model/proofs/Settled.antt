@@ -87,7 +87,7 @@ settled-more ℓ O E s c I k h durable i e = go (decLe (length O) k)
 -- after a clwb and a later sfence, with no store into the line since
 pub settled-fence : (ℓ : ℕ) (A C : Ops) (p : ℕ) → p / 64 ≡ ℓ → Off ℓ C → Settled ℓ (A ++ (clwb p ∷ C ++ sfence ∷ []))
 settled-fence ℓ A C p l c I k h durable i e =
-    let n : length A ≤ k = durable A C [] p l (sym (append-assoc A (clwb p ∷ C) (sfence ∷ []))) in
+    let n : length A ≤ k = durable A C _ p l (sym (append-assoc A (clwb p ∷ C) (sfence ∷ []))) in
     let R : Ops = clwb p ∷ C ++ sfence ∷ [] in
     let r : Clear i R = each-append (Misses i) C (sfence ∷ []) (c i e) tt in
     ap (λ (J : Image). byteAt J i) (replay-past k A R I n)
