@@ -2,10 +2,9 @@
 -- Open, write and checkpoint are such calls. And the sizes that a container has which is not refused.
 use Prim.Native.Nat.{ℕ, _≤_}
 use mathlib.Core.Path.{_≡_, refl, sym, ap, _∙_}
-use mathlib.Core.Logic.{_≢_}
+use mathlib.Core.Bool.{false}
 use native.Mathlib.Omega.{arith}
 use lib.ListN.{length}
-use borrow.Author.Tests.{ne-eqb}
 use Rattle.model.specs.declared.Layout.{Layout}
 use Rattle.model.specs.declared.Session.{Session}
 use Rattle.model.specs.declared.Status.{Status}
@@ -13,7 +12,7 @@ use Rattle.model.specs.declared.Status.the-variants.{Served}
 use Rattle.model.specs.declared.Answer.{Answer}
 use Rattle.model.specs.Words.{Image}
 use Rattle.model.specs.Layout.{SizesOk, metadataSize}
-use Rattle.model.specs.Status.{codeOf, firstError}
+use Rattle.model.specs.Status.{codeOf, firstError, served}
 use Rattle.model.specs.Container.{containerErrors}
 use Rattle.model.specs.Ops.{Ops, Trace, encode, written}
 use Rattle.model.specs.Outcome.{outcomeOf, Gives}
@@ -32,10 +31,10 @@ sizes-known l I code e z =
 
 -- e is the number of the status, `kept` the session of a refused call, `next` and O session and operations of a served one
 module _ (e : ℕ) (kept next : Session) (O : Ops) (t : Trace) (a : Answer) where
-  pub gives-refused : {k : Status} {x : Session} → (a .status ≡ k) × (a .session ≡ x) × (a .ops ≡ 0) → codeOf k ≡ e → e ≢ 0 → x ≡ kept
+  pub gives-refused : {k : Status} {x : Session} → (a .status ≡ k) × (a .session ≡ x) × (a .ops ≡ 0) → codeOf k ≡ e → served (codeOf k) ≡ false → x ≡ kept
       → Gives (outcomeOf e kept next O) t a t
   unfolding outcomeOf written encode
-  gives-refused h p n q = rw (ne-eqb e 0 n) (ap codeOf (h .0) ∙ p, h .1 ∙ q, h .2, refl)
+  gives-refused h p n q = rw (sym (ap served p) ∙ n) (ap codeOf (h .0) ∙ p, h .1 ∙ q, h .2, refl)
 
   pub gives-served : {x : Session} {n : ℕ} (after : Trace) (r : ℕ) → (a .status ≡ Served) × (a .session ≡ x) × (a .ops ≡ n) → e ≡ 0 → x ≡ next → n ≡ length O
       → Fits t 0 O → Emitted t 0 O after r → Gives (outcomeOf e kept next O) t a after
