@@ -7,19 +7,6 @@ ghost use Rattle.model.specs.Layout.{layoutOf, imageSize};
 ghost use Rattle.model.specs.Status.{codeOf};
 ghost use Rattle.model.specs.Format.{formatted, formatOutcome};
 
-// The status of a format, by its number.
-pub fn format_status(image: &[u8], layout: Layout) -> u64
-    ensures { λ r. ⌜ r ≡ formatOutcome layout (now (image .entry)) .status ⌝ }
-{
-    if !metadata::sizes_ok(layout) {
-        return 1;
-    }
-    if image.len() != metadata::image_size(layout) {
-        return 2;
-    }
-    0
-}
-
 // Puts one value into every byte.
 pub fn fill(bytes: &mut [u8], value: u8)
     ensures { λ _. ⌜ now (bytes .exit) ≡ replicate (length (now (bytes .entry))) value ⌝ }
@@ -51,9 +38,9 @@ pub fn crpm_format(image: &mut [u8], mains: u64, backups: u64, blocks: u64) -> S
     ensures { λ _. ⌜ now (image .exit) ≡ formatOutcome (layoutOf mains backups blocks) (now (image .entry)) .image ⌝ }
 {
     let layout = Layout::new(mains, backups, blocks);
-    let status = format_status(image, layout);
-    if status != 0 {
-        return Status::of(status);
+    let status = metadata::size_status(image, layout);
+    if !status.is_served() {
+        return status;
     }
     write_formatted(image, layout);
     Status::Served
