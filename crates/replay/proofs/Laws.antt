@@ -16,7 +16,7 @@ use Rattle.model.specs.Ops.{Op, clwb, sfence, Ops, Trace, opOf, decode, apply, 
 use Rattle.model.specs.Replay.{wellFormed, allWellFormed, replayCount, replayErrors, replayedOps, replayStatus, replayOutcome}
 use Rattle.model.proofs.Range.{and-left, and-right, all-at}
 use Rattle.model.proofs.Persist.{replay-append}
-use Rattle.model.proofs.Refusals.{served-none}
+use Rattle.model.proofs.Refusals.{served-condition}
 
 -- operation k of a trace, and whether it is well formed
 abbrev pub opAt : Trace → ℕ → Op
@@ -142,8 +142,8 @@ judged-status I t n ill h k e p q = rw (h, k, ← e, ← p, q)
 pub judged : (I : Image) (t : Trace) (n : ℕ) → replayStatus I t n ≡ 0 → (length I % 64 ≡ 0) × (allWellFormed (length I / 64) t (replayCount t n) ≡ true)
 unfolding replayStatus
 judged I t n h =
-    let x = served-none (replayErrors I t n) (omega arith) h in
-    (eqb-true (length I % 64) 0 (not-false _ (x .0)), second (not (eqb (length t % 3) 0)) _ (x .1 .0))
+    let x = served-condition (replayErrors I t n) (omega arith) h in
+    (eqb-true (length I % 64) 0 (not-false _ (x 2)), second (not (eqb (length t % 3) 0)) _ (x 12))
   where
     second : (a b : Bool) → (a || not b) ≡ false → b ≡ true
     second true b e = absurd (true≢false e)
