@@ -1,59 +1,46 @@
 -- What a served read may go by, and that the block it finds lies inside the image.
-use Prim.Native.Nat.{ℕ, zero, suc, _+_, _-_, _*_, _≤_, _<_}
-use mathlib.Core.Path.{_≡_, refl, sym, _∙_, subst}
-use mathlib.Core.Logic.{_≢_}
-use mathlib.Core.Bool.{Bool, true, false, cond}
-use mathlib.Core.List.{[], _∷_}
+use Prim.Native.Nat.{ℕ, _+_, _-_, _*_, _≤_, _<_}
+use mathlib.Core.Path.{_≡_, sym, ap, _∙_, subst}
+use mathlib.Core.Bool.{Bool, true, false}
+use mathlib.Core.List.{_++_}
 use native.Mathlib.Omega.{arith}
 use native.Mathlib.Nat.{add-sub-cancel-left}
-use lib.Dec.{leb}
 use lib.ListN.{length, take, drop}
-use borrow.Author.Tests.{leb-false, ne-eqb, eq-eqb}
+use borrow.Author.Tests.{leb-false, eqb-true}
 use Rattle.model.specs.declared.Layout.{Layout}
+use Rattle.model.specs.declared.Located.{Located}
+use Rattle.model.specs.declared.Located.the-variants.{Nowhere, At}
 use Rattle.model.specs.Words.{Image}
-use Rattle.model.specs.Layout.{SizesOk, imageSize, segmentAt, mainAt, backupAt}
-use Rattle.model.specs.Status.{Errors, firstError}
-use Rattle.model.specs.Container.{activeLine, segState, backupToMain, pairedBackup, byState, containerErrors}
-use Rattle.model.specs.Reads.{readErrors, readStatus, partOf, nowhere, blockPart, workingPart, checkpointPart}
-use Rattle.model.proofs.Refusals.{served-cons, after-served, before-refused}
-use Rattle.model.proofs.Metadata.{ContainerOk, container-then, paired-at, paired-by}
+use Rattle.model.specs.Layout.{SizesOk, segmentSize, imageSize, mainAt}
+use Rattle.model.specs.Status.{Errors, firstError, served}
+use Rattle.model.specs.Container.{activeLine, checkpointLocated, containerErrors, mainErrors, blockErrors}
+use Rattle.model.specs.Reads.{readStatus, partOf, nowhere, blockPart, locatedPart, workingPart, checkpointPart}
+use Rattle.model.proofs.Refusals.{stage-refused, stage-passed, served-condition}
+use Rattle.model.proofs.Metadata.{ContainerOk, container-then}
 use Rattle.model.proofs.Places.{metadata-inside, segment-in-image}
+use Rattle.metadata.proofs.Laws.{image-bound, Inside, located-inside}
 use Rattle.model.specs.Reads as model
 use Rattle.reads.specs.declared.Part.{Part}
 use Rattle.reads.specs.Found.{Found}
 
--- ---- the number
-
--- each number is at most k
-abbrev Most : ℕ → Errors → Type 0
-Most k [] = Unit {0}
-Most k (e ∷ es) = (e .0 ≤ k) × Most k es
-
-error-most : (k : ℕ) (es : Errors) → Most k es → firstError es ≤ k
-unfolding firstError
-error-most k [] h = omega arith
-error-most k (e ∷ es) h = go (e .1) (error-most k es (h .1))
-  where
-    go : (b : Bool) → firstError es ≤ k → cond b (e .0) (firstError es) ≤ k
-    go true ih = h .0
-    go false ih = ih
-
 module _ (l : Layout) (I : Image) (i b : ℕ) where
+  -- ---- the status
+
   abbrev readMore : Errors
-  readMore = (6, leb (l .mains) i) ∷ (7, leb (l .blocks) b) ∷ []
+  readMore = mainErrors l i ++ blockErrors l b
 
   -- refusals 1 to 4 first
-  pub read-refused : (r : ℕ) → r ≡ firstError (containerErrors l I) → r ≢ 0 → r ≡ readStatus l I i b
+  pub read-refused : (r : ℕ) → r ≡ firstError (containerErrors l I) → served r ≡ false → r ≡ readStatus l I i b
   unfolding readStatus
-  read-refused r e n = e ∙ sym (before-refused (containerErrors l I) readMore (λ z. n (e ∙ z)))
+  read-refused r e n = stage-refused r (containerErrors l I) readMore e n
 
-  pub read-then : (c r : ℕ) → c ≡ firstError (containerErrors l I) → c ≡ 0 → r ≡ firstError readMore → r ≡ readStatus l I i b
+  pub read-then : (c r : ℕ) → c ≡ firstError (containerErrors l I) → served c ≡ true → r ≡ firstError readMore → r ≡ readStatus l I i b
   unfolding readStatus
-  read-then c r e z h = h ∙ sym (after-served (containerErrors l I) readMore (omega arith) (sym e ∙ z))
+  read-then c r e z h = h ∙ sym (stage-passed c (containerErrors l I) readMore (omega arith) e z)
 
-  pub read-most : readStatus l I i b ≤ 12
-  unfolding readStatus
-  read-most = error-most 12 (readErrors l I i b) (omega arith)
+  -- what the code's test of the status says
+  pub read-judged : (n : ℕ) (r : Bool) → n ≡ readStatus l I i b → r ≡ served n → served (readStatus l I i b) ≡ r
+  read-judged n r e h = ap (λ (k : ℕ). served k) (sym e) ∙ sym h
 
   -- ---- a served read
 
@@ -62,66 +49,52 @@ module _ (l : Layout) (I : Image) (i b : ℕ) where
     pub sizes : SizesOk l
     pub long : length I ≡ imageSize l
     pub metadata : 512 ≤ length I
+    pub most : length I ≤ 2097664
     pub main : i < l .mains
     pub block : b < l .blocks
 
-  pub readable : readStatus l I i b ≡ 0 → Readable
-  unfolding readStatus
+  pub readable : served (readStatus l I i b) ≡ true → Readable
+  unfolding readStatus imageSize
   readable h =
-      let k = container-then l I readMore h in
-      let m = served-cons 5 (leb (l .mains) i) ((7, leb (l .blocks) b) ∷ []) (k .1) in
+      let k = container-then l I readMore (eqb-true _ _ h) in
+      let s = k .0 .sizes in
       record {
         ok = k .0;
-        sizes = k .0 .sizes;
+        sizes = s;
         long = k .0 .long;
         metadata = omega (arith, k .0 .long, metadata-inside l);
-        main = leb-false _ _ (m .0);
-        block = leb-false _ _ (served-cons 6 (leb (l .blocks) b) [] (m .1) .0);
+        most = omega (arith, k .0 .long, image-bound (l .blocks) (l .mains + l .backups) (omega arith) (omega arith));
+        main = leb-false _ _ (served-condition readMore (omega arith) (k .1) 6);
+        block = leb-false _ _ (served-condition readMore (omega arith) (k .1) 7);
       }
 
-  -- a block of segment k lies inside the image
-  pub block-inside : Readable → (k : ℕ) → k < l .mains + l .backups → segmentAt l k + 256 * b + 256 ≤ length I
-  block-inside r k h = let e = r .long in let q = r .block in omega (arith, segment-in-image l k h)
+  -- where the block stands lies inside the image
+  pub main-inside : Readable → mainAt l i + 256 * b + 256 ≤ length I
+  main-inside r = let e = r .long in let m = r .main in let q = r .block in omega (arith, segment-in-image l i (omega arith))
 
-  -- a main segment in state 2 has a backup segment
-  pub backup-found : Readable → segState I (activeLine I) i ≢ 0 → segState I (activeLine I) i ≢ 1 → pairedBackup l (backupToMain I) i < l .backups
-  backup-found r x y =
-      let s = r .ok .valid .states i (r .main) in
-      let p = r .ok .valid .kept i (r .main) (omega arith) in
-      paired-at l (backupToMain I) i (paired-by l (backupToMain I) i (p .0) (p .1) (p .2)) .0
+  pub located-block : Readable → (p : ℕ) → At p ≡ checkpointLocated l I (activeLine I) i → p + 256 * b + 256 ≤ length I
+  located-block r p e =
+      let s : p + segmentSize l ≤ length I = subst (Inside l I) (sym e) (located-inside l I (activeLine I) i (r .ok .valid) (r .main) (r .long)) in
+      let q = r .block in
+      omega arith
 
   -- ---- the parts
 
-  pub working-refused : readStatus l I i b ≢ 0 → workingPart l I i b ≡ nowhere
+  pub working-refused : served (readStatus l I i b) ≡ false → workingPart l I i b ≡ nowhere
   unfolding workingPart
-  working-refused n = rw (ne-eqb _ _ n)
+  working-refused n = rw n
 
-  pub working-served : readStatus l I i b ≡ 0 → workingPart l I i b ≡ blockPart (mainAt l i) b
+  pub working-served : served (readStatus l I i b) ≡ true → workingPart l I i b ≡ blockPart (mainAt l i) b
   unfolding workingPart
-  working-served e = rw (eq-eqb _ _ e)
+  working-served e = rw e
 
-  pub checkpoint-refused : readStatus l I i b ≢ 0 → checkpointPart l I i b ≡ nowhere
+  pub checkpoint-refused : served (readStatus l I i b) ≡ false → checkpointPart l I i b ≡ nowhere
   unfolding checkpointPart
-  checkpoint-refused n = rw (ne-eqb _ _ n)
+  checkpoint-refused n = rw n
 
-  -- by the state on the active line
-  pub checkpoint-initial : readStatus l I i b ≡ 0 → segState I (activeLine I) i ≡ 0 → checkpointPart l I i b ≡ nowhere
-  unfolding checkpointPart byState
-  checkpoint-initial e s = rw (eq-eqb _ _ e, s)
-
-  pub checkpoint-main : readStatus l I i b ≡ 0 → segState I (activeLine I) i ≡ 1 → checkpointPart l I i b ≡ blockPart (mainAt l i) b
-  unfolding checkpointPart byState
-  checkpoint-main e s = rw (eq-eqb _ _ e, s)
-
-  pub checkpoint-backup : readStatus l I i b ≡ 0 → segState I (activeLine I) i ≢ 0 → segState I (activeLine I) i ≢ 1
-      → checkpointPart l I i b ≡ blockPart (backupAt l (pairedBackup l (backupToMain I) i)) b
-  unfolding checkpointPart byState
-  checkpoint-backup e x y = rw (eq-eqb _ _ e) (go _ _ _ (segState I (activeLine I) i) x y)
-    where
-      go : (u v w : model.Part) (s : ℕ) → s ≢ 0 → s ≢ 1 → byState s u v w ≡ w
-      go u v w zero x y = absurd (x refl)
-      go u v w (suc zero) x y = absurd (y refl)
-      go u v w (suc (suc s)) x y = refl
+  pub checkpoint-served : (x : Located) → served (readStatus l I i b) ≡ true → x ≡ checkpointLocated l I (activeLine I) i → checkpointPart l I i b ≡ locatedPart x b
+  unfolding checkpointPart
+  checkpoint-served x e h = rw (e, ← h)
 
 -- ---- what the code answers
 

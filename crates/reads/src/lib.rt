@@ -1,6 +1,7 @@
 // The two reads (document 01: working read and saved read), which answer with a part of the caller's image, and the
 // companion that gives their status.
 use model::Layout;
+use model::Located;
 use model::Status;
 ghost use mathlib.Core.Path.{_≡_};
 ghost use Prim.Native.Nat.{_+_, _*_, _≤_, _<_};
@@ -8,11 +9,6 @@ ghost use Rattle.model.specs.Layout.{layoutOf};
 ghost use Rattle.model.specs.Status.{codeOf};
 ghost use Rattle.model.specs.Reads.{readStatus, workingPart, checkpointPart, workingBlock, checkpointBlock};
 ghost use Rattle.reads.specs.Found.{Found};
-
-// The states of a main segment without a checkpoint of its own bytes, and with one in itself.
-const SS_INITIAL: u8 = Layout::SS_INITIAL as u8;
-
-const SS_MAIN: u8 = Layout::SS_MAIN as u8;
 
 // A part of an image: where it starts and how many bytes it has.
 pub struct Part {
@@ -29,63 +25,59 @@ impl Part {
     }
 
     // A block of the segment that starts at a place.
-    pub fn of_block(at: usize, block: u64) -> Part
+    pub fn of_block(at: u64, block: u64) -> Part
         requires { ⌜ (at ≤ 2097664) × (block < 64) ⌝ }
         ensures { λ r. ⌜ (r .start ≡ at + 256 * block) × (r .size ≡ 256) ⌝ }
     {
         Part {
-            start: at as u64 + Layout::BLOCK_SIZE * block,
+            start: at + Layout::BLOCK_SIZE * block,
             size: Layout::BLOCK_SIZE,
         }
     }
 }
 
-// The number of either read.
-pub fn read_code(image: &[u8], layout: Layout, main: u64, block: u64) -> u64
-    ensures { λ r. ⌜ r ≡ readStatus layout (now (image .entry)) main block ⌝ }
+// The status of either read.
+pub fn read_status(image: &[u8], layout: Layout, main: u64, block: u64) -> Status
+    ensures { λ r. ⌜ codeOf r ≡ readStatus layout (now (image .entry)) main block ⌝ }
 {
-    let refusal = metadata::container_status(image, layout);
-    if refusal != 0 {
-        return refusal;
+    let status = metadata::container_status(image, layout);
+    if !status.is_served() {
+        return status;
     }
     if layout.mains <= main {
-        return 6;
+        return Status::NoSuchMain;
     }
     if layout.blocks <= block {
-        return 7;
+        return Status::NoSuchBlock;
     }
-    0
+    Status::Served
 }
 
 // The part of the image that holds a block of a main segment.
 pub fn working_part(image: &[u8], layout: Layout, main: u64, block: u64) -> Part
     ensures { λ r. ⌜ Found (now (image .entry)) (workingPart layout (now (image .entry)) main block) r ⌝ }
 {
-    if read_code(image, layout, main, block) != 0 {
+    if !read_status(image, layout, main, block).is_served() {
         return Part::nowhere();
     }
-    Part::of_block(metadata::main_at(layout, main), block)
+    Part::of_block(metadata::main_at(layout, main) as u64, block)
 }
 
-// The part of the image that holds a block of the checkpoint: in the main segment or in its backup, by the active state.
+// The part of the image that holds a block of the checkpoint, which stands where the active line of states says.
 pub fn checkpoint_part(image: &[u8], layout: Layout, main: u64, block: u64) -> Part
     ensures { λ r. ⌜ Found (now (image .entry)) (checkpointPart layout (now (image .entry)) main block) r ⌝ }
 {
-    if read_code(image, layout, main, block) != 0 {
+    if !read_status(image, layout, main, block).is_served() {
         return Part::nowhere();
     }
-    let state = image[metadata::active_at(image) + main as usize];
-    if state == SS_INITIAL {
-        return Part::nowhere();
+    let located = metadata::checkpoint_located(image, layout, metadata::active_at(image), main);
+    match located {
+        Located::Nowhere => Part::nowhere(),
+        Located::At(at) => Part::of_block(at, block),
     }
-    if state == SS_MAIN {
-        return Part::of_block(metadata::main_at(layout, main), block);
-    }
-    let backup = metadata::find_paired_backup(image, layout, main);
-    Part::of_block(metadata::backup_at(layout, backup), block)
 }
 
-// The status of either read.
+// The status of either read, by sizes.
 pub fn crpm_read_status(
     image: &[u8],
     mains: u64,
@@ -96,10 +88,10 @@ pub fn crpm_read_status(
 ) -> Status
     ensures { λ r. ⌜ codeOf r ≡ readStatus (layoutOf mains backups blocks) (now (image .entry)) main block ⌝ }
 {
-    Status::of(read_code(image, Layout::new(mains, backups, blocks), main, block))
+    read_status(image, Layout::new(mains, backups, blocks), main, block)
 }
 
-// The bytes of a block as they stand, or none.
+// The bytes of a block as they stand, or none: the part of the caller's image that holds them.
 pub fn crpm_read_working(
     image: &[u8],
     mains: u64,
@@ -109,6 +101,7 @@ pub fn crpm_read_working(
     block: u64,
 ) -> &[u8]
     ensures { λ r. ⌜ now r ≡ workingBlock (layoutOf mains backups blocks) (now (image .entry)) main block ⌝ }
+    ensures { λ r. ⌜ (r .ptr .0 ≡ image .entry .ptr .0) × (r .ptr .1 ≡ workingPart (layoutOf mains backups blocks) (now (image .entry)) main block .start + image .entry .ptr .1) ⌝ }
 {
     let part = working_part(image, Layout::new(mains, backups, blocks), main, block);
     let start = part.start as usize;
@@ -116,7 +109,7 @@ pub fn crpm_read_working(
     &image[start..end]
 }
 
-// The bytes of a block as of the last checkpoint, or none.
+// The bytes of a block as of the last checkpoint, or none: the part of the caller's image that holds them.
 pub fn crpm_read_checkpoint(
     image: &[u8],
     mains: u64,
@@ -126,6 +119,7 @@ pub fn crpm_read_checkpoint(
     block: u64,
 ) -> &[u8]
     ensures { λ r. ⌜ now r ≡ checkpointBlock (layoutOf mains backups blocks) (now (image .entry)) main block ⌝ }
+    ensures { λ r. ⌜ (r .ptr .0 ≡ image .entry .ptr .0) × (r .ptr .1 ≡ checkpointPart (layoutOf mains backups blocks) (now (image .entry)) main block .start + image .entry .ptr .1) ⌝ }
 {
     let part = checkpoint_part(image, Layout::new(mains, backups, blocks), main, block);
     let start = part.start as usize;

@@ -1,6 +1,7 @@
-use mathlib.Core.Path.{_∙_, ap}
+use Prim.Native.Nat.{ℕ, _+_}
+use mathlib.Core.Path.{refl, _∙_, ap}
 use borrow.Author.Needs.{needs}
-use Rattle.model.specs.Reads.{checkpointBlock}
+use Rattle.model.specs.Reads.{checkpointPart, checkpointBlock}
 use Rattle.model.specs.declared.Layout.{Layout}
 use Rattle.reads.proofs.Laws.{part-bytes}
 use Rattle.reads.proofs.crpm_read_checkpoint.Statement.{statement}
@@ -28,7 +29,11 @@ returns : tie.Need-returns
 returns c =
     let b = c .before in
     let a = b .before .before .before .args in
-    part-bytes (a .image .now) _ _ (b .checkpoint-part .ensures) ∙ ap (λ (l : Layout). checkpointBlock l (a .image .now) (a .main) (a .block)) (b .before .new .ensures)
+    let f = b .checkpoint-part .ensures in
+    let e = b .before .new .ensures in (
+      part-bytes (a .image .now) _ _ f ∙ ap (λ (l : Layout). checkpointBlock l (a .image .now) (a .main) (a .block)) e,
+      (refl, ap (λ (n : ℕ). n + a .image .ptr .1) (f .start ∙ ap (λ (l : Layout). checkpointPart l (a .image .now) (a .main) (a .block) .start) e)),
+    )
 
 pub crpm-read-checkpoint-spec : {M : Type 1} → statement M
 crpm-read-checkpoint-spec =

@@ -1,6 +1,7 @@
-use mathlib.Core.Path.{_∙_, ap}
+use Prim.Native.Nat.{ℕ, _+_}
+use mathlib.Core.Path.{refl, _∙_, ap}
 use borrow.Author.Needs.{needs}
-use Rattle.model.specs.Reads.{workingBlock}
+use Rattle.model.specs.Reads.{workingPart, workingBlock}
 use Rattle.model.specs.declared.Layout.{Layout}
 use Rattle.reads.proofs.Laws.{part-bytes}
 use Rattle.reads.proofs.crpm_read_working.Statement.{statement}
@@ -28,7 +29,11 @@ returns : tie.Need-returns
 returns c =
     let b = c .before in
     let a = b .before .before .before .args in
-    part-bytes (a .image .now) _ _ (b .working-part .ensures) ∙ ap (λ (l : Layout). workingBlock l (a .image .now) (a .main) (a .block)) (b .before .new .ensures)
+    let f = b .working-part .ensures in
+    let e = b .before .new .ensures in (
+      part-bytes (a .image .now) _ _ f ∙ ap (λ (l : Layout). workingBlock l (a .image .now) (a .main) (a .block)) e,
+      (refl, ap (λ (n : ℕ). n + a .image .ptr .1) (f .start ∙ ap (λ (l : Layout). workingPart l (a .image .now) (a .main) (a .block) .start) e)),
+    )
 
 pub crpm-read-working-spec : {M : Type 1} → statement M
 crpm-read-working-spec =

@@ -1,51 +1,58 @@
-use mathlib.Core.Path.{_∙_, sym}
+use mathlib.Core.Path.{_∙_}
 use native.Mathlib.Omega.{arith}
+use borrow.Author.Tests.{not-true, not-false}
 use borrow.Author.Needs.{needs}
-use Rattle.reads.proofs.Laws.{readable, block-inside, working-refused, working-served, found-nowhere, found-block}
+use Rattle.reads.proofs.Laws.{read-judged, readable, main-inside, working-refused, working-served, found-nowhere, found-block}
 use Rattle.reads.proofs.working_part.Statement.{statement}
 use Rattle.reads.proofs.working_part.Tie as tie
 
-read-code-requires : tie.Need-read-code-requires
-read-code-requires c κs = search needs
+read-status-requires : tie.Need-read-status-requires
+read-status-requires c κs = search needs
+
+is-served-requires : tie.Need-is-served-requires
+is-served-requires c κs = search needs
 
 nowhere-requires : tie.Need-nowhere-requires
 nowhere-requires c κs = search needs
 
 returns : tie.Need-returns
 returns c =
-    let b = c .before in
+    let b = c .before .before in
     let a = b .before .before .before .args in
-    found-nowhere (a .image .now) _ _ (c .nowhere .ensures) (working-refused (a .layout) (a .image .now) (a .main) (a .block) (λ e. b .if1 .taken (b .before .read-code .ensures ∙ e)))
+    let s = read-judged (a .layout) (a .image .now) (a .main) (a .block) _ _ (b .before .read-status .ensures) (b .is-served .ensures) in
+    found-nowhere (a .image .now) _ _ (c .nowhere .ensures) (working-refused (a .layout) (a .image .now) (a .main) (a .block) (s ∙ not-true _ (c .before .if1 .taken)))
 
 main-at-requires : tie.Need-main-at-requires
 main-at-requires c κs =
-    let b = c in
+    let b = c .before in
     let a = b .before .before .before .args in
-    let z = sym (b .before .read-code .ensures) ∙ b .if1 .left in
-    let r = readable (a .layout) (a .image .now) (a .main) (a .block) z in
+    let s = read-judged (a .layout) (a .image .now) (a .main) (a .block) _ _ (b .before .read-status .ensures) (b .is-served .ensures) in
+    let r = readable (a .layout) (a .image .now) (a .main) (a .block) (s ∙ not-false _ (c .if1 .left)) in
     omega arith
 
 of-block-requires : tie.Need-of-block-requires
 of-block-requires c κs =
-    let b = c .before in
+    let b = c .before .before in
     let a = b .before .before .before .args in
-    let z = sym (b .before .read-code .ensures) ∙ b .if1 .left in
-    let r = readable (a .layout) (a .image .now) (a .main) (a .block) z in
+    let s = read-judged (a .layout) (a .image .now) (a .main) (a .block) _ _ (b .before .read-status .ensures) (b .is-served .ensures) in
+    let r = readable (a .layout) (a .image .now) (a .main) (a .block) (s ∙ not-false _ (c .before .if1 .left)) in
     omega arith
 
 returns-2 : tie.Need-returns-2
 returns-2 c =
-    let b = c .before .before in
+    let b = c .before .before .before in
     let a = b .before .before .before .args in
-    let z = sym (b .before .read-code .ensures) ∙ b .if1 .left in
+    let s = read-judged (a .layout) (a .image .now) (a .main) (a .block) _ _ (b .before .read-status .ensures) (b .is-served .ensures) in
+    let z = s ∙ not-false _ (c .before .before .if1 .left) in
     let r = readable (a .layout) (a .image .now) (a .main) (a .block) z in
-    found-block (a .image .now) _ _ _ _ (a .block) (c .of-block .ensures) (c .before .main-at .ensures .0) (working-served (a .layout) (a .image .now) (a .main) (a .block) z) (block-inside (a .layout) (a .image .now) (a .main) (a .block) r (a .main) (omega arith))
+    found-block (a .image .now) _ _ _ _ (a .block) (c .of-block .ensures) (c .before .main-at .ensures .0) (working-served (a .layout) (a .image .now) (a .main) (a .block) z) (main-inside (a .layout) (a .image .now) (a .main) (a .block) r)
 
 pub working-part-spec : {M : Type 1} → statement M
 working-part-spec =
     tie.close
     (tie.spec
-    read-code-requires
+    read-status-requires
+    is-served-requires
     nowhere-requires
     returns
     main-at-requires
