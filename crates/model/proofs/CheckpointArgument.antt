@@ -25,7 +25,7 @@ use Rattle.model.proofs.Settled.{Settled, Off, Flushed, crash-byte, cra
 use Rattle.model.proofs.Runs.{Puts, puts-clear, puts-then, puts-stores, each-cat, clwbs-none, neat-none, flushed-cat, flushed-clwbs}
 use Rattle.model.proofs.Places.{metadata-inside, state-line-low, state-line-high, state-line-whole, state-line-next}
 use Rattle.model.proofs.SessionLaws.{checkpoint-segment, checkpoint-block}
-use Rattle.model.proofs.Counts.{blocksPhase, statesPhase, epochPhase, beforeEpoch, checkpoint-phases}
+use Rattle.model.proofs.Phases.{blocksPhase, statesPhase, epochPhase, beforeEpoch, checkpoint-phases}
 use Rattle.model.proofs.View.{Contents, Recoverable, recoverable-alike, recovers-at, fit-cong, holds-next}
 use Rattle.model.proofs.Invariant.{Invariant}
 

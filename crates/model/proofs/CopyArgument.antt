@@ -21,6 +21,7 @@ use Rattle.model.specs.Write.{pairOps, copyDirty}
 use Rattle.model.specs.Crash.{AgreeOn, Stage, CrashImage}
 use Rattle.model.proofs.WordLaws.{byte-of-word, overlay-same, overlay-other, overlay-small}
 use Rattle.model.proofs.Persist.{Misses, Clear, each-append, each-take, length-apply, length-replay, replay-clear, replay-append, replay-small}
+use Rattle.model.proofs.Phases.{statePhase}
 use Rattle.model.proofs.Settled.{Settled, Off, Flushed, Keeps, stage-held, crash-byte, crash-bytes, local-crash, stage-one, keeps-off, keeps-append, settles-fence}
 use Rattle.model.proofs.Runs.{Puts, puts-clear, puts-store, puts-block, each-cat, Neat, neat-nil, neat-append, neat-cat, neat-block, neat-keeps}
 use Rattle.model.proofs.Places.{metadata-inside, segment-in-image, apart, state-line-low, state-line-high, state-line-whole}
@@ -85,10 +86,6 @@ pub record Ready (l : Layout) (I : Image) (i j : ℕ) (A : Ops) : Type 0 where
   pub keeps : (ℓ : ℕ) → Keeps ℓ A
   -- a crash leaves the pairs before or after
   pub part : (n : ℕ) (H : Image) → Stage 4 I (take n A) H → ((t : ℕ) → t < 64 → backupToMain H t ≡ backupToMain I t) ⊎ Given I i j H
-
--- the second part: state 2
-abbrev pub statePhase : Image → ℕ → Ops
-statePhase I i = storeByte I (activeLine I + i) 2 ∷ clwb (activeLine I) ∷ sfence ∷ []
 
 module _ (l : Layout) (O : Ops) (I₀ : Image) (s : Session) (P W : Contents) (held : Bytes I₀) (inv : Invariant l O (replay O I₀) s P W)
     (i j : ℕ) (choice : Choice l (activeState (replay O I₀)) (backupToMain (replay O I₀)) i j) (A : Ops) (ready : Ready l (replay O I₀) i j A) where

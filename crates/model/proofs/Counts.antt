@@ -3,7 +3,7 @@ use Prim.Native.Nat.{ℕ, zero, suc, _+_, _-_, _*_, _/_, _%_, _^_, _≤_, _<_}
 use mathlib.Core.Path.{_≡_, refl, sym, ap, ap₂, _∙_, subst}
 use mathlib.Core.Logic.{_↔_}
 use mathlib.Core.Bool.{Bool, true, false, cond}
-use mathlib.Core.List.{[], _∷_, _++_, append-assoc}
+use mathlib.Core.List.{[], _∷_, _++_}
 use native.Mathlib.Omega.{arith}
 use native.Mathlib.Decide.{decLe, ℕ-discrete}
 use native.Mathlib.Nat.{mul-zero, mul-one, mul-add, mul-le-mul-left, div-one, div-div-eq-div-mul, div-eq-of-lt, pow-suc}
@@ -26,8 +26,8 @@ use Rattle.model.specs.Session.{bit, isDirty, dirtyWord}
 use Rattle.model.specs.Ops.{Op, store, clwb, sfence, Ops, Trace, traceShort, stores, clwbs, putBlock, persistCopy, persistZero, copySegment, zeroSegment, eachDirty}
 use Rattle.model.specs.Outcome.{outcomeOf}
 use Rattle.model.specs.Open.{recoveryAction, actionOps, recoverSegment, recoveryOps}
-use Rattle.model.specs.Write.{WriteArgs, needsCopy, copyPlan, copies, noneFree, pairOps, copyDirty, backupOps, stateOps, copyOnWriteOps, spanAt, spanWords, spanOps, writeOps, writeStatus}
-use Rattle.model.specs.Checkpoint.{flushDirty, nextStates, statesOps, epochOps, checkpointOps, checkpointStatus, checkpointOutcome}
+use Rattle.model.specs.Write.{WriteArgs, needsCopy, copyPlan, copies, noneFree, pairOps, copyDirty, backupOps, copyOnWriteOps, spanAt, spanWords, spanOps, writeOps, writeStatus}
+use Rattle.model.specs.Checkpoint.{flushDirty, nextStates, statesOps, checkpointOps, checkpointStatus, checkpointOutcome}
 use Rattle.model.specs.History.{callCheckpoint, Device, calledOps}
 use Rattle.model.specs.Counts.{acts, treated, dirtyCount, dirtyTotal}
 use Rattle.model.specs.CrashSafety.{EpochStored, Window}
@@ -35,6 +35,7 @@ use Rattle.model.proofs.Range.{length-cat}
 use Rattle.model.proofs.Places.{image-lines, state-line-low}
 use Rattle.model.proofs.TraceLaws.{All, all-append, all-take, all-cat, all-when, all-amid, played-ops}
 use Rattle.model.proofs.Metadata.{container-then}
+use Rattle.model.proofs.Phases.{statePhase, copy-phases, blocksPhase, statesPhase, epochPhase, beforeEpoch, checkpoint-phases}
 use Rattle.model.proofs.WellFormed.{checkpoint-outcome-ok}
 
 -- ---- sums
@@ -156,16 +157,15 @@ module _ (s : Session) (I : Image) (w : WriteArgs) where
   -- the operations of a copy are its backup's and four
   length-copied : (p : Plan) (n : ℕ) → copies p ≡ true → length (backupOps (s .layout) I (dirtyWord s (w .main)) (w .main) p) ≡ n
       → length (ops p) ≡ n + 4 + spanCount (s .layout) w
-  unfolding copyOnWriteOps stateOps
   length-copied p n e h =
       let B : Ops = backupOps (s .layout) I (dirtyWord s (w .main)) (w .main) p in
-      rw e (omega (
+      rw (copy-phases, e) (omega (
         arith,
         h,
         length-span,
-        length-append (B ++ sfence ∷ stateOps I (w .main) ++ sfence ∷ []) (spanOps (s .layout) I w),
-        length-append (B ++ sfence ∷ stateOps I (w .main)) (sfence ∷ []),
-        length-append B (sfence ∷ stateOps I (w .main)),
+        length-append ((B ++ sfence ∷ []) ++ statePhase I (w .main)) (spanOps (s .layout) I w),
+        length-append (B ++ sfence ∷ []) (statePhase I (w .main)),
+        length-append B (sfence ∷ []),
       ))
 
   -- by the plan: nothing is copied; the dirty blocks to the backup segment that it has; the whole segment to a new one
@@ -221,23 +221,6 @@ abbrev OffEpoch : Op → Type 0
 OffEpoch (store p w) = epochAt < p
 OffEpoch (clwb p) = Unit {0}
 OffEpoch sfence = Unit {0}
-
--- its three phases, each ended by a fence: dirty blocks, states, epoch; and all before the store of the epoch
-abbrev pub blocksPhase : Session → Ops
-blocksPhase s = flushDirty (s .layout) (s .«dirty_blocks») ++ sfence ∷ []
-
-abbrev pub statesPhase : Session → Image → Ops
-statesPhase s I = statesOps I (s .«dirty_segments») ++ sfence ∷ []
-
-abbrev pub epochPhase : Image → Ops
-epochPhase I = store epochAt (suc (committedEpoch I)) ∷ clwb epochAt ∷ sfence ∷ []
-
-abbrev pub beforeEpoch : Session → Image → Ops
-beforeEpoch s I = blocksPhase s ++ statesPhase s I
-
-pub checkpoint-phases : (s : Session) (I : Image) → checkpointOps s I ≡ beforeEpoch s I ++ epochPhase I
-unfolding checkpointOps epochOps
-checkpoint-phases s I = simp append-assoc
 
 module _ (s : Session) (I : Image) where
   length-flush-dirty : length (flushDirty (s .layout) (s .«dirty_blocks»)) ≡ 4 * dirtyTotal (s .layout) (s .«dirty_blocks»)

@@ -8,6 +8,7 @@ pub mod Agreement
 pub mod TraceLaws
 pub mod WordLaws
 pub mod Persist
+pub mod Phases
 pub mod WellFormed
 pub mod Counts
 pub mod Suffices

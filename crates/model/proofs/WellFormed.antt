@@ -13,21 +13,22 @@ use Rattle.model.specs.declared.Plan.{Plan}
 use Rattle.model.specs.declared.Plan.the-variants.{NoCopy, OwnBackup, NewBackup, NoneFree}
 use Rattle.model.specs.Range.{cat}
 use Rattle.model.specs.Words.{Image, wordOf}
-use Rattle.model.specs.Layout.{wordSize, lineSize, blockSize, metadataSize, blockWords, blockLines, lineWords, most, pairsAt, ssBackup, imageSize, segmentSize, mainAt, backupAt}
+use Rattle.model.specs.Layout.{wordSize, lineSize, blockSize, metadataSize, blockWords, blockLines, lineWords, most, pairsAt, ssBackup, imageSize, segmentSize}
 use Rattle.model.specs.Status.{served}
 use Rattle.model.specs.Container.{committedEpoch, activeState, anyFree, activeLine, inactiveLine, segState, backupToMain, isPaired, pairedBackup, byState}
 use Rattle.model.specs.Session.{isDirty, dirtyWord}
 use Rattle.model.specs.Ops.{clwb, sfence, Ops, Trace, stores, clwbs, putBlock, persistCopy, persistZero, copySegment, zeroSegment, storeByte}
 use Rattle.model.specs.Outcome.{outcomeOf}
 use Rattle.model.specs.Open.{recoveryAction, actionOps, recoverSegment, recoveryOps, openStatus, openOutcome}
-use Rattle.model.specs.Write.{WriteArgs, needsCopy, needsBackup, copyPlan, copies, pairOps, copyDirty, backupOps, stateOps, copyOnWriteOps, spanOps, writeOps, spanBad, writeErrors, writeStatus, writeOutcome, Chosen}
-use Rattle.model.specs.Checkpoint.{flushDirty, nextStates, statesOps, epochOps, checkpointOps, checkpointStatus, checkpointOutcome}
+use Rattle.model.specs.Write.{WriteArgs, needsCopy, needsBackup, copyPlan, copies, pairOps, copyDirty, backupOps, copyOnWriteOps, spanOps, writeOps, spanBad, writeErrors, writeStatus, writeOutcome, Chosen}
+use Rattle.model.specs.Checkpoint.{flushDirty, nextStates, statesOps, checkpointOps, checkpointStatus, checkpointOutcome}
 use Rattle.model.specs.Reference.{CallArgs, openArgs, writeArgs, checkpointArgs}
 use Rattle.model.specs.History.{Call, Device, answers, outcome, PermittedOn, Permitted}
 use Rattle.model.specs.CrashSafety.{ReplayServesAll}
 use Rattle.model.proofs.Refusals.{served-condition}
 use Rattle.model.proofs.Metadata.{paired-at, container-then}
 use Rattle.model.proofs.Places.{metadata-inside, image-lines, segment-in-image, state-line-low, state-line-high, state-line-whole}
+use Rattle.model.proofs.Phases.{backupPhase, statePhase, copy-phases, blocksPhase, statesPhase, epochPhase, beforeEpoch, checkpoint-phases}
 use Rattle.model.proofs.TraceLaws.{OpOk, AllOk, all-cat, all-when, all-ok-append, replay-serves, played-ops}
 
 -- ---- runs of operations
@@ -126,23 +127,16 @@ module _ (s : Session) (I : Image) where
 
   ok-copy-on-write : (i : ℕ) (p : Plan) → s .layout .mains ≤ most → s .layout .backups ≤ most → i < s .layout .mains → Named p
       → AllOk size (copyOnWriteOps (s .layout) I (word i) i p)
-  unfolding copyOnWriteOps stateOps
   ok-copy-on-write i p m n h k =
       let low = state-line-low (committedEpoch I) in
       let high = state-line-high (committedEpoch I) in
       let room = metadata-inside (s .layout) in
       let whole = image-lines (s .layout) in
-      let B = backupOps (s .layout) I (word i) i p in
-      all-when (OpOk size) (copies p) (B ++ sfence ∷ stateOps I i ++ sfence ∷ [])
-      (λ c. all-ok-append size (B ++ sfence ∷ stateOps I i) (sfence ∷ [])
-      (all-ok-append size B (sfence ∷ stateOps I i) (ok-backup i p n k) (
-        omega arith,
-        (
-          ok-store-byte (s .layout) I (activeLine I + i) ssBackup (omega arith),
-          ((state-line-whole (committedEpoch I), omega arith), tt),
-        ),
-      ))
-      (omega arith, tt))
+      subst (AllOk size) (sym (copy-phases (s .layout) I (word i) i p))
+      (all-when (OpOk size) (copies p) (backupPhase (s .layout) I (word i) i p ++ statePhase I i)
+      (λ c. all-ok-append size (backupPhase (s .layout) I (word i) i p) (statePhase I i)
+      (all-ok-append size (backupOps (s .layout) I (word i) i p) (sfence ∷ []) (ok-backup i p n k) (omega arith, tt))
+      (ok-store-byte (s .layout) I (activeLine I + i) ssBackup (omega arith), ((state-line-whole (committedEpoch I), omega arith), (omega arith, tt)))))
 
   -- the plan of a write names its own backup segment, or the new one
   plan-named : (i j : ℕ) → (needsBackup s I i ≡ true → j < s .layout .backups) → Named (copyPlan s I i j)
@@ -192,15 +186,15 @@ module _ (s : Session) (I : Image) where
       (ok-stores size lineWords (inactiveLine I) _ (omega arith) (inside-lines (s .layout) _ (omega arith))) ((whole, omega arith), tt)
 
   pub checkpoint-ok : AllOk (imageLines (s .layout)) (checkpointOps s I)
-  unfolding checkpointOps epochOps
   checkpoint-ok =
       let room = metadata-inside (s .layout) in
       let lines = image-lines (s .layout) in
-      all-ok-append size (flushDirty (s .layout) (s .«dirty_blocks») ++ sfence ∷ statesOps I (s .«dirty_segments») ++ sfence ∷ epochOps I) (sfence ∷ [])
-      (all-ok-append size (flushDirty (s .layout) (s .«dirty_blocks») ++ sfence ∷ statesOps I (s .«dirty_segments»)) (sfence ∷ epochOps I)
-      (all-ok-append size (flushDirty (s .layout) (s .«dirty_blocks»)) (sfence ∷ statesOps I (s .«dirty_segments»)) ok-flush-dirty (omega arith, ok-states))
-      (omega arith, ((refl, omega arith), ((refl, omega arith), tt))))
-      (omega arith, tt)
+      subst (AllOk size) (sym (checkpoint-phases s I))
+      (all-ok-append size (beforeEpoch s I) (epochPhase I)
+      (all-ok-append size (blocksPhase s) (statesPhase s I)
+      (all-ok-append size (flushDirty (s .layout) (s .«dirty_blocks»)) (sfence ∷ []) ok-flush-dirty (omega arith, tt))
+      (all-ok-append size (statesOps I (s .«dirty_segments»)) (sfence ∷ []) ok-states (omega arith, tt)))
+      ((refl, omega arith), ((refl, omega arith), (omega arith, tt))))
 
 -- ---- what a call writes, served or not
 

@@ -17,10 +17,11 @@ use Rattle.model.specs.Layout.{segmentSize, mainAt}
 use Rattle.model.specs.Container.{activeState, backupToMain, isPaired, pairedBackup, Free}
 use Rattle.model.specs.Session.{dirtyWord, dirtySegment, dirtyBlock, setBits, withDirty}
 use Rattle.model.specs.Ops.{sfence, Ops, Trace, replay}
-use Rattle.model.specs.Write.{WriteArgs, needsCopy, needsBackup, copyPlan, copies, backupOps, stateOps, copyOnWriteOps, spanAt, spanBlocks, spanOps, writeOps, writeSession, writeStatus}
+use Rattle.model.specs.Write.{WriteArgs, needsCopy, needsBackup, copyPlan, copies, backupOps, copyOnWriteOps, spanAt, spanBlocks, spanOps, writeOps, writeSession, writeStatus}
 use Rattle.model.specs.Crash.{CrashImage}
 use Rattle.model.proofs.Range.{and-left, and-right, both}
 use Rattle.model.proofs.Persist.{Misses, Clear, each-append}
+use Rattle.model.proofs.Phases.{statePhase, copy-phases}
 use Rattle.model.proofs.Settled.{crash-seq}
 use Rattle.model.proofs.Runs.{puts-clear}
 use Rattle.model.proofs.Refusals.{served-none}
@@ -28,7 +29,7 @@ use Rattle.model.proofs.Metadata.{paired-at, unpaired-none, any-free, c
 use Rattle.model.proofs.View.{Contents, Choice, Recoverable}
 use Rattle.model.proofs.Invariant.{Invariant}
 use Rattle.model.proofs.SpanArgument.{marked, span-crash, span-done, SpanOk, span-within, span-inside, spanFirst, spanWide, span-bounds, span-puts, laid-outside}
-use Rattle.model.proofs.CopyArgument.{unmarked, Ready, statePhase, copy-crash, state-clear, state-crash, copy-done, state-two, ready-new, ready-old}
+use Rattle.model.proofs.CopyArgument.{unmarked, Ready, copy-crash, state-clear, state-crash, copy-done, state-two, ready-new, ready-old}
 
 -- ---- the two cases
 
@@ -51,12 +52,6 @@ plan-new : (s : Session) (I : Image) (i j : ℕ) → needsCopy s I i ≡ true �
     → Free (s .layout) (activeState I) (backupToMain I) j → copyPlan s I i j ≡ NewBackup j
 unfolding copyPlan
 plan-new s I i j e q f = rw (e, q, any-free (s .layout) (activeState I) (backupToMain I) .1 (j, f))
-
--- the first part of a copy and its end
-copy-phases : (l : Layout) (I : Image) (word i : ℕ) (p : Plan) → copies p ≡ true
-    → copyOnWriteOps l I word i p ≡ (backupOps l I word i p ++ sfence ∷ []) ++ statePhase I i
-unfolding copyOnWriteOps stateOps
-copy-phases l I word i p e = rw e (simp append-assoc)
 
 -- a write that copies, then marks: no block of the segment is dirty but those of its span
 copied-session : (s : Session) (i b c : ℕ) → i < length (s .«dirty_blocks») → marked (unmarked s i) i b c ≡ withDirty s i b c 0
@@ -181,7 +176,7 @@ module _ (O : Ops) (I₀ : Image) (s : Session) (P W : Contents) (held : Bytes I
 
     copy-ops : Prepared plan → writeOps s I w j ≡ X ++ U
     unfolding writeOps
-    copy-ops p = ap (λ (Y : Ops). Y ++ U) (copy-phases l I word i plan (p .copies))
+    copy-ops p = rw (copy-phases, p .copies)
 
     -- after the copy: the invariant, and state 2
     after-copy : Prepared plan → Invariant l (O ++ X) (replay (O ++ X) I₀) (unmarked s i) P W
