@@ -13,13 +13,19 @@ use lib.Dec.{eqb, ltb}
 use lib.ListN.{length, getD, take, drop}
 use lib.Seq.{getD-take, getD-drop}
 use borrow.Author.Tests.{lt-ltb, le-ltb, eq-eqb, ne-eqb, eqb-true, ltb-true, ltb-false}
+use Rattle.model.specs.declared.Layout.{Layout}
 use Rattle.model.specs.declared.Session.{Session}
 use Rattle.model.specs.Range.{allB}
 use Rattle.model.specs.Words.{Image}
-use Rattle.model.specs.Container.{segState}
-use Rattle.model.specs.Session.{bit, isDirty, setBit, setBits, dirtyWord, dirtySegment, validSession}
+use Rattle.model.specs.Layout.{SizesOk, metadataSize}
+use Rattle.model.specs.Status.{firstError, served}
+use Rattle.model.specs.Container.{segState, activeLine, activeState, containerErrors}
+use Rattle.model.specs.Session.{bit, isDirty, setBit, setBits, dirtyWord, dirtySegment, validSession, sessionErrors, contextErrors}
 use Rattle.model.proofs.Range.{both, and-left, and-right, all-at, all-from}
 use Rattle.model.proofs.Gather.{all-ext, same-test}
+use Rattle.model.proofs.Places.{metadata-inside}
+use Rattle.model.proofs.Refusals.{stage-passed}
+use Rattle.model.proofs.Metadata.{container-ok}
 
 -- `1 << f`
 pub shifted-one : (f : ℕ) → f < 64 → 1 * 2 ^ f % 18446744073709551616 ≡ 2 ^ f
@@ -91,9 +97,31 @@ valid-session-cong s f g h =
     (λ i l. ap (λ (x : ℕ). not (dirtySegment s i && eqb x 1)) (h i l)))
 
 -- a line of states handed on as a part of the image
-pub valid-session-part : (s : Session) (I : Image) (line : ℕ) → s .layout .mains ≤ 64 → line + 64 ≤ length I
-    → validSession s (λ (i : ℕ). getD (take 64 (drop line I)) i 0) ≡ validSession s (segState I line)
-valid-session-part s I line m h = valid-session-cong s _ _ (λ i l. getD-take 64 (drop line I) i 0 (omega arith) ∙ getD-drop line I i 0)
+pub valid-session-part : (s : Session) (I : Image) (line : ℕ) → s .layout .mains ≤ 64
+    → validSession s (λ (i : ℕ). getD (take (line + 64 - line) (drop line I)) i 0) ≡ validSession s (segState I line)
+valid-session-part s I line m = valid-session-cong s _ _ (λ i l. getD-take (line + 64 - line) (drop line I) i 0 (omega arith) ∙ getD-drop line I i 0)
+
+-- ---- refusals 1 to 5
+
+-- what 1 to 4 leave, where the code found none of them
+pub container-left : (l : Layout) (I : Image) (n : ℕ) → n ≡ firstError (containerErrors l I) → served n ≡ true → SizesOk l × (metadataSize ≤ length I)
+container-left l I n e r = let k = container-ok l I (sym e ∙ eqb-true n 0 r) in (k .sizes, omega (arith, k .long, metadata-inside l))
+
+-- refusal 5, by the line of states that the code handed on
+pub session-judged : (s : Session) (I : Image) (n line : ℕ) (valid : Bool) → n ≡ firstError (containerErrors (s .layout) I) → served n ≡ true
+    → line ≡ activeLine I → valid ≡ validSession s (λ (i : ℕ). getD (take (line + 64 - line) (drop line I)) i 0)
+    → cond valid 0 5 ≡ firstError (contextErrors s I)
+unfolding firstError
+session-judged s I n line valid e r p q =
+    let k = container-left (s .layout) I n e r in
+    let v : valid ≡ validSession s (activeState I) = q ∙ valid-session-part s I line (k .0 .0 .1) ∙ ap (λ (x : ℕ). validSession s (segState I x)) p in
+    rw v (go (validSession s (activeState I))) ∙ sym (stage-passed n (containerErrors (s .layout) I) (sessionErrors s I) (omega arith) e r)
+  where
+    go : (b : Bool) → _≡_ {A = ℕ} (cond b 0 5) (cond (not b) 5 0)
+    go true = refl
+    go false = refl
+
+-- ---- clearing and setting
 
 -- a mask of the n lowest bits: the code's `ones >> (64 - n)`
 low-mask : (n : ℕ) → n ≤ 64 → 18446744073709551615 / 2 ^ (64 - n) ≡ 2 ^ n - 1

@@ -1,7 +1,8 @@
 // The volatile session (document 01: the card), lent by its parts: tests and changes of its dirty bits, its validity against
-// the states of main segments, and how many blocks are dirty.
+// the states of main segments, how many blocks are dirty, and the one judge of an image and a session.
 use model::Layout;
 use model::Session;
+use model::Status;
 ghost use mathlib.Core.Path.{_≡_};
 ghost use mathlib.Core.Bool.{not, _&&_, _||_};
 ghost use Prim.Native.Nat.{ℕ, _+_, _*_, _/_, _^_, _≤_, _<_};
@@ -9,12 +10,16 @@ ghost use lib.Count.{ones};
 ghost use lib.Dec.{eqb, ltb};
 ghost use lib.ListN.{length, getD};
 ghost use Rattle.model.specs.Range.{allB};
-ghost use Rattle.model.specs.Session.{isDirty, setBits, withDirty, withCheckpoint, validSession};
+ghost use Rattle.model.specs.Status.{codeOf, firstError};
+ghost use Rattle.model.specs.Session.{isDirty, setBits, withDirty, withCheckpoint, validSession, contextErrors};
 ghost use Rattle.model.specs.Counts.{dirtyTotal};
 ghost use Rattle.session.specs.Parts.{sessionOf};
 
-// The words of dirty blocks, and the state of a main segment that holds its checkpoint itself, as the code compares them.
+// The words of dirty blocks, the bytes of a line, and the state of a main segment that holds its checkpoint itself, as the
+// code counts and compares them.
 const MOST: usize = Layout::MOST as usize;
+
+const LINE_SIZE: usize = Layout::LINE_SIZE as usize;
 
 const SS_MAIN: u8 = Layout::SS_MAIN as u8;
 
@@ -134,6 +139,21 @@ pub fn session_valid(layout: Layout, segments: u64, words: &[u64; MOST], states:
     let n = mains as usize;
     let in_blocks = blocks_within(words, n, layout.blocks) & rest_clear(words, n);
     within(segments, mains) & in_blocks & none_in_main(segments, states, mains)
+}
+
+// The first of refusals 1 to 5 that applies to an image and the session of these parts.
+pub fn context_status(image: &[u8], layout: Layout, segments: u64, words: &[u64; MOST]) -> Status
+    ensures { λ r. ⌜ codeOf r ≡ firstError (contextErrors (sessionOf layout segments (now (words .entry))) (now (image .entry))) ⌝ }
+{
+    let container = metadata::container_status(image, layout);
+    if !container.is_served() {
+        return container;
+    }
+    let active = metadata::active_at(image);
+    if !session_valid(layout, segments, words, &image[active..active + LINE_SIZE]) {
+        return Status::BadSession;
+    }
+    Status::Served
 }
 
 // How many blocks of a main segment are dirty, by its word.
