@@ -2,104 +2,138 @@
 use Prim.Native.Nat.{ℕ}
 use mathlib.Core.Path.{_≡_, refl, sym, ap, ap₂, _∙_, subst, subst₂}
 use mathlib.Core.Logic.{_≢_}
-use mathlib.Core.List.{List, [], _∷_, _++_, append-nil, append-assoc}
+use mathlib.Core.Bool.{Bool}
+use mathlib.Core.List.{List, [], _∷_, _++_, append-nil}
+use native.Mathlib.Omega.{arith}
+use lib.ListN.{length}
 use Rattle.model.specs.declared.Layout.{Layout}
 use Rattle.model.specs.declared.Session.{Session}
 use Rattle.model.specs.declared.Answer.{Answer}
-use Rattle.model.specs.Words.{Image}
-use Rattle.model.specs.Status.{codeOf}
+use Rattle.model.specs.Words.{Image, Bytes}
+use Rattle.model.specs.Status.{codeOf, served}
+use Rattle.model.specs.Container.{activeLine, checkpointBytes}
 use Rattle.model.specs.Ops.{Ops, Trace}
 use Rattle.model.specs.Outcome.{outcomeOf}
 use Rattle.model.specs.Open.{openStatus, openOutcome}
 use Rattle.model.specs.Crash.{CrashImage}
-use Rattle.model.specs.History.{Call, callOpen, Device, State, deviceStep, step, run, start, openedImage, replayedImage, AllPermitted}
-use Rattle.model.specs.CrashSafety.{Moment, between, during, PermittedAt, playedAt, CutOpenings, Reads}
+use Rattle.model.specs.Reference.{Page, Model, modelStep}
+use Rattle.model.specs.History.{Call, callOpen, Device, State, outcome, calledOps, deviceStep, step, run, start, openedImage, replayedImage, AllPermitted}
+use Rattle.model.specs.CrashSafety.{Moment, PermittedAt, playedAt, CutOpenings, Reads, Recovers}
 use Rattle.model.specs.CrashSafety as model
-use Rattle.model.proofs.Theorem.{crash-safety, reads-follow-model}
+use Rattle.model.proofs.Theorem.{crash-safety}
+use Rattle.model.proofs.Sisters.{reads-follow-model, opening-safety}
 use Rattle.driver.specs.Stepped.{Called, playedPart, Stepped}
-use Rattle.driver.specs.Driven.{Driven, done, next, Made, rests, makes, CutDriven, none, again, DrivenSafety}
+use Rattle.driver.specs.Driven.{savedModel, opened, after, Driven, done, next, Made, rests, makes, CutDriven, none, again, ShowsAfter, DrivenSafety, DrivenOpeningSafety}
 use Rattle.driver.proofs.Laws.{part-image, part-played, called-played, stepped-device}
 
--- a history that stands where the code does goes on as the code does
-pub driven-runs : (I I′ : Image) (s s′ : Session) (cs : List Call) (O : Ops) → Driven I s cs O I′ s′ → (h : State)
-    → h .device .image ≡ I → h .device .session ≡ s
-    → AllPermitted h cs × (run h cs .device .image ≡ I′) × (run h cs .device .session ≡ s′)
-    × (run h cs .device .played ≡ h .device .played ++ O) × (run h cs .device .durable ≡ h .device .durable)
-    × (run h cs .device .layout ≡ h .device .layout)
-unfolding run step deviceStep
-driven-runs _ _ _ _ _ _ (done I s) h i k = (tt, i, k, sym (append-nil (h .device .played)), refl, refl)
-driven-runs _ _ _ _ _ _ (next I I′ I″ s s″ c cs O r t p d) h i k =
-    let p′ : Stepped (h .device .image) (h .device .session) c r t I′ = subst₂ (λ (J : Image) (x : Session). Stepped J x c r t I′) (sym i) (sym k) p in
-    let q = stepped-device (h .device) c r t I′ p′ in
-    let w = driven-runs I′ I″ (r .session) s″ cs O d (step h c) (q .0) (q .1) in (
-      (p′ .0 .0, w .0),
-      w .1,
-      w .2,
-      w .3 ∙ ap (λ (X : Ops). X ++ O) (q .2) ∙ append-assoc (h .device .played) (playedPart (h .device .image) r t (r .ops)) O
-          ∙ ap (λ (J : Image). h .device .played ++ (playedPart J r t (r .ops) ++ O)) i,
-      w .4,
-      w .5,
-    )
+-- ---- the program's state is the history's
+
+-- a step of the code is the step of a history
+stepped-state : (s : State) (c : Call) (r : Answer) (t : Trace) (I′ : Image) → Stepped (s .device .image) (s .device .session) c r t I′
+    → step s c ≡ after s c r t I′
+unfolding step deviceStep
+stepped-state s c r t I′ k =
+    let q = stepped-device (s .device) c r t I′ k in
+    let e : served (outcome (s .device) c .status) ≡ served (codeOf (r .status)) = ap served (sym (k .0 .1 .0)) in
+    λ i. record {
+      device = record {
+        layout = s .device .layout;
+        durable = s .device .durable;
+        played = q .2 i;
+        image = q .0 i;
+        session = q .1 i;
+      };
+      model = modelStep (s .device .layout) (c .args) (e i) (s .model);
+    }
+
+-- so a program runs a permitted history
+pub driven-runs : (s s″ : State) (cs : List Call) → Driven s cs s″ → AllPermitted s cs × (run s cs ≡ s″)
+unfolding run
+driven-runs _ _ _ (done s) = (tt, refl)
+driven-runs _ _ _ (next s s″ c cs r t I′ k d) =
+    let e = stepped-state s c r t I′ k in
+    let w = driven-runs (after s c r t I′) s″ cs d in
+    ((k .0 .0, subst (λ (x : State). AllPermitted x cs) (sym e) (w .0)), ap (λ (x : State). run x cs) e ∙ w .1)
+
+-- ---- openings
 
 -- an opening that the code makes has the status of the model's opening
-opened-status : (l : Layout) (I : Image) (s : Session) (T : Trace) (r : Answer) (t : Trace) → Called I s (callOpen l T) r t → codeOf (r .status) ≡ openStatus l I T
+opened-status : (l : Layout) (I : Image) (x : Session) (T : Trace) (r : Answer) (t : Trace) → Called I x (callOpen l T) r t → codeOf (r .status) ≡ openStatus l I T
 unfolding openOutcome outcomeOf
-opened-status l I s T r t k = k .1 .0
+opened-status l I x T r t k = k .1 .0
 
--- and, replayed, is the start of a history
-opened-starts : (l : Layout) (I : Image) (s : Session) (T : Trace) (r : Answer) (t : Trace) (I₁ : Image) → Stepped I s (callOpen l T) r t I₁
-    → (start l I T .device .image ≡ I₁) × (start l I T .device .session ≡ r .session) × (openedImage l I T ≡ I₁)
-unfolding start openedImage
-opened-starts l I s T r t I₁ k =
+-- what it leaves, replayed, is what the model's opening leaves
+opened-image : (l : Layout) (I : Image) (x : Session) (T : Trace) (r : Answer) (t : Trace) (I₁ : Image) → Stepped I x (callOpen l T) r t I₁ → openedImage l I T ≡ I₁
+unfolding openedImage
+opened-image l I x T r t I₁ k =
     let g = k .0 .1 in
-    let e = sym (k .1 ∙ part-image (openOutcome l I T) T r t g I (r .ops) ∙ ap (λ (n : ℕ). replayedImage I (openOutcome l I T .ops) T n) (g .2)) in
-    (e, sym (g .1), e)
+    sym (k .1 ∙ part-image (openOutcome l I T) T r t g I (r .ops) ∙ ap (λ (n : ℕ). replayedImage I (openOutcome l I T .ops) T n) (g .2))
 
-start-device : (l : Layout) (I : Image) (T : Trace) → (start l I T .device .played ≡ []) × (start l I T .device .durable ≡ openedImage l I T) × (start l I T .device .layout ≡ l)
+-- and where the program then stands is the start of a history
+opened-starts : (l : Layout) (I : Image) (x : Session) (T : Trace) (r : Answer) (t : Trace) (I₁ : Image) → Stepped I x (callOpen l T) r t I₁
+    → start l I T ≡ opened l I r I₁
 unfolding start
-start-device l I T = (refl, refl, refl)
+opened-starts l I x T r t I₁ k =
+    let e = opened-image l I x T r t I₁ k in
+    let q = sym (k .0 .1 .1) in
+    λ i. record {
+      device = record { layout = l; durable = e i; played = []; image = e i; session = q i };
+      model = savedModel l I;
+    }
 
 -- openings that the code makes and that are cut are the model's
 cut-openings : {l : Layout} {H H′ : Image} → CutDriven l H H′ → CutOpenings CrashImage l H H′
 cut-openings none = model.none
-cut-openings {l} (again {H = H} {H′ = H₁} s T p r t k ne c rest) =
-    model.again T p (λ e. ne (opened-status l H s T r t k ∙ e))
+cut-openings {l} (again {H = H} {H′ = H₁} x T p r t k ne c rest) =
+    model.again T p (λ e. ne (opened-status l H x T r t k ∙ e))
     (subst (λ (X : Ops). CrashImage H X H₁) (part-played (openOutcome l H T) T r t (k .1) H p) c) (cut-openings rest)
 
--- the moment of a crash in a call that the code makes
-made-moment : (d : Device) (m : Moment) (M : Ops) → Made (d .image) (d .session) m M → PermittedAt d m × (playedAt d m ≡ d .played ++ M)
-made-moment d _ _ rests = (tt, sym (append-nil (d .played)))
-made-moment d _ _ (makes c p r t k) = (k .0, ap (λ (X : Ops). d .played ++ X) (sym (called-played d c r t k p)))
+-- what the last opening shows
+shows-after : (l : Layout) (H : Image) (May : Page → Type 0)
+    → ((H′ : Image) → CutOpenings CrashImage l H H′ → (T : Trace) → openStatus l H′ T ≢ 11 → (Q : Page) × May Q × Recovers l H′ T Q × Bytes H′)
+    → ShowsAfter l H May
+shows-after l H May f H′ o x T r t I k ne =
+    let e = opened-status l H′ x T r t (k .0) in
+    let y = f H′ (cut-openings o) T (λ z. ne (e ∙ z)) in (
+      y .0,
+      y .1,
+      e ∙ y .2 .accepted,
+      subst (λ (J : Image). Reads l J (y .0) (y .0)) (opened-image l H′ x T r t I k) (y .2 .shows),
+      y .3,
+      ap (λ (P : Page). record { working = P; checkpoint = P }) (y .2 .begins),
+    )
+
+-- ---- the moment of a crash in a call that the code makes
+
+made-moment : (s : State) (m : Moment) (M : Ops) → Made s m M → PermittedAt (s .device) m × (playedAt (s .device) m ≡ s .device .played ++ M)
+made-moment s _ _ rests = (tt, sym (append-nil (s .device .played)))
+made-moment s _ _ (makes c p r t k h) =
+    ((k .0, omega (arith, h, k .1 .2)), ap (λ (X : Ops). s .device .played ++ X) (sym (called-played (s .device) c r t k p)))
 
 -- DEMANDS 2 AND 3 OF THE CODE
 pub driven-safety : DrivenSafety
-unfolding start
-driven-safety l I T b s r t I₁ p served cs O I₂ s₂ d =
-    let ok : openStatus l I T ≡ 0 = sym (opened-status l I s T r t (p .0)) ∙ served in
-    let q = opened-starts l I s T r t I₁ p in
-    let w = driven-runs I₁ I₂ (r .session) s₂ cs O d (start l I T) (q .0) (q .1) in
-    let h : State = run (start l I T) cs in
-    let z = start-device l I T in
-    let layout : h .device .layout ≡ l = w .5 ∙ z .2 in
-    let durable : h .device .durable ≡ I₁ = w .4 ∙ z .1 ∙ q .2 in
-    let played : h .device .played ≡ O = w .3 ∙ ap (λ (X : Ops). X ++ O) (z .0) in (
-      subst₂ (λ (k : Layout) (J : Image). Reads k J (h .model .working) (h .model .checkpoint)) layout (w .1) (reads-follow-model l I T b ok cs (w .0)),
-      λ m M made H c H′ o s₃ T₃ r₃ t₃ I₃ st ne.
-          let made′ : Made (h .device .image) (h .device .session) m M = subst₂ (λ (J : Image) (x : Session). Made J x m M) (sym (w .1)) (sym (w .2)) made in
-          let at = made-moment (h .device) m M made′ in
-          let c′ : CrashImage (h .device .durable) (playedAt (h .device) m) H =
-          subst₂ (λ (J : Image) (X : Ops). CrashImage J X H) (sym durable) (sym (at .1 ∙ ap (λ (X : Ops). X ++ M) played)) c in
-          let o′ : CutOpenings CrashImage (h .device .layout) H H′ = subst (λ (k : Layout). CutOpenings CrashImage k H H′) (sym layout) (cut-openings o) in
-          let st′ = opened-status l H′ s₃ T₃ r₃ t₃ (st .0) in
-          let ne′ : openStatus (h .device .layout) H′ T₃ ≢ 11 = subst (λ (k : Layout). openStatus k H′ T₃ ≢ 11) (sym layout) (λ e. ne (st′ ∙ e)) in
-          let x = crash-safety l I T b ok cs (w .0) m (at .0) H c′ H′ o′ T₃ ne′ in
-          let rec = subst (λ (k : Layout). model.Recovers k H′ T₃ (x .0)) layout (x .2) in
-          let v = opened-starts l H′ s₃ T₃ r₃ t₃ I₃ st in (
-            x .0,
-            x .1,
-            st′ ∙ rec .accepted,
-            subst (λ (J : Image). Reads l J (x .0) (x .0)) (v .2) (rec .shows),
-            x .3,
-            ap (λ (P : model.Page). record { working = P; checkpoint = P }) (rec .begins),
-          ),
+driven-safety l I T b x r t I₁ k ok cs s d =
+    let first : openStatus l I T ≡ 0 = sym (opened-status l I x T r t (k .0)) ∙ ok in
+    let e = opened-starts l I x T r t I₁ k in
+    let w = driven-runs (opened l I r I₁) s cs d in
+    let permitted : AllPermitted (start l I T) cs = subst (λ (h : State). AllPermitted h cs) (sym e) (w .0) in
+    let stands : run (start l I T) cs ≡ s = ap (λ (h : State). run h cs) e ∙ w .1 in (
+      subst (λ (h : State). Reads (h .device .layout) (h .device .image) (h .model .working) (h .model .checkpoint)) stands
+          (reads-follow-model l I T b first cs permitted),
+      λ m M made H c.
+          let at = made-moment s m M made in
+          let safe = crash-safety l I T b first cs permitted m in
+          shows-after (s .device .layout) H (model.MayShow s m) (λ H′ o T′ ne.
+          subst (λ (h : State). PermittedAt (h .device) m → CrashImage (h .device .durable) (playedAt (h .device) m) H
+          → CutOpenings CrashImage (h .device .layout) H H′ → openStatus (h .device .layout) H′ T′ ≢ 11
+          → (Q : Page) × model.MayShow h m Q × Recovers (h .device .layout) H′ T′ Q × Bytes H′) stands
+          (λ pm c o ne. safe pm H c H′ o T′ ne)
+          (at .0) (subst (λ (X : Ops). CrashImage (s .device .durable) X H) (sym (at .1)) c) o ne),
     )
+
+-- the same of openings alone
+pub driven-opening-safety : DrivenOpeningSafety
+driven-opening-safety l I T b x r t k ok =
+    shows-after l I _ (λ H′ o T′ ne.
+    let y = opening-safety l I T b (sym (opened-status l I x T r t k) ∙ ok) H′ o T′ ne in
+    (checkpointBytes l I (activeLine I), refl, y .0, y .1))

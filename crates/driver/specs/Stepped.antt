@@ -20,7 +20,9 @@ Called I s c r t =
 abbrev pub reportedPart : Answer → Trace → Trace
 reportedPart r t = take (3 * r .ops) t
 
--- what replay plays of it on the image I where it is stopped after the first p operations
+-- what replay plays of it on the image I where it is asked for the first p operations. A power cut stops replay after some
+-- number of operations, and what was then played is taken to be that first part: that the code of replay stores in the trace's
+-- order is read in its loop, since no contract speaks of the order of its stores
 abbrev pub playedPart : Image → Answer → Trace → ℕ → Ops
 playedPart I r t p = replayedOps (reportedPart r t) (replayOutcome I (reportedPart r t) p .played)
 

@@ -27,7 +27,7 @@ use Rattle.model.specs.Reads.{readErrors, readStatus}
 use Rattle.model.specs.Reference.{Page, pageAt, pageBlock, modelStep}
 use Rattle.model.specs.History.{Call, callOpen, callWrite, callCheckpoint, Device, State, playedOps, deviceStep, step, run, Permitted, AllPermitted}
 use Rattle.model.specs.Counts.{dirtyTotal}
-use Rattle.model.specs.CrashSafety.{ReadsBlock, between, during, Window, lastCheckpoint, MayShow, CrashModel, CutOpenings, again}
+use Rattle.model.specs.CrashSafety.{ReadsBlock, between, during, Window, MayShow, CrashModel, CutOpenings, again}
 use Rattle.model.proofs.Range.{and-left, and-right}
 use Rattle.model.proofs.Refusals.{given-condition}
 use Rattle.model.proofs.Metadata.{any-free}
@@ -42,36 +42,20 @@ pub shown-at-rest : (s : State) (Q : Page) → MayShow s between Q → Q ≡ s .
 shown-at-rest s Q m = m
 
 -- outside the window, only the last completed checkpoint
-pub shown-outside : (s : State) (c : Call) (p : ℕ) (Q : Page) → (Window (s .device) c p → ⊥) → MayShow s (during c p) Q → Q ≡ lastCheckpoint s c p
+pub shown-outside : (s : State) (c : Call) (p : ℕ) (Q : Page) → (Window (s .device) c p → ⊥) → MayShow s (during c p) Q → Q ≡ s .model .checkpoint
 shown-outside s c p Q closed m = ⊎-elim (λ e. e) (λ w. absurd (closed (w .0))) m
 
--- a served checkpoint with m dirty blocks: the old one until operation 4 * m + 12 is played, the new one once 4 * m + 14 is
+-- a served checkpoint with m dirty blocks: the old one until operation 4 * m + 12 is played, the new one once it is played whole
 module _ (s : State) (t : Trace) (p : ℕ) (Q : Page) (h : checkpointStatus (s .device .session) (s .device .image) t ≡ 0) where
   abbrev m : ℕ
   m = dirtyTotal (s .device .session .layout) (s .device .session .«dirty_blocks»)
 
-  abbrev ops : Ops
-  ops = checkpointOutcome (s .device .session) (s .device .image) t .ops
-
-  count : length ops ≡ 4 * m + 14
-  unfolding checkpointOutcome outcomeOf
-  count = rw h (length-checkpoint-ops (s .device .session) (s .device .image))
-
-  status : served (checkpointOutcome (s .device .session) (s .device .image) t .status) ≡ true
-  unfolding checkpointOutcome outcomeOf
-  status = eq-eqb _ _ h
-
   pub shown-before : p < 4 * m + 12 → MayShow s (during (callCheckpoint t) p) Q → Q ≡ s .model .checkpoint
-  unfolding lastCheckpoint
-  shown-before l x =
-      shown-outside s (callCheckpoint t) p Q (λ w. omega (arith, window-is (s .device) t p h .0 w .0)) x
-      ∙ rw (lt-leb (length ops) p (omega (arith, count)))
+  shown-before l x = shown-outside s (callCheckpoint t) p Q (λ w. omega (arith, window-is (s .device) t p h .0 w .0)) x
 
-  pub shown-after : 4 * m + 14 ≤ p → MayShow s (during (callCheckpoint t) p) Q → Q ≡ s .model .working
-  unfolding lastCheckpoint step modelStep
-  shown-after l x =
-      shown-outside s (callCheckpoint t) p Q (λ w. omega (arith, window-is (s .device) t p h .0 w .1)) x
-      ∙ rw (le-leb (length ops) p (omega (arith, count)), status)
+  pub shown-after : MayShow (step s (callCheckpoint t)) between Q → Q ≡ s .model .working
+  unfolding step modelStep checkpointOutcome outcomeOf
+  shown-after x = x ∙ rw (eq-eqb _ _ h)
 
 -- ---- what the reads show
 

@@ -25,7 +25,7 @@ use Rattle.model.specs.Outcome.{outcomeOf}
 use Rattle.model.specs.Crash.{CrashImage}
 use Rattle.model.specs.Reference.{Page, Model, modelStep, checkpointArgs}
 use Rattle.model.specs.History.{Call, Device, State, outcome, calledOps, deviceStep, step}
-use Rattle.model.specs.CrashSafety.{Moment, during, playedAt, EpochStored, lastCheckpoint, MayShow, isCheckpoint}
+use Rattle.model.specs.CrashSafety.{Moment, during, playedAt, EpochStored, MayShow, isCheckpoint}
 use Rattle.model.proofs.Places.{image-lines}
 use Rattle.model.proofs.TraceLaws.{AllOk, played-ops, replayed-image}
 use Rattle.model.proofs.WordLaws.{word-cong}
@@ -68,8 +68,8 @@ Leaves s m H =
 pub record Argument (s : State) (c : Call) : Type 0 where
   -- played whole, it leaves what stands
   pub stands : Stands (step s c)
-  -- crashed after any number of its operations, it leaves what recovers to a page that may be shown
-  pub crash : (p : ℕ) (H : Image) → CrashImage (s .device .durable) (playedAt (s .device) (during c p)) H → Leaves s (during c p) H
+  -- crashed before its last operation, it leaves what recovers to a page that may be shown
+  pub crash : (p : ℕ) (H : Image) → p < length (outcome (s .device) c .ops) → CrashImage (s .device .durable) (playedAt (s .device) (during c p)) H → Leaves s (during c p) H
   -- it raises the epoch by 1 if it is a served checkpoint, and else not
   pub epoch : committedEpoch (step s c .device .image)
       ≡ committedEpoch (s .device .image) + oneIf (isCheckpoint (c .args) && served (outcome (s .device) c .status))
@@ -161,34 +161,20 @@ module _ (s : State) (st : Stands s) where
               (n .layoutIs) (n .inv));
         }
 
-    appended-crash : Appends s c → (p : ℕ) (H : Image) → CrashImage (d .durable) (d .played ++ calledOps d c p) H → Leaves s (during c p) H
-    unfolding lastCheckpoint step deviceStep
-    appended-crash n p H x = go (decLt p (length O))
+    appended-crash : Appends s c → (p : ℕ) (H : Image) → p < length (outcome d c .ops) → CrashImage (d .durable) (d .played ++ calledOps d c p) H
+        → Leaves s (during c p) H
+    appended-crash n p H h x = ⊎-elim
+        (λ r. (s .model .checkpoint, inl refl, st .wholeCheckpoint, subst (λ (k : Layout). Recoverable k H (checkpointOf s)) (n .layoutIs) r))
+        (λ r. (
+          s .model .working,
+          inr ((r .0, subst EpochStored (sym first) (r .1), h), refl),
+          st .wholeWorking,
+          subst (λ (k : Layout). Recoverable k H (workingOf s)) (n .layoutIs) (r .2),
+        ))
+        (n .crash p H (subst (λ (X : Ops). CrashImage (d .durable) (d .played ++ X) H) first x))
       where
-        O : Ops
-        O = outcome d c .ops
-
         first : calledOps d c p ≡ take p (n .ops)
         first = called p ∙ ap (take p) (n .opsAre)
-
-        go : Dec (p < length O) → Leaves s (during c p) H
-        go (yes h) = ⊎-elim
-            (λ r. (s .model .checkpoint, inl (rw (lt-leb (length O) p h)), st .wholeCheckpoint, subst (λ (k : Layout). Recoverable k H (checkpointOf s)) (n .layoutIs) r))
-            (λ r. (
-              s .model .working,
-              inr ((r .0, subst EpochStored (sym first) (r .1), h), refl),
-              st .wholeWorking,
-              subst (λ (k : Layout). Recoverable k H (workingOf s)) (n .layoutIs) (r .2),
-            ))
-            (n .crash p H (subst (λ (X : Ops). CrashImage (d .durable) (d .played ++ X) H) first x))
-        go (no h) =
-            let e : calledOps d c p ≡ calledOps d c (length O) = called p ∙ take-all p O (omega arith) ∙ sym called-all in
-            let after = appended-stands n in (
-              step s c .model .checkpoint,
-              inl (rw (le-leb (length O) p (omega arith))),
-              after .wholeCheckpoint,
-              rest-crash (step s c) after H (subst (λ (X : Ops). CrashImage (d .durable) (d .played ++ X) H) e x),
-            )
 
     appended-epoch : Appends s c → committedEpoch (step s c .device .image) ≡ committedEpoch (d .image) + oneIf (isCheckpoint (c .args) && served (outcome d c .status))
     unfolding step deviceStep

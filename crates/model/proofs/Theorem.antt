@@ -39,7 +39,7 @@ history-stands l I t b h cs permitted = run-stands (start l I t) cs (start-stand
 crash-leaves : (s : State) → Stands s → (m : Moment) → PermittedAt (s .device) m → (H : Image)
     → CrashImage (s .device .durable) (playedAt (s .device) m) H → Leaves s m H
 crash-leaves s st between permitted H c = (s .model .checkpoint, refl, st .wholeCheckpoint, rest-crash s st H c)
-crash-leaves s st (during d p) permitted H c = argument s st d permitted .crash p H c
+crash-leaves s st (during d p) permitted H c = argument s st d (permitted .0) .crash p H (permitted .1) c
 
 -- DEMAND 3
 pub crash-safety : CrashSafety

@@ -45,7 +45,8 @@ pub record Recovers (l : Layout) (H : Image) (t : Trace) (Q : Page) : Type 0 whe
 
 -- ---- the moment of the crash
 
--- between two calls, or after the first p operations of one more call (document 01: a cut)
+-- between two calls, or after the first p operations of one more call that has more (document 01: a cut); a call that was
+-- played whole is one of the history's calls
 pub data Moment : Type 0 where
   between : Moment
   during : Call → ℕ → Moment
@@ -53,7 +54,7 @@ pub data Moment : Type 0 where
 -- the call is one that a history may have
 abbrev pub PermittedAt : Device → Moment → Type 0
 PermittedAt d between = Unit {0}
-PermittedAt d (during c p) = Permitted d c
+PermittedAt d (during c p) = Permitted d c × (p < length (outcome d c .ops))
 
 -- the operations played since all was durable
 abbrev pub playedAt : Device → Moment → Ops
@@ -68,14 +69,11 @@ EpochStored O = (A : Ops) × (D : Ops) × (w : ℕ) × (O ≡ A ++ store epochAt
 abbrev pub Window : Device → Call → ℕ → Type 0
 Window d c p = (c .args ≡ checkpointArgs) × EpochStored (calledOps d c p) × (p < length (outcome d c .ops))
 
--- document 01: the last finished save, the checkpoint page after the calls whose traces were played whole
-unfoldable pub lastCheckpoint : State → Call → ℕ → Page
-lastCheckpoint s c p = cond (leb (length (outcome (s .device) c .ops)) p) (step s c .model .checkpoint) (s .model .checkpoint)
-
--- the pages that may be shown after a crash: the last completed checkpoint, and in the window also the working state
+-- the pages that may be shown after a crash: the last completed checkpoint, which is the checkpoint page after the calls
+-- whose traces were played whole (document 01: the last finished save), and in the window also the working state
 abbrev pub MayShow : State → Moment → Page → Type 0
 MayShow s between Q = Q ≡ s .model .checkpoint
-MayShow s (during c p) Q = (Q ≡ lastCheckpoint s c p) ⊎ (Window (s .device) c p × (Q ≡ s .model .working))
+MayShow s (during c p) Q = (Q ≡ s .model .checkpoint) ⊎ (Window (s .device) c p × (Q ≡ s .model .working))
 
 -- P holds of the state of every history: it starts at any image that an opening serves, with any sizes and any trace, and
 -- has any list of calls from there, refused ones included, with any arguments, traces and choices of free backups
