@@ -1,12 +1,13 @@
 -- The crash inside the checkpoint of P4.
 use Prim.Native.Nat.{ℕ, zero, suc, _+_, _≤_, _<_}
-use mathlib.Core.Path.{_≡_, refl, sym, ap, subst, _∙_}
-use mathlib.Core.Logic.{inl, inr, ⊎-elim}
+use mathlib.Core.Path.{_≡_, refl, sym, ap, subst, subst₂, _∙_}
+use mathlib.Core.Logic.{_≢_, inl, inr, ⊎-elim}
 use mathlib.Core.Bool.{Bool, true, false, _||_, false≢true}
-use mathlib.Core.List.{[], _∷_, _++_}
+use mathlib.Core.List.{List, [], _∷_, _++_}
 use native.Mathlib.Omega.{arith}
 use lib.Dec.{T, leb, eqb, lit≤}
 use lib.ListN.{length, take, replicate, length-append}
+use Rattle.model.specs.declared.Layout.{Layout}
 use Rattle.model.specs.Words.{Image, Bytes, byteAt}
 use Rattle.model.specs.Layout.{epochAt}
 use Rattle.model.specs.Ops.{Ops, store, clwb, sfence, replay}
@@ -14,13 +15,13 @@ use Rattle.model.specs.Format.{container, formatted}
 use Rattle.model.specs.Open.{openStatus}
 use Rattle.model.specs.Crash.{CrashImage}
 use Rattle.model.specs.Reference.{Page}
-use Rattle.model.specs.History.{State, start, deviceStep, step, run, openedImage, AllPermitted}
-use Rattle.model.specs.CrashSafety.{ReadsBlock, Reads, Recovers, during, playedAt, Window, lastCheckpoint, MayShow, none}
+use Rattle.model.specs.History.{Call, State, outcome, start, deviceStep, step, run, openedImage, AllPermitted}
+use Rattle.model.specs.CrashSafety.{ReadsBlock, Reads, Recovers, Moment, between, during, PermittedAt, playedAt, Window, MayShow, none}
 use Rattle.model.proofs.Range.{or-right}
 use Rattle.model.proofs.Persist.{length-replay}
 use Rattle.model.proofs.Theorem.{crash-safety}
 use Rattle.cases.specs.Table.{l211, fresh, room, fourBytes, writeFour, checkpoint}
-use Rattle.cases.specs.Cut.{before, zeros, newBytes, MayLeave, OnlyShows, EitherPage, CutP4}
+use Rattle.cases.specs.Cut.{before, after, zeros, newBytes, MayLeave, OnlyShows, EitherPage, CutP4}
 use Rattle.cases.proofs.Compute.{model-rules, same, same-equal, small, small-bytes}
 use Rattle.cases.proofs.Starts.{standing, started}
 
@@ -78,7 +79,7 @@ cutImage epoch =
 
 -- what stood after k of the operations, the last of which were p of the checkpoint
 left : (p k epoch : ℕ) → (O : Ops) → O ≡ playedAt (written .device) (during checkpoint p) → T (leb k (length O)) → T (leb (length O) (k + 2))
-    → same (replay (take k O) (formatted l211)) (cutImage epoch) ≡ true → MayLeave written p (cutImage epoch)
+    → same (replay (take k O) (formatted l211)) (cutImage epoch) ≡ true → MayLeave written (during checkpoint p) (cutImage epoch)
 left p k epoch O e k≤ ≤k test =
     subst (λ (X : Ops). CrashImage (formatted l211) X (cutImage epoch)) e (late (formatted l211) O k (cutImage epoch) (lit≤ k≤) (lit≤ ≤k) (same-equal _ _ test))
 
@@ -140,14 +141,14 @@ checkpointOps =
     ∷ store 192 1 ∷ store 200 0 ∷ store 208 0 ∷ store 216 0 ∷ store 224 0 ∷ store 232 0 ∷ store 240 0 ∷ store 248 0 ∷ clwb 192 ∷ sfence
     ∷ store 0 1 ∷ clwb 0 ∷ sfence ∷ []
 
-either-16 : EitherPage written 16
+either-16 : EitherPage written (during checkpoint 16)
 unfolding model-rules same
 either-16 = record {
   old = (cutImage 0, left 16 17 0 (writeOps ++ take 16 checkpointOps) refl tt tt refl, shows-old);
   new = (cutImage 1, left 16 18 1 (writeOps ++ take 16 checkpointOps) refl tt tt refl, shows-new);
 }
 
-either-17 : EitherPage written 17
+either-17 : EitherPage written (during checkpoint 17)
 unfolding model-rules same
 either-17 = record {
   old = (cutImage 0, left 17 17 0 (writeOps ++ take 17 checkpointOps) refl tt tt refl, shows-old);
@@ -173,17 +174,12 @@ not-yet : Window (written .device) checkpoint 15 → ⊥
 unfolding model-rules storesEpoch
 not-yet w = false≢true (ap storesEpoch (w .1 .3) ∙ epoch-stored (w .1 .0) (w .1 .1) (w .1 .2))
 
-no-more : Window (written .device) checkpoint 18 → ⊥
+count : length (outcome (written .device) checkpoint .ops) ≡ 18
 unfolding model-rules
-no-more w = let below : 18 < 18 = w .2 in omega arith
+count = refl
 
-old-last : lastCheckpoint written checkpoint 15 ≡ zeros
-unfolding model-rules
-old-last = refl
-
-new-last : lastCheckpoint written checkpoint 18 ≡ newBytes
-unfolding model-rules
-new-last = refl
+more : 15 < length (outcome (written .device) checkpoint .ops)
+more = omega (arith, count)
 
 fresh-bytes : Bytes fresh
 unfolding model-rules small
@@ -197,24 +193,44 @@ permitted : AllPermitted (standing l211 (formatted l211) zeros) (writeFour ∷ [
 unfolding model-rules small
 permitted = ((small-bytes fourBytes refl, λ served needs. absurd (false≢true needs)), tt)
 
--- outside the window demand 3 leaves one page
-only : (p : ℕ) (Q : Page) → (Window (written .device) checkpoint p → ⊥) → lastCheckpoint written checkpoint p ≡ Q → OnlyShows before p Q
-unfolding run step deviceStep start
-only p Q closed last H crash t long = subst (λ (R : Page). Recovers l211 H t R) (is-last (r .1)) (r .2)
-  where
-    r : (R : Page) × MayShow before (during checkpoint p) R × Recovers l211 H t R × Bytes H
-    r =
-        crash-safety l211 fresh room fresh-bytes opens (writeFour ∷ []) (subst (λ (s : State). AllPermitted s (writeFour ∷ [])) (sym starts) permitted)
-        (during checkpoint p) tt H crash H none t long
+-- demand 3 for a history of these calls
+safe : (cs : List Call) (m : Moment) → AllPermitted (start l211 fresh room) cs → PermittedAt (run (start l211 fresh room) cs .device) m
+    → (Q : Page) → ((R : Page) → MayShow (run (start l211 fresh room) cs) m R → R ≡ Q)
+    → (run (start l211 fresh room) cs .device .layout ≡ l211) → OnlyShows (run (start l211 fresh room) cs) m Q
+safe cs m all here Q last sizes H crash t long =
+    let r = crash-safety l211 fresh room fresh-bytes opens cs all m here H crash H none t (subst (λ (l : Layout). openStatus l H t ≢ 11) (sym sizes) long) in
+    subst₂ (λ (l : Layout) (R : Page). Recovers l H t R) sizes (last (r .0) (r .1)) (r .2)
 
-    is-last : {R : Page} → MayShow before (during checkpoint p) R → R ≡ Q
-    is-last {R} m = ⊎-elim (λ e. e ∙ last) (λ w. absurd (closed (w .0))) (subst (λ (s : State). MayShow s (during checkpoint p) R) stands m)
+-- before the window: one page
+before-15 : OnlyShows before (during checkpoint 15) zeros
+before-15 =
+    safe (writeFour ∷ []) (during checkpoint 15) (subst (λ (s : State). AllPermitted s (writeFour ∷ [])) (sym starts) permitted)
+    (tt, subst (λ (s : State). 15 < length (outcome (s .device) checkpoint .ops)) (sym stands) more) zeros
+    (λ R m. ⊎-elim (λ e. e) (λ w. absurd (not-yet (w .0))) (subst (λ (s : State). MayShow s (during checkpoint 15) R) stands m))
+    (ap (λ (s : State). s .device .layout) stands)
+
+-- played whole: the other
+saved : step written checkpoint .model .checkpoint ≡ newBytes
+unfolding model-rules
+saved = refl
+
+after-is : after ≡ step written checkpoint
+unfolding run
+after-is = ap (λ (s : State). step s checkpoint) stands
+
+whole-18 : OnlyShows after between newBytes
+unfolding step deviceStep
+whole-18 =
+    safe (writeFour ∷ checkpoint ∷ []) between
+    (subst (λ (s : State). AllPermitted s (writeFour ∷ checkpoint ∷ [])) (sym starts) (permitted .0, (tt, tt))) tt newBytes
+    (λ R m. m ∙ ap (λ (s : State). s .model .checkpoint) after-is ∙ saved)
+    (ap (λ (s : State). s .device .layout) after-is)
 
 -- the crash inside P4, from demand 3
 pub cut-P4 : CutP4
 cut-P4 = record {
-  after15 = only 15 zeros not-yet old-last;
-  after16 = subst (λ (s : State). EitherPage s 16) (sym stands) either-16;
-  after17 = subst (λ (s : State). EitherPage s 17) (sym stands) either-17;
-  after18 = only 18 newBytes no-more new-last;
+  after15 = before-15;
+  after16 = subst (λ (s : State). EitherPage s (during checkpoint 16)) (sym stands) either-16;
+  after17 = subst (λ (s : State). EitherPage s (during checkpoint 17)) (sym stands) either-17;
+  after18 = whole-18;
 }
