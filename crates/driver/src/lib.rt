@@ -1,5 +1,5 @@
-// One call of a history: the call, then the replay of the operations that it reports. Its contracts are the history's step,
-// of which crash safety is proved.
+// One call of a history: the call, then the replay of the operations that it reports. Its contracts are what `DrivenSafety`,
+// demands 2 and 3 of programs that make such calls, is stated of.
 use model::Answer;
 use model::Session;
 use replay::Replayed;

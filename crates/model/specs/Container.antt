@@ -119,7 +119,7 @@ unfoldable pub checkpointBytes : Layout → Image → ℕ → List ℕ
 checkpointBytes l I line = cat (l .mains) (checkpointSegment l I line)
 
 -- ---- refusals 1 and 2, all that format knows; 1 to 3; 4, by a line of states; and 1 to 4, which every other call but
--- replay knows; 6 and 7, for what is named in it
+-- replay knows; 6 and 7, for a call that names a main segment and a block
 
 -- the image carries the sizes of the layout
 abbrev pub HeaderOk : Layout → Image → Type 0

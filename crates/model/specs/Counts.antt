@@ -23,7 +23,7 @@ acts CopyToMain = 1
 unfoldable pub treated : Layout → Image → ℕ → ℕ
 treated l I line = sumTo (l .mains) (λ i. acts (recoveryAction (segState I line i) (isPaired l (backupToMain I) i)))
 
--- how many of n blocks are dirty by their bits in a word, and how many of all main segments by their words (document 01: m)
+-- how many of n blocks are dirty by their bits in a word, and how many in all main segments by their words (document 01: m)
 unfoldable pub dirtyCount : ℕ → ℕ → ℕ
 dirtyCount word n = sumTo n (λ b. oneIf (isDirty word b))
 

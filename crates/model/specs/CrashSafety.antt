@@ -1,10 +1,10 @@
--- Demand 3, as one statement over a whole history (`CrashSafety`), and its sisters. Proved in proofs/Theorem.antt.
+-- Demand 3, as one statement over a whole history (`CrashSafety`), and its sisters. Proved in proofs/Theorem.antt and,
+-- the sisters, in Sisters.antt, WellFormed.antt and Suffices.antt.
 use Prim.Native.Nat.{ℕ, _+_, _*_, _%_, _≤_, _<_}
 use mathlib.Core.Path.{_≡_}
 use mathlib.Core.Logic.{_≢_, _⊎_}
-use mathlib.Core.Bool.{Bool, true, false, cond, _&&_}
+use mathlib.Core.Bool.{Bool, true, false, _&&_}
 use mathlib.Core.List.{List, [], _∷_, _++_}
-use lib.Dec.{leb}
 use lib.ListN.{length, take, replicate}
 use Rattle.model.specs.declared.Layout.{Layout}
 use Rattle.model.specs.declared.Session.{Session}
@@ -158,12 +158,13 @@ abbrev pub CheckpointTraceSuffices : Type 0
 CheckpointTraceSuffices =
     (s : Session) (I : Image) (t : Trace) → 3 * (4 * s .layout .blocks * s .layout .mains + 14) ≤ length t → checkpointStatus s I t ≢ 11
 
--- the checkpoints that a list of calls serves
+-- whether a call is a checkpoint
 abbrev pub isCheckpoint : CallArgs → Bool
 isCheckpoint (openArgs l) = false
 isCheckpoint (writeArgs w) = false
 isCheckpoint checkpointArgs = true
 
+-- the checkpoints that a list of calls serves
 unfoldable pub checkpoints : State → List Call → ℕ
 checkpoints s [] = 0
 checkpoints s (c ∷ cs) = oneIf (isCheckpoint (c .args) && served (outcome (s .device) c .status)) + checkpoints (step s c) cs

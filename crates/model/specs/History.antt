@@ -17,8 +17,8 @@ use Rattle.model.specs.Write.{WriteArgs, writeOutcome, Chosen}
 use Rattle.model.specs.Checkpoint.{checkpointOutcome}
 use Rattle.model.specs.Reference.{Model, CallArgs, openArgs, writeArgs, checkpointArgs, modelStep}
 
--- a call (document 01: openings, writes and saves): its arguments, which are all that the model is fed, and its trace; a
--- write also with the backup segment that it takes if it needs a new one
+-- a call (document 01: openings, writes and saves): its arguments, which are all of it that the model is fed; its trace; and
+-- the backup segment that a write takes if it needs a new one, which the other calls do not look at
 pub record Call : Type 0 where
   pub args : CallArgs
   pub trace : Trace
@@ -35,7 +35,7 @@ callCheckpoint t = record { args = checkpointArgs; trace = t; choice = 0 }
 
 -- where a module stands in a history
 pub record Device : Type 0 where
-  -- its sizes
+  -- its sizes, those of the opening that the history started with
   pub layout : Layout
   -- the image when all was last durable, and the operations played since
   pub durable : Image

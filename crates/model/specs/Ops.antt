@@ -99,7 +99,7 @@ persistCopy I from to = putBlock true to (λ k. wordAt I (from + wordSize * k))
 unfoldable pub persistZero : ℕ → Ops
 persistZero to = putBlock true to (λ k. 0)
 
--- all blocks of a segment copied to another, upward, and filled with zeros
+-- all blocks of a segment copied to another, upward; and all blocks of one filled with zeros
 unfoldable pub copySegment : Layout → Image → ℕ → ℕ → Ops
 copySegment l I from to = cat (l .blocks) (λ b. persistCopy I (from + blockSize * b) (to + blockSize * b))
 

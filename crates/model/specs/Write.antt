@@ -1,5 +1,6 @@
 -- Write (document 01: Write). The backup segment that a write takes when it needs a new one is left open: it is the
--- argument j of each definition, `Chosen` says what holds of it, and all else follows from it. Assumes nothing.
+-- argument j of the plan and of what is made of the plan, `Chosen` says what holds of it, and all else follows from it.
+-- Assumes nothing.
 use Prim.Native.Nat.{ℕ, _+_, _-_, _*_, _/_}
 use mathlib.Core.Path.{_≡_}
 use mathlib.Core.Bool.{Bool, true, false, not, cond, _&&_, _||_}
@@ -108,11 +109,12 @@ writeSession s I w =
 
 -- ---- refusals and outcome
 
--- an empty span, or one that leaves its block
+-- an empty span, or one that leaves its block; the layout is given and not looked at
 unfoldable pub spanBad : Layout → WriteArgs → Bool
 spanBad l w = eqb (length (w .bytes)) 0 || ltb blockSize (w .offset + length (w .bytes))
 
--- j stands here only through the number of operations, which does not depend on it (write-status-chosen)
+-- j stands here only through the plan, and neither whether that is `NoneFree` nor the number of operations depends on it
+-- (write-status-chosen)
 abbrev pub writeErrors : Session → Image → WriteArgs → ℕ → Trace → Errors
 writeErrors s I w j t =
     contextErrors s I ++ mainErrors (s .layout) (w .main) ++ blockErrors (s .layout) (w .block)
