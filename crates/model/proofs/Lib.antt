@@ -23,7 +23,7 @@ pub mod SpanArgument
 pub mod CopyArgument
 pub mod WriteArgument
 pub mod Choice
-pub mod Exactness
+pub mod Allowed
 pub mod CheckpointArgument
 pub mod Pages
 pub mod CrashExact

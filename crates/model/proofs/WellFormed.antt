@@ -9,6 +9,8 @@ use lib.ListN.{length}
 use borrow.Author.Tests.{ltb-false, leb-false, eqb-true, eqb-false}
 use Rattle.model.specs.declared.Layout.{Layout}
 use Rattle.model.specs.declared.Session.{Session}
+use Rattle.model.specs.declared.Action.{Action}
+use Rattle.model.specs.declared.Action.the-variants.{Nothing, ZeroMain, CopyToBackup, CopyToMain}
 use Rattle.model.specs.declared.Plan.{Plan}
 use Rattle.model.specs.declared.Plan.the-variants.{NoCopy, OwnBackup, NewBackup, NoneFree}
 use Rattle.model.specs.Range.{cat}
@@ -67,22 +69,27 @@ inside-lines l n h = omega (arith, image-lines l)
 -- ---- recovery
 
 module _ (l : Layout) (I : Image) where
-  ok-action : (i : ℕ) → i < l .mains → (st : ℕ) (b : Bool) → isPaired l (backupToMain I) i ≡ b
+  ok-action : (i j : ℕ) → i < l .mains → j < l .backups → (a : Action) → AllOk (imageLines l) (actionOps l I i j a)
+  unfolding actionOps
+  ok-action i j h k Nothing = tt
+  ok-action i j h k ZeroMain = ok-zero-segment (imageLines l) l _ (omega arith) (inside-lines l _ (segment-in-image l i (omega arith)))
+  ok-action i j h k CopyToBackup = ok-copy-segment (imageLines l) l I _ _ (omega arith) (inside-lines l _ (segment-in-image l (l .mains + j) (omega arith)))
+  ok-action i j h k CopyToMain = ok-copy-segment (imageLines l) l I _ _ (omega arith) (inside-lines l _ (segment-in-image l i (omega arith)))
+
+  -- an unpaired segment is not copied
+  ok-recovery : (i : ℕ) → i < l .mains → (st : ℕ) (b : Bool) → isPaired l (backupToMain I) i ≡ b
       → AllOk (imageLines l) (actionOps l I i (pairedBackup l (backupToMain I) i) (recoveryAction st b))
   unfolding actionOps recoveryAction byState
-  ok-action i h zero true e = tt
-  ok-action i h (suc zero) true e =
-      ok-copy-segment (imageLines l) l I _ _ (omega arith) (inside-lines l _ (segment-in-image l _ (omega (arith, paired-at l (backupToMain I) i e .0))))
-  ok-action i h (suc (suc st)) true e = ok-copy-segment (imageLines l) l I _ _ (omega arith) (inside-lines l _ (segment-in-image l i (omega arith)))
-  ok-action i h zero false e = ok-zero-segment (imageLines l) l _ (omega arith) (inside-lines l _ (segment-in-image l i (omega arith)))
-  ok-action i h (suc zero) false e = tt
-  ok-action i h (suc (suc st)) false e = tt
+  ok-recovery i h st true e = ok-action i _ h (paired-at l (backupToMain I) i e .0) (recoveryAction st true)
+  ok-recovery i h zero false e = ok-zero-segment (imageLines l) l _ (omega arith) (inside-lines l _ (segment-in-image l i (omega arith)))
+  ok-recovery i h (suc zero) false e = tt
+  ok-recovery i h (suc (suc st)) false e = tt
 
   pub recovery-ok : (line : ℕ) → AllOk (imageLines l) (recoveryOps l I line)
   unfolding recoveryOps recoverSegment
   recovery-ok line =
       all-ok-append (imageLines l) (cat (l .mains) (recoverSegment l I line)) (sfence ∷ [])
-      (all-cat (OpOk (imageLines l)) (l .mains) _ (λ i h. ok-action i h (segState I line i) (isPaired l (backupToMain I) i) refl))
+      (all-cat (OpOk (imageLines l)) (l .mains) _ (λ i h. ok-recovery i h (segState I line i) (isPaired l (backupToMain I) i) refl))
       (omega (arith, metadata-inside l, image-lines l), tt)
 
 -- ---- write
