@@ -9,7 +9,7 @@ use lib.ListN.{length, take, drop}
 use borrow.Author.Tests.{leb-false, eqb-true}
 use Rattle.model.specs.declared.Layout.{Layout}
 use Rattle.model.specs.declared.Located.{Located}
-use Rattle.model.specs.declared.Located.the-variants.{Nowhere, At}
+use Rattle.model.specs.declared.Located.the-variants.{At}
 use Rattle.model.specs.Words.{Image}
 use Rattle.model.specs.Layout.{SizesOk, segmentSize, imageSize, mainAt}
 use Rattle.model.specs.Status.{Errors, firstError, served}

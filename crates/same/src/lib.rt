@@ -1,5 +1,6 @@
 // Equality of two checkpoints (document 01: likeness): segment by segment, wherever each image holds the segment.
 use model::Layout;
+use model::Located;
 use model::Status;
 ghost use mathlib.Core.Path.{_≡_};
 ghost use Prim.Native.Nat.{_+_, _*_, _≤_, _<_};
@@ -11,7 +12,6 @@ ghost use Rattle.model.specs.Layout.{layoutOf, segmentSize};
 ghost use Rattle.model.specs.Status.{codeOf, firstError};
 ghost use Rattle.model.specs.Container.{activeLine, checkpointSegment, containerErrors};
 ghost use Rattle.model.specs.Same.{sameBytes, sameStatus, sameCheckpoint, sameOutcome};
-ghost use Rattle.same.specs.Stands.{checkpointAt};
 
 // How a comparison ends, and whether the checkpoints are the same.
 pub struct Compared {
@@ -19,31 +19,8 @@ pub struct Compared {
     pub same: bool,
 }
 
-// The states of a main segment without a checkpoint of its own bytes, and with one in itself.
-const SS_INITIAL: u8 = Layout::SS_INITIAL as u8;
-
-const SS_MAIN: u8 = Layout::SS_MAIN as u8;
-
 // Bytes of a block, as indexes count them.
 const BLOCK_SIZE: usize = Layout::BLOCK_SIZE as usize;
-
-// Where the checkpoint of a main segment stands: in the main segment or in its backup, by the active state; 0 where it
-// stands nowhere and is all zero.
-pub fn checkpoint_at(image: &[u8], layout: Layout, main: u64) -> usize
-    requires { ⌜ firstError (containerErrors layout (now image)) ≡ 0 ⌝ }
-    requires { ⌜ main < layout .mains ⌝ }
-    ensures { λ r. ⌜ r ≡ checkpointAt layout (now (image .entry)) main ⌝ }
-{
-    let state = image[metadata::active_at(image) + main as usize];
-    if state == SS_INITIAL {
-        return 0;
-    }
-    if state == SS_MAIN {
-        return metadata::main_at(layout, main);
-    }
-    let backup = metadata::find_paired_backup(image, layout, main);
-    metadata::backup_at(layout, backup)
-}
 
 // Whether all bytes of so many blocks from a place on are 0.
 pub fn segment_is_zero(image: &[u8], at: usize, blocks: u64) -> bool
@@ -88,18 +65,18 @@ pub fn segment_same(a: &[u8], b: &[u8], layout: Layout, main: u64) -> bool
     requires { ⌜ main < layout .mains ⌝ }
     ensures { λ r. ⌜ r ≡ sameBytes (segmentSize layout) (checkpointSegment layout (now (a .entry)) (activeLine (now (a .entry))) main) (checkpointSegment layout (now (b .entry)) (activeLine (now (b .entry))) main) ⌝ }
 {
-    let x = checkpoint_at(a, layout, main);
-    let y = checkpoint_at(b, layout, main);
-    if x == 0 {
-        if y == 0 {
-            return true;
-        }
-        return segment_is_zero(b, y, layout.blocks);
+    let x = metadata::checkpoint_located(a, layout, metadata::active_at(a), main);
+    let y = metadata::checkpoint_located(b, layout, metadata::active_at(b), main);
+    match x {
+        Located::Nowhere => match y {
+            Located::Nowhere => true,
+            Located::At(q) => segment_is_zero(b, q as usize, layout.blocks),
+        },
+        Located::At(p) => match y {
+            Located::Nowhere => segment_is_zero(a, p as usize, layout.blocks),
+            Located::At(q) => segments_equal(a, p as usize, b, q as usize, layout.blocks),
+        },
     }
-    if y == 0 {
-        return segment_is_zero(a, x, layout.blocks);
-    }
-    segments_equal(a, x, b, y, layout.blocks)
 }
 
 // Whether every main segment has the same checkpoint in both images.
@@ -118,12 +95,12 @@ pub fn same_checkpoint(a: &[u8], b: &[u8], layout: Layout) -> bool
     ok
 }
 
-// The status of a comparison, by its number: the first image wholly before the second.
-pub fn same_status(a: &[u8], b: &[u8], layout: Layout) -> u64
-    ensures { λ r. ⌜ r ≡ sameStatus layout (now (a .entry)) (now (b .entry)) ⌝ }
+// The status of a comparison: the first image wholly before the second.
+pub fn same_status(a: &[u8], b: &[u8], layout: Layout) -> Status
+    ensures { λ r. ⌜ codeOf r ≡ sameStatus layout (now (a .entry)) (now (b .entry)) ⌝ }
 {
     let first = metadata::container_status(a, layout);
-    if first != 0 {
+    if !first.is_served() {
         return first;
     }
     metadata::container_status(b, layout)
@@ -136,14 +113,14 @@ pub fn crpm_same_checkpoint(a: &[u8], b: &[u8], mains: u64, backups: u64, blocks
 {
     let layout = Layout::new(mains, backups, blocks);
     let status = same_status(a, b, layout);
-    if status != 0 {
+    if !status.is_served() {
         return Compared {
-            status: Status::of(status),
+            status: status,
             same: false,
         };
     }
     Compared {
-        status: Status::Served,
+        status: status,
         same: same_checkpoint(a, b, layout),
     }
 }

@@ -1,8 +1,9 @@
-use mathlib.Core.Path.{sym, ap, _∙_}
+use mathlib.Core.Path.{ap, _∙_}
+use borrow.Author.Tests.{not-true, not-false}
 use borrow.Author.Needs.{needs}
 use Rattle.model.specs.declared.Layout.{Layout}
 use Rattle.model.specs.Same.{sameOutcome}
-use Rattle.same.proofs.Laws.{both-accepted, status-given, status-most, refused, served}
+use Rattle.same.proofs.Laws.{judged, both-accepted, status-given, same-refused, same-served}
 use Rattle.same.proofs.crpm_same_checkpoint.Statement.{statement}
 use Rattle.same.proofs.crpm_same_checkpoint.Tie as tie
 
@@ -12,36 +13,38 @@ new-requires c κs = search needs
 same-status-requires : tie.Need-same-status-requires
 same-status-requires c κs = search needs
 
-of-requires : tie.Need-of-requires
-of-requires c κs =
-    let n = c .before .before in
-    let a = n .before .before .before .args in
-    rw (c .before .same-status .ensures) (status-most (n .new .result) (a .a .now) (a .b .now))
+is-served-requires : tie.Need-is-served-requires
+is-served-requires c κs = search needs
 
 returns : tie.Need-returns
 returns c =
     let b = c .before in
-    let s = b .before .same-status .ensures in
-    let n = b .before .before in
-    let a = n .before .before .before .args in (
-      c .of .ensures ∙ s ∙ status-given (n .new .result) (a .a .now) (a .b .now) ∙ ap (λ (l : Layout). sameOutcome l (a .a .now) (a .b .now) .status) (n .new .ensures),
-      refused (n .new .result) (a .a .now) (a .b .now) (λ e. b .if1 .taken (s ∙ e)) ∙ ap (λ (l : Layout). sameOutcome l (a .a .now) (a .b .now) .same) (n .new .ensures),
+    let f = b .before in
+    let n = f .before in
+    let a = n .before .before .before .args in
+    let z = judged (n .new .result) (a .a .now) (a .b .now) _ _ (f .same-status .ensures) (b .is-served .ensures) ∙ not-true _ (c .if1 .taken) in (
+      f .same-status .ensures ∙ status-given (n .new .result) (a .a .now) (a .b .now) ∙ ap (λ (l : Layout). sameOutcome l (a .a .now) (a .b .now) .status) (n .new .ensures),
+      same-refused (n .new .result) (a .a .now) (a .b .now) z ∙ ap (λ (l : Layout). sameOutcome l (a .a .now) (a .b .now) .same) (n .new .ensures),
     )
 
 same-checkpoint-requires : tie.Need-same-checkpoint-requires
 same-checkpoint-requires c κs =
-    let n = c .before .before in
+    let b = c .before in
+    let f = b .before in
+    let n = f .before in
     let a = n .before .before .before .args in
-    both-accepted (n .new .result) (a .a .now) (a .b .now) (sym (c .before .same-status .ensures) ∙ c .if1 .left)
+    both-accepted (n .new .result) (a .a .now) (a .b .now) (judged (n .new .result) (a .a .now) (a .b .now) _ _ (f .same-status .ensures) (b .is-served .ensures) ∙ not-false _ (c .if1 .left))
 
 returns-2 : tie.Need-returns-2
 returns-2 c =
-    let b = c .before in
-    let s = b .before .same-status .ensures in
-    let n = b .before .before in
-    let a = n .before .before .before .args in (
-      sym (b .if1 .left) ∙ s ∙ status-given (n .new .result) (a .a .now) (a .b .now) ∙ ap (λ (l : Layout). sameOutcome l (a .a .now) (a .b .now) .status) (n .new .ensures),
-      c .same-checkpoint .ensures ∙ served (n .new .result) (a .a .now) (a .b .now) (sym s ∙ b .if1 .left) ∙ ap (λ (l : Layout). sameOutcome l (a .a .now) (a .b .now) .same) (n .new .ensures),
+    let d = c .before in
+    let b = d .before in
+    let f = b .before in
+    let n = f .before in
+    let a = n .before .before .before .args in
+    let z = judged (n .new .result) (a .a .now) (a .b .now) _ _ (f .same-status .ensures) (b .is-served .ensures) ∙ not-false _ (d .if1 .left) in (
+      f .same-status .ensures ∙ status-given (n .new .result) (a .a .now) (a .b .now) ∙ ap (λ (l : Layout). sameOutcome l (a .a .now) (a .b .now) .status) (n .new .ensures),
+      c .same-checkpoint .ensures ∙ same-served (n .new .result) (a .a .now) (a .b .now) z ∙ ap (λ (l : Layout). sameOutcome l (a .a .now) (a .b .now) .same) (n .new .ensures),
     )
 
 pub crpm-same-checkpoint-spec : {M : Type 1} → statement M
@@ -50,7 +53,7 @@ crpm-same-checkpoint-spec =
     (tie.spec
     new-requires
     same-status-requires
-    of-requires
+    is-served-requires
     returns
     same-checkpoint-requires
     returns-2)

@@ -1,92 +1,156 @@
 use native.Mathlib.Omega.{arith}
-use mathlib.Core.Path.{sym, _∙_}
 use borrow.Author.Needs.{needs}
-use Rattle.same.proofs.Laws.{room, stands-inside, both-nowhere, first-nowhere, second-nowhere, none-nowhere}
+use Rattle.same.proofs.Laws.{room, searched, stands, inside-at, both-nowhere, first-nowhere, second-nowhere, none-nowhere}
 use Rattle.same.proofs.segment_same.Statement.{statement}
 use Rattle.same.proofs.segment_same.Tie as tie
 
-checkpoint-at-requires : tie.Need-checkpoint-at-requires
-checkpoint-at-requires c κs = search needs
+active-at-requires : tie.Need-active-at-requires
+active-at-requires c κs =
+    let s = c .before .before in
+    omega (arith, room (s .args .layout) (s .args .a .now) (s .args .main) (s .pre .0))
 
-checkpoint-at-requires-2 : tie.Need-checkpoint-at-requires-2
-checkpoint-at-requires-2 c κs = search needs
-
-returns : tie.Need-returns
-returns c =
-    let y = c .before .before in
-    let x = y .before in
-    let s = x .before .before .before in
-    let p = s .pre in
+checkpoint-located-requires : tie.Need-checkpoint-located-requires
+checkpoint-located-requires c κs =
+    let s = c .before .before .before in
     let a = s .args in
-    both-nowhere (a .layout) (a .a .now) (a .b .now) (a .main) (p .0) (p .1 .0) (p .1 .1) (sym (x .checkpoint-at .ensures) ∙ c .before .if1 .taken) (sym (y .checkpoint-at2 .ensures) ∙ c .if2 .taken)
+    let e = c .active-at .ensures in
+    searched (a .layout) (a .a .now) (a .main) (s .pre .0) (s .pre .1 .1) _ (e .0) (e .2)
+
+active-at-requires-2 : tie.Need-active-at-requires-2
+active-at-requires-2 c κs =
+    let s = c .before .before .before .before in
+    omega (arith, room (s .args .layout) (s .args .b .now) (s .args .main) (s .pre .1 .0))
+
+checkpoint-located-requires-2 : tie.Need-checkpoint-located-requires-2
+checkpoint-located-requires-2 c κs =
+    let s = c .before .before .before .before .before in
+    let a = s .args in
+    let e = c .active-at2 .ensures in
+    searched (a .layout) (a .b .now) (a .main) (s .pre .1 .0) (s .pre .1 .1) _ (e .0) (e .2)
+
+enum-told : tie.Need-enum-told
+enum-told c = search needs
+
+enum-told-2 : tie.Need-enum-told-2
+enum-told-2 c = search needs
+
+enum-known-y : tie.Need-enum-known-y
+enum-known-y c = search needs
 
 segment-is-zero-requires : tie.Need-segment-is-zero-requires
 segment-is-zero-requires c κs =
-    let y = c .before .before in
-    let s = y .before .before .before .before in
-    let p = s .pre in
-    let r = room (s .args .layout) (s .args .b .now) (p .1 .0) in
-    (r .blocks, omega (arith, y .checkpoint-at2 .ensures, stands-inside (s .args .layout) (s .args .b .now) (s .args .main) (p .1 .0) (p .1 .1)))
-
-returns-2 : tie.Need-returns-2
-returns-2 c =
-    let y = c .before .before .before in
-    let x = y .before in
-    let s = x .before .before .before in
+    let m = c .before .before .before .before .before in
+    let v = m .before in
+    let k = v .before in
+    let u = k .before in
+    let s = u .before .before .before in
     let p = s .pre in
     let a = s .args in
-    first-nowhere (a .layout) (a .a .now) (a .b .now) (a .main) (p .0) (p .1 .0) (p .1 .1) _ (y .checkpoint-at2 .ensures) (sym (x .checkpoint-at .ensures) ∙ c .before .before .if1 .taken) (c .before .if2 .left) (c .segment-is-zero .ensures)
+    let y = stands (a .layout) (a .b .now) (a .main) (c .before .y .given .1) (m .checkpoint-located2 .ensures) (v .active-at2 .ensures .0) in
+    (room (a .layout) (a .b .now) (a .main) (p .1 .0) .0 .2 .1, inside-at (a .layout) (a .b .now) (a .main) (p .1 .0) (p .1 .1) _ y)
+
+enum-known-x : tie.Need-enum-known-x
+enum-known-x c = search needs
+
+enum-told-3 : tie.Need-enum-told-3
+enum-told-3 c = search needs
 
 segment-is-zero-requires-2 : tie.Need-segment-is-zero-requires-2
 segment-is-zero-requires-2 c κs =
-    let x = c .before .before .before in
-    let s = x .before .before .before in
-    let p = s .pre in
-    let r = room (s .args .layout) (s .args .a .now) (p .0) in
-    (r .blocks, omega (arith, x .checkpoint-at .ensures, stands-inside (s .args .layout) (s .args .a .now) (s .args .main) (p .0) (p .1 .1)))
-
-returns-3 : tie.Need-returns-3
-returns-3 c =
-    let y = c .before .before .before in
-    let x = y .before in
-    let s = x .before .before .before in
+    let m = c .before .before .before .before .before in
+    let v = m .before in
+    let k = v .before in
+    let u = k .before in
+    let s = u .before .before .before in
     let p = s .pre in
     let a = s .args in
-    second-nowhere (a .layout) (a .a .now) (a .b .now) (a .main) (p .0) (p .1 .0) (p .1 .1) (x .checkpoint-at .ensures) (c .before .before .if1 .left) (sym (y .checkpoint-at2 .ensures) ∙ c .before .if3 .taken) (c .segment-is-zero2 .ensures)
+    let x = stands (a .layout) (a .a .now) (a .main) (c .before .before .before .x .given .1) (k .checkpoint-located .ensures) (u .active-at .ensures .0) in
+    (room (a .layout) (a .a .now) (a .main) (p .0) .0 .2 .1, inside-at (a .layout) (a .a .now) (a .main) (p .0) (p .1 .1) _ x)
+
+enum-known-y-2 : tie.Need-enum-known-y-2
+enum-known-y-2 c = search needs
 
 segments-equal-requires : tie.Need-segments-equal-requires
 segments-equal-requires c κs =
-    let y = c .before .before in
-    let x = y .before in
-    let s = x .before .before .before in
+    let m = c .before .before .before .before .before .before in
+    let v = m .before in
+    let k = v .before in
+    let u = k .before in
+    let s = u .before .before .before in
     let p = s .pre in
-    let r = room (s .args .layout) (s .args .a .now) (p .0) in (
-      r .blocks,
-      (
-        omega (arith, x .checkpoint-at .ensures, stands-inside (s .args .layout) (s .args .a .now) (s .args .main) (p .0) (p .1 .1)),
-        omega (arith, y .checkpoint-at2 .ensures, stands-inside (s .args .layout) (s .args .b .now) (s .args .main) (p .1 .0) (p .1 .1)),
-      ),
+    let a = s .args in
+    let x = stands (a .layout) (a .a .now) (a .main) (c .before .before .before .before .x .given .1) (k .checkpoint-located .ensures) (u .active-at .ensures .0) in
+    let y = stands (a .layout) (a .b .now) (a .main) (c .before .y2 .given .1) (m .checkpoint-located2 .ensures) (v .active-at2 .ensures .0) in (
+      room (a .layout) (a .a .now) (a .main) (p .0) .0 .2 .1,
+      (inside-at (a .layout) (a .a .now) (a .main) (p .0) (p .1 .1) _ x, inside-at (a .layout) (a .b .now) (a .main) (p .1 .0) (p .1 .1) _ y),
     )
+
+returns : tie.Need-returns
+returns c =
+    let m = c .before .before .before .before in
+    let v = m .before in
+    let k = v .before in
+    let u = k .before in
+    let s = u .before .before .before in
+    let a = s .args in
+    let x = stands (a .layout) (a .a .now) (a .main) (c .before .before .enum-told .given .1) (k .checkpoint-located .ensures) (u .active-at .ensures .0) in
+    let y = stands (a .layout) (a .b .now) (a .main) (c .enum-told2 .given .1) (m .checkpoint-located2 .ensures) (v .active-at2 .ensures .0) in
+    both-nowhere (a .layout) (a .a .now) (a .b .now) (a .main) x y
+
+returns-2 : tie.Need-returns-2
+returns-2 c =
+    let m = c .before .before .before .before .before .before in
+    let v = m .before in
+    let k = v .before in
+    let u = k .before in
+    let s = u .before .before .before in
+    let a = s .args in
+    let x = stands (a .layout) (a .a .now) (a .main) (c .before .before .before .before .enum-told .given .1) (k .checkpoint-located .ensures) (u .active-at .ensures .0) in
+    let y = stands (a .layout) (a .b .now) (a .main) (c .before .before .y .given .1) (m .checkpoint-located2 .ensures) (v .active-at2 .ensures .0) in
+    first-nowhere (a .layout) (a .a .now) (a .b .now) (a .main) _ x y (c .segment-is-zero .ensures)
+
+returns-3 : tie.Need-returns-3
+returns-3 c =
+    let m = c .before .before .before .before .before .before in
+    let v = m .before in
+    let k = v .before in
+    let u = k .before in
+    let s = u .before .before .before in
+    let a = s .args in
+    let x = stands (a .layout) (a .a .now) (a .main) (c .before .before .before .before .x .given .1) (k .checkpoint-located .ensures) (u .active-at .ensures .0) in
+    let y = stands (a .layout) (a .b .now) (a .main) (c .before .enum-told3 .given .1) (m .checkpoint-located2 .ensures) (v .active-at2 .ensures .0) in
+    second-nowhere (a .layout) (a .a .now) (a .b .now) (a .main) _ x y (c .segment-is-zero2 .ensures)
 
 returns-4 : tie.Need-returns-4
 returns-4 c =
-    let y = c .before .before .before in
-    let x = y .before in
-    let s = x .before .before .before in
-    let p = s .pre in
+    let m = c .before .before .before .before .before .before .before in
+    let v = m .before in
+    let k = v .before in
+    let u = k .before in
+    let s = u .before .before .before in
     let a = s .args in
-    none-nowhere (a .layout) (a .a .now) (a .b .now) (a .main) (p .0) (p .1 .0) (p .1 .1) (x .checkpoint-at .ensures) (y .checkpoint-at2 .ensures) (c .before .before .if1 .left) (c .before .if3 .left) (c .segments-equal .ensures)
+    let x = stands (a .layout) (a .a .now) (a .main) (c .before .before .before .before .before .x .given .1) (k .checkpoint-located .ensures) (u .active-at .ensures .0) in
+    let y = stands (a .layout) (a .b .now) (a .main) (c .before .before .y2 .given .1) (m .checkpoint-located2 .ensures) (v .active-at2 .ensures .0) in
+    none-nowhere (a .layout) (a .a .now) (a .b .now) (a .main) _ _ x y (c .segments-equal .ensures)
 
 pub segment-same-spec : {M : Type 1} → statement M
 segment-same-spec =
     tie.close
     (tie.spec
-    checkpoint-at-requires
-    checkpoint-at-requires-2
-    returns
+    active-at-requires
+    checkpoint-located-requires
+    active-at-requires-2
+    checkpoint-located-requires-2
+    enum-told
+    enum-told-2
+    enum-known-y
     segment-is-zero-requires
-    returns-2
+    enum-known-x
+    enum-told-3
     segment-is-zero-requires-2
-    returns-3
+    enum-known-y-2
     segments-equal-requires
+    returns
+    returns-2
+    returns-3
     returns-4)
