@@ -6,6 +6,7 @@ use mathlib.Core.Logic.{⊎-elim}
 use mathlib.Core.Bool.{false≢true}
 use mathlib.Core.List.{_++_}
 use native.Mathlib.Omega.{arith}
+use lib.Dec.{lit<}
 use lib.ListN.{getD}
 use Rattle.model.specs.Words.{Image}
 use Rattle.model.specs.Ops.{Ops}
@@ -33,7 +34,7 @@ played = before ++ calledOps (cleared .device) (write 0 8 aWord) 2
 wrong : CalledShowsOther (λ H. openedImage l111 H room) cleared (write 0 8 aWord) 2
 unfolding model-rules same small
 wrong = record {
-  permitted = (small-bytes aWord refl, λ served needs. absurd (false≢true needs));
+  permitted = ((small-bytes aWord refl, λ served needs. absurd (false≢true needs)), lit< tt);
   left = image 1 2 2 new;
   crash = subst (λ (H : Image). CrashImage (image 0 1 0 old) played H) (same-equal _ _ refl) (newest (image 0 1 0 old) played);
   accepted = refl;

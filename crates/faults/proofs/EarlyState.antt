@@ -136,7 +136,7 @@ left-behind =
 unseen : ShowsBackup (saved (image 1 2 1 new) marked)
 unfolding model-rules small
 unseen = record {
-  permitted = (small-bytes aWord refl, λ served needs. absurd (false≢true needs));
+  permitted = ((small-bytes aWord refl, λ served needs. absurd (false≢true needs)), lit< tt);
   left = image 1 2 2 new;
   crash = left-behind;
   accepted = refl;

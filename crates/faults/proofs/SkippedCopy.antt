@@ -5,6 +5,7 @@ use mathlib.Core.Logic.{inl, ⊎-elim}
 use mathlib.Core.Bool.{false≢true}
 use mathlib.Core.List.{_∷_}
 use native.Mathlib.Omega.{arith}
+use lib.Dec.{lit<}
 use lib.ListN.{getD, replicate}
 use Rattle.model.specs.Words.{Image}
 use Rattle.model.specs.Layout.{unpaired}
@@ -45,7 +46,7 @@ shown = only-block (record { status = refl; working = refl; checkpoint = inl ref
 wrong : SkippedCopy stale
 unfolding model-rules small
 wrong = record {
-  permitted = (small-bytes aWord refl, λ served needs. absurd (false≢true needs));
+  permitted = ((small-bytes aWord refl, λ served needs. absurd (false≢true needs)), lit< tt);
   left = left;
   crash = newest (one 0) (calledOps (stale .device) (write 0 0 aWord) 2);
   accepted = refl;

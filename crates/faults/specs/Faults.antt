@@ -25,7 +25,7 @@ use Rattle.model.specs.Write.{WriteArgs, needsCopy, copyPlan, copies, noneFree,
 use Rattle.model.specs.Crash.{CrashImage}
 use Rattle.model.specs.Reference.{Page}
 use Rattle.model.specs.History.{Call, Device, State, calledOps, start, run, openedImage, Permitted, AllPermitted}
-use Rattle.model.specs.CrashSafety.{Reads, during, MayShow}
+use Rattle.model.specs.CrashSafety.{Reads, during, PermittedAt, MayShow}
 use Rattle.cases.specs.Table.{sizes, l211, room, writes, write, checkpoint, aWord}
 
 -- ---- how demand 3 fails
@@ -40,7 +40,7 @@ pub record Refuses (d : Device) (O : Ops) : Type 0 where
 -- a crash after O, the first p operations of the call c made in state s, may leave an image that opening accepts and
 -- `recover` takes to one whose reads show a page, and it is none of those that demand 3 permits
 pub record ShowsOther (recover : Image → Image) (s : State) (c : Call) (p : ℕ) (O : Ops) : Type 0 where
-  pub permitted : Permitted (s .device) c
+  pub permitted : PermittedAt (s .device) (during c p)
   pub left : Image
   pub crash : CrashImage (s .device .durable) (s .device .played ++ O) left
   pub accepted : openStatus (s .device .layout) left room ≡ 0
