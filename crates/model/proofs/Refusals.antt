@@ -36,11 +36,6 @@ abbrev pub Numbered : Errors → Type 0
 Numbered [] = Unit {0}
 Numbered (e ∷ es) = (0 < e .0) × Numbered es
 
--- n is none of the numbers
-abbrev pub Without : ℕ → Errors → Type 0
-Without n [] = Unit {0}
-Without n (e ∷ es) = (e .0 ≢ n) × Without n es
-
 -- n stands in the list with a condition that holds, and no condition before it holds
 abbrev pub First : ℕ → Errors → Type 0
 First n es = (A : Errors) × (B : Errors) × (es ≡ A ++ (n, true) ∷ B) × NoneHolds A
@@ -118,16 +113,13 @@ before-refused (e ∷ es) fs h = go (e .1) h (before-refused es fs)
     go true h ih = refl
     go false h ih = ih h
 
--- a list is served exactly if both parts are
+-- where a list is served, both parts are
 pub served-parts : (es fs : Errors) → Numbered es → firstError (es ++ fs) ≡ 0 → (firstError es ≡ 0) × (firstError fs ≡ 0)
 served-parts es fs k h =
     elim (ℕ-discrete (firstError es) 0) [
       | yes z ↦ (z, sym (after-served es fs k z) ∙ h)
       | no n ↦ absurd (n (sym (before-refused es fs n) ∙ h))
     ]
-
-pub served-append : (es fs : Errors) → Numbered es → firstError (es ++ fs) ≡ 0 → NoneHolds es × (firstError fs ≡ 0)
-served-append es fs k h = let s = served-parts es fs k h in (served-none es k (s .0), s .1)
 
 -- a number n that the code found for the first part: refused, it is the number of the whole list; served, that is the second
 -- part's
@@ -136,17 +128,6 @@ stage-refused n es fs e r = e ∙ sym (before-refused es fs (λ z. eqb-false n 0
 
 pub stage-passed : (n : ℕ) (es fs : Errors) → Numbered es → n ≡ firstError es → served n ≡ true → firstError (es ++ fs) ≡ firstError fs
 stage-passed n es fs k e r = after-served es fs k (sym e ∙ eqb-true n 0 r)
-
--- a number that the first part does not have is given by the second, and no condition of the first holds
-pub given-after : (n : ℕ) (es fs : Errors) → Without n es → firstError (es ++ fs) ≡ n → NoneHolds es × (firstError fs ≡ n)
-unfolding firstError
-given-after n [] fs k h = (tt, h)
-given-after n (e ∷ es) fs k h = go (e .1) h (given-after n es fs (k .1))
-  where
-    go : (b : Bool) → cond b (e .0) (firstError (es ++ fs)) ≡ n → (firstError (es ++ fs) ≡ n → NoneHolds es × (firstError fs ≡ n))
-        → ((b ≡ false) × NoneHolds es) × (firstError fs ≡ n)
-    go true h ih = absurd (k .0 h)
-    go false h ih = let r = ih h in ((refl, r .0), r .1)
 
 -- ---- which number is given
 
