@@ -26,13 +26,13 @@ use Rattle.model.specs.Container.{committedEpoch, activeState, activeLin
 use Rattle.model.specs.Session.{isDirty, dirtySegment, dirtyWord, zeroSession, withDirty, validSession}
 use Rattle.model.specs.Ops.{store, clwb, sfence, Ops, Trace, traceShort, traceErrors, stores, clwbs, putBlock, persistCopy, copySegment, wordPlace}
 use Rattle.model.specs.Open.{recoveryAction, actionOps, recoverSegment, recoveryOps, openStatus, openOutcome}
-use Rattle.model.specs.Write.{WriteArgs, needsCopy, needsBackup, copyPlan, copies, noneFree, pairOps, copyDirty, backupOps, stateOps, copyOnWriteOps, spanAt, spanBlocks, spanOps, writeOps, writeSession, writeStatus, writeOutcome, Chosen}
+use Rattle.model.specs.Write.{WriteArgs, needsCopy, needsBackup, copyPlan, copies, noneFree, pairOps, copyDirty, backupOps, stateOps, copyOnWriteOps, spanAt, spanBlocks, spanOps, writeOps, writeSession, writeErrors, writeStatus, writeOutcome, Chosen}
 use Rattle.model.specs.Checkpoint.{flushDirty, nextState, nextStates, statesOps, epochOps, checkpointOps, checkpointStatus, checkpointOutcome}
-use Rattle.model.specs.Reads.{readStatus, Part, partOf, nowhere, blockPart, locatedPart, workingPart, checkpointPart, workingBlock, checkpointBlock}
+use Rattle.model.specs.Reads.{readErrors, readStatus, Part, partOf, nowhere, blockPart, locatedPart, workingPart, checkpointPart, workingBlock, checkpointBlock}
 use Rattle.model.specs.Same.{sameBytes, sameCheckpoint, sameOutcome}
 use Rattle.model.proofs.Range.{cat-ext}
 use Rattle.model.proofs.WordLaws.{word-cong, overlay-cong}
-use Rattle.model.proofs.Refusals.{served-cons}
+use Rattle.model.proofs.Refusals.{served-condition}
 use Rattle.model.proofs.Metadata.{ContainerOk, sizes-ok, valid-means, container-then}
 use Rattle.model.proofs.Places.{state-line-is, state-line-low, state-line-high, state-line-whole, state-line-next}
 use Rattle.model.proofs.Counts.{write-status-chosen}
@@ -302,7 +302,7 @@ module _ {I J : Image} (same : AgreeNamed I J) where
       ok z = container-then (s .layout) I _ z .0
 
       below : writeStatus s I w j t ≡ 0 → w .main < s .layout .mains
-      below z = leb-false _ _ (served-cons 5 _ _ (served-cons 4 _ _ (container-then (s .layout) I _ z .1) .1) .0)
+      below z = leb-false _ _ (served-condition (writeErrors s I w j t) (omega arith) z 6)
 
   -- ---- checkpoint
 
@@ -360,8 +360,8 @@ module _ {I J : Image} (same : AgreeNamed I J) where
   pub checkpoint-part-unread : (l : Layout) (i b : ℕ) → checkpointPart l I i b ≡ checkpointPart l J i b
   unfolding checkpointPart readStatus
   checkpoint-part-unread l i b = cond-cong _ _ (ap served (read-status-unread l i b))
-      (λ z. let c = container-then l I _ (eqb-true _ 0 z) in
-      ap (λ (x : Located). locatedPart x b) (located-same l i (c .0 .sizes) (leb-false _ _ (served-cons 5 _ _ (c .1) .0))))
+      (λ z. let e = eqb-true _ 0 z in
+      ap (λ (x : Located). locatedPart x b) (located-same l i (container-then l I _ e .0 .sizes) (leb-false _ _ (served-condition (readErrors l I i b) (omega arith) e 6))))
       (λ z. refl)
 
   block-same : (at b : ℕ) → metadataSize ≤ at → partOf I (blockPart at b) ≡ partOf J (blockPart at b)

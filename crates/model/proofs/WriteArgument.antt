@@ -17,15 +17,15 @@ use Rattle.model.specs.Layout.{segmentSize, mainAt}
 use Rattle.model.specs.Container.{activeState, backupToMain, isPaired, pairedBackup, Free}
 use Rattle.model.specs.Session.{dirtyWord, dirtySegment, dirtyBlock, setBits, withDirty}
 use Rattle.model.specs.Ops.{sfence, Ops, Trace, replay}
-use Rattle.model.specs.Write.{WriteArgs, needsCopy, needsBackup, copyPlan, copies, backupOps, copyOnWriteOps, spanAt, spanBlocks, spanOps, writeOps, writeSession, writeStatus}
+use Rattle.model.specs.Write.{WriteArgs, needsCopy, needsBackup, copyPlan, copies, backupOps, copyOnWriteOps, spanAt, spanBlocks, spanOps, writeOps, writeSession, writeErrors, writeStatus}
 use Rattle.model.specs.Crash.{CrashImage}
 use Rattle.model.proofs.Range.{and-left, and-right, both}
 use Rattle.model.proofs.Persist.{Misses, Clear, each-append}
 use Rattle.model.proofs.Phases.{statePhase, copy-phases}
 use Rattle.model.proofs.Settled.{crash-seq}
 use Rattle.model.proofs.Runs.{puts-clear}
-use Rattle.model.proofs.Refusals.{served-none}
-use Rattle.model.proofs.Metadata.{paired-at, unpaired-none, any-free, container-then}
+use Rattle.model.proofs.Refusals.{served-condition}
+use Rattle.model.proofs.Metadata.{paired-at, unpaired-none, any-free}
 use Rattle.model.proofs.View.{Contents, Choice, Recoverable}
 use Rattle.model.proofs.Invariant.{Invariant}
 use Rattle.model.proofs.SpanArgument.{marked, span-crash, span-done, SpanOk, span-within, span-inside, spanFirst, spanWide, span-bounds, span-puts, laid-outside}
@@ -62,8 +62,8 @@ copied-session s i b c h = rw (getD-set-same (s .«dirty_blocks») i 0 0 h, set-
 pub span-ok : (s : Session) (I : Image) (w : WriteArgs) (j : ℕ) (t : Trace) → Bytes (w .bytes) → writeStatus s I w j t ≡ 0 → SpanOk (s .layout) w
 unfolding writeStatus
 span-ok s I w j t small h =
-    let r = served-none _ (omega arith) (container-then (s .layout) I _ h .1) in
-    span-within (s .layout) w (leb-false _ _ (r .1 .0)) (leb-false _ _ (r .1 .1 .0)) (r .1 .1 .1 .0) small
+    let r = served-condition (writeErrors s I w j t) (omega arith) h in
+    span-within (s .layout) w (leb-false _ _ (r 6)) (leb-false _ _ (r 7)) (r 8) small
 
 module _ (O : Ops) (I₀ : Image) (s : Session) (P W : Contents) (held : Bytes I₀) (inv : Invariant (s .layout) O (replay O I₀) s P W)
     (w : WriteArgs) (ok : SpanOk (s .layout) w) (len : length (s .«dirty_blocks») ≡ 64) where
