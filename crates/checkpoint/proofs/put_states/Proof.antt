@@ -1,33 +1,31 @@
-use Prim.Native.Nat.{ℕ, _+_, _-_, _*_, _≤_}
-use mathlib.Core.Path.{_≡_, sym}
-use native.Mathlib.Omega.{arith}
-use lib.Dec.{eqb}
-use lib.ListN.{length}
-use borrow.Author.Needs.{needs}
-use Rattle.model.specs.Words.{Image, byteAt, wordOf}
-use Rattle.model.specs.Session.{bit}
-use Rattle.model.specs.Ops.{stores}
-use Rattle.model.specs.Checkpoint.{nextState}
-use Rattle.model.proofs.Counts.{length-stores}
-use Rattle.trace.specs.Emit.{emit}
-use Rattle.trace.proofs.EmitLaws.{emitted-none, emitted-more, emitted-then}
-use Rattle.trace.proofs.CallLaws.{emitted-as}
 use Rattle.checkpoint.proofs.Laws.{states-written}
+use Rattle.trace.proofs.EmitLaws.{fits-as, fits-first, fits-then, fits-each, emitted-as, emitted-none, emitted-each, emitted-then}
+use Rattle.trace.specs.Emit.{Emitted}
+use Rattle.model.specs.Checkpoint.{nextStates}
+use Rattle.model.specs.Ops.{stores}
+use Rattle.model.specs.Container.{segState}
+use Rattle.model.specs.Layout.{wordSize, lineWords}
+use Rattle.model.specs.Words.{Image, wordOf}
+use lib.ListN.{length}
+use native.Mathlib.Omega.{arith}
+use mathlib.Core.Path.{_≡_, sym}
+use Prim.Native.Nat.{ℕ, _-_, _*_, _≤_}
+use borrow.Author.Needs.{needs}
 use Rattle.checkpoint.proofs.put_states.Statement.{statement}
 use Rattle.checkpoint.proofs.put_states.Tie as tie
 
 -- word k of the next states
 abbrev nextWord : Image → ℕ → ℕ → ℕ → ℕ
-nextWord image from segments k = wordOf (λ i. nextState (byteAt image (from + i)) (eqb (bit segments i) 1)) (8 * k)
+nextWord image from segments k = wordOf (nextStates segments (segState image from)) (wordSize * k)
 
 abbrev Inv-loop : tie.InvT-loop
-Inv-loop image trace₀ n segments from to k₀ trace k =
-    (k ≤ 8)
+Inv-loop image segments trace₀ n from to next₀ k₀ trace next k =
+    (k ≤ lineWords)
     × (length trace ≡ length trace₀)
-    × (trace ≡ emit trace₀ n (stores k to (nextWord image from segments)))
+    × Emitted trace₀ n (stores k to (nextWord image from segments)) trace next
 
 abbrev μ-loop : tie.MeasureT-loop
-μ-loop image trace₀ n segments from to k₀ trace k = 8 - k
+μ-loop image segments trace₀ n from to next₀ k₀ trace next k = lineWords - k
 
 active-at-requires : tie.Need-active-at-requires Inv-loop μ-loop
 active-at-requires c κs = search needs
@@ -37,22 +35,26 @@ inactive-at-requires c κs = search needs
 
 loop-holds : tie.Need-loop-holds Inv-loop μ-loop
 unfolding stores
-loop-holds c = (search needs, search needs, emitted-none _ _ _)
+loop-holds c = (search needs, search needs, emitted-none _)
 
 next-word-requires : tie.Need-next-word-requires Inv-loop μ-loop
 next-word-requires c κs = search needs
 
-add-put-store : tie.Need-add-put-store Inv-loop μ-loop
-add-put-store c = search needs
-
 mul-put-store : tie.Need-mul-put-store Inv-loop μ-loop
 mul-put-store c = search needs
 
-add-put-store-2 : tie.Need-add-put-store-2 Inv-loop μ-loop
-add-put-store-2 c = search needs
+add-put-store : tie.Need-add-put-store Inv-loop μ-loop
+add-put-store c = search needs
 
 put-store-requires : tie.Need-put-store-requires Inv-loop μ-loop
-put-store-requires c κs = search needs
+unfolding stores
+put-store-requires c κs =
+    let l = c .before .before .before in
+    let i = l .before .inactive-at in
+    let a = l .before .before .active-at in
+    let g = l .before .before .before .before .before in
+    let f = fits-as (sym (states-written (g .args .image .now) (g .args .segments) (a .result) (i .result) (a .ensures .0) (i .ensures .0))) (g .pre .1) in
+    rw (c .before .next-word .ensures) (fits-each (l .loop .k) lineWords _ (omega arith) (fits-first _ f) (l .loop .inv .2))
 
 add-k : tie.Need-add-k Inv-loop μ-loop
 add-k c = search needs
@@ -63,36 +65,30 @@ loop-less c = search needs
 loop-again : tie.Need-loop-again Inv-loop μ-loop
 unfolding stores
 loop-again c =
-    let b = c .before .before .before .before .before .before in
-    let i = b .before .inactive-at .result in
-    let a = b .before .before .active-at .result in
-    let g = b .before .before .before .before .before .args in (
-      search needs,
-      search needs,
-      emitted-more _ _ _ _ _ _ _ (b .loop .inv .2) (rw (c .before .before .before .before .next-word .ensures) at (c .before .before .put-store .ensures))
-          (omega (arith, length-stores (b .loop .k) i (nextWord (g .image .now) a (g .session .«dirty_segments»)))),
-    )
-
-add-put-clwb : tie.Need-add-put-clwb Inv-loop μ-loop
-add-put-clwb c = search needs
+    let l = c .before .before .before .before .before .before .loop in
+    (search needs, search needs, emitted-each (l .k) _ (l .inv .2) (rw (c .before .before .before .before .next-word .ensures) at (c .before .before .put-store .ensures)))
 
 put-clwb-requires : tie.Need-put-clwb-requires Inv-loop μ-loop
-put-clwb-requires c κs = search needs
+put-clwb-requires c κs =
+    let l = c .before .before in
+    let i = l .before .inactive-at in
+    let a = l .before .before .active-at in
+    let g = l .before .before .before .before .before in
+    let e : l .loop .k ≡ lineWords = omega arith in
+    fits-then (fits-as (sym (states-written (g .args .image .now) (g .args .segments) (a .result) (i .result) (a .ensures .0) (i .ensures .0))) (g .pre .1)) (rw e at (l .loop .inv .2))
 
 same-length : tie.Need-same-length Inv-loop μ-loop
 same-length c = search needs
 
 returns : tie.Need-returns Inv-loop μ-loop
 returns c =
-    let b = c .before .before .before .before .before in
-    let i = b .before .inactive-at in
-    let a = b .before .before .active-at in
-    let g = b .before .before .before .before .before .args in
-    let w = nextWord (g .image .now) (a .result) (g .session .«dirty_segments») in
-    let e : b .loop .k ≡ 8 = omega arith in
-    emitted-as _ _ _ _ _
-    (emitted-then _ _ _ _ _ _ (g .n + 8) (rw e at (b .loop .inv .2)) (c .before .before .put-clwb .ensures) (omega (arith, length-stores 8 (i .result) w)))
-    (sym (states-written (g .session) (g .image .now) (a .result) (i .result) (a .ensures .0) (i .ensures .0)))
+    let l = c .before .before .before .before .before in
+    let i = l .before .inactive-at in
+    let a = l .before .before .active-at in
+    let g = l .before .before .before .before .before .args in
+    let e : l .loop .k ≡ lineWords = omega arith in
+    emitted-as (emitted-then (rw e at (l .loop .inv .2)) (c .before .before .put-clwb .ensures))
+    (states-written (g .image .now) (g .segments) (a .result) (i .result) (a .ensures .0) (i .ensures .0))
 
 pub put-states-spec : {M : Type 1} → statement M
 put-states-spec =
@@ -104,14 +100,12 @@ put-states-spec =
     inactive-at-requires
     loop-holds
     next-word-requires
-    add-put-store
     mul-put-store
-    add-put-store-2
+    add-put-store
     put-store-requires
     add-k
     loop-less
     loop-again
-    add-put-clwb
     put-clwb-requires
     same-length
     returns)
