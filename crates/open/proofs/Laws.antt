@@ -1,132 +1,117 @@
--- Laws of an opening: the table of actions, what an action writes about a segment, and its refusals by the tests that the
--- code makes.
+-- Laws of an opening: the table of actions, which backup segment an action takes, the number of operations, and the refusals
+-- by the tests that the code makes.
 use Prim.Native.Nat.{ℕ, zero, suc, _+_, _*_, _≤_, _<_}
-use mathlib.Core.Path.{_≡_, refl, sym, ap, ap₂, _∙_}
-use mathlib.Core.Logic.{_≢_}
-use mathlib.Core.Bool.{Bool, true, false}
-use mathlib.Core.List.{List, [], _∷_}
+use mathlib.Core.Path.{_≡_, refl, sym, ap, subst, _∙_}
+use mathlib.Core.Bool.{Bool, true, false, not}
+use mathlib.Core.List.{List, [], _∷_, _++_}
 use native.Mathlib.Omega.{arith}
 use native.Mathlib.Nat.{mul-le-mul}
-use lib.ListN.{length, getD, length-append}
-use borrow.Author.Tests.{ltb-false}
+use lib.Dec.{ltb}
+use lib.ListN.{length, getD}
+use borrow.Author.Tests.{lt-ltb, le-ltb, not-false}
 use Rattle.model.specs.declared.Layout.{Layout}
 use Rattle.model.specs.declared.Action.{Action}
+use Rattle.model.specs.declared.Answer.{Answer}
 use Rattle.model.specs.declared.Action.the-variants.{Nothing, ZeroMain, CopyToBackup, CopyToMain}
-use Rattle.model.specs.Range.{cat, sumTo}
-use Rattle.model.specs.Words.{Image, byteAt}
-use Rattle.model.specs.Layout.{imageSize, mainAt, backupAt}
-use Rattle.model.specs.Status.{firstError}
-use Rattle.model.specs.Container.{activeLine, activeState, backupToMain, isPaired, pairedBackup, byState, containerErrors}
-use Rattle.model.specs.Ops.{sfence, Trace, traceShort}
-use Rattle.model.specs.Open.{recoveryAction, copySegment, zeroSegment, actionOps, recoverSegment, recoveryOps, openErrors, openStatus}
-use Rattle.model.proofs.Refusals.{before-refused, served-cons}
-use Rattle.model.proofs.Metadata.{container-ok, container-passes, container-then}
-use Rattle.model.specs.Counts.{acts, treated}
-use Rattle.model.proofs.Counts.{sum-ext}
-use Rattle.trace.proofs.CallLaws.{code-within}
+use Rattle.model.specs.Words.{Image}
+use Rattle.model.specs.Layout.{most, SizesOk, imageSize}
+use Rattle.model.specs.Status.{firstError, served}
+use Rattle.model.specs.Container.{activeLine, segState, backupToMain, isPaired, validMetadata, pairedBackup, byState, layoutErrors}
+use Rattle.model.specs.Ops.{Trace, traceShort}
+use Rattle.model.specs.Open.{recoveryAction, recoveryOps, openStatus, openOutcome}
+use Rattle.model.specs.Session.{freshSession, zeroSession}
+use Rattle.model.specs.Outcome.{Outcome, outcomeOf, Gives}
+use Rattle.model.proofs.Metadata.{paired-at, valid-means}
+use Rattle.model.proofs.Refusals.{first-holds, first-fails, first-of-none, stage-refused, stage-passed}
+use Rattle.metadata.specs.declared.Examined.{Examined}
+use Rattle.metadata.specs.Scan.{ExaminedBy}
+use Rattle.metadata.proofs.Laws.{is-paired, found-backup}
+use Rattle.open.specs.Recovery.{Recovers, takesBackup, BackupsOf, recoveryErrors, recoveryOutcome}
 
 -- ---- the table
 
-abbrev pub table : List Action
-table = ZeroMain ∷ Nothing ∷ Nothing ∷ CopyToBackup ∷ Nothing ∷ CopyToMain ∷ []
+abbrev pub table : List (List Action)
+table = (ZeroMain ∷ Nothing ∷ []) ∷ (Nothing ∷ CopyToBackup ∷ []) ∷ (Nothing ∷ CopyToMain ∷ []) ∷ []
 
-pub paired-row : (st : ℕ) → st ≤ 2 → getD table (2 * st + 1) Nothing ≡ recoveryAction st true
+pub paired-cell : (st : ℕ) → st ≤ 2 → getD (getD table st []) 1 Nothing ≡ recoveryAction st true
 unfolding recoveryAction byState
-paired-row zero h = refl
-paired-row (suc zero) h = refl
-paired-row (suc (suc zero)) h = refl
-paired-row (suc (suc (suc st))) h = let z : ⊥ = omega arith in absurd z
+paired-cell zero h = refl
+paired-cell (suc zero) h = refl
+paired-cell (suc (suc zero)) h = refl
+paired-cell (suc (suc (suc st))) h = let z : ⊥ = omega arith in absurd z
 
-pub unpaired-row : (st : ℕ) → st ≤ 2 → getD table (2 * st) Nothing ≡ recoveryAction st false
+pub unpaired-cell : (st : ℕ) → st ≤ 2 → getD (getD table st []) 0 Nothing ≡ recoveryAction st false
 unfolding recoveryAction byState
-unpaired-row zero h = refl
-unpaired-row (suc zero) h = refl
-unpaired-row (suc (suc zero)) h = refl
-unpaired-row (suc (suc (suc st))) h = let z : ⊥ = omega arith in absurd z
-
--- an action that copies
-abbrev pub copies : Action → Bool
-copies Nothing = false
-copies ZeroMain = false
-copies CopyToBackup = true
-copies CopyToMain = true
-
-copies-paired : (st : ℕ) (paired : Bool) → copies (recoveryAction st paired) ≡ true → paired ≡ true
-unfolding recoveryAction byState
-copies-paired st true h = refl
-copies-paired zero false h = h
-copies-paired (suc zero) false h = h
-copies-paired (suc (suc st)) false h = h
+unpaired-cell zero h = refl
+unpaired-cell (suc zero) h = refl
+unpaired-cell (suc (suc zero)) h = refl
+unpaired-cell (suc (suc (suc st))) h = let z : ⊥ = omega arith in absurd z
 
 -- ---- one segment
 
-module _ (l : Layout) (I : Image) (i st : ℕ) (paired : Bool) (a : Action) (e : a ≡ recoveryAction st paired) (p : st ≡ activeState I i)
-    (q : paired ≡ isPaired l (backupToMain I) i) where
-  segment-by : recoverSegment l I (activeLine I) i ≡ actionOps l I i (pairedBackup l (backupToMain I) i) a
-  unfolding recoverSegment
-  segment-by = sym (ap (actionOps l I i (pairedBackup l (backupToMain I) i)) (e ∙ ap₂ recoveryAction p q))
+-- what the pass over the pairs found shows whether a main segment is paired
+pub shows-paired : (l : Layout) (I : Image) (found : List ℕ) (i : ℕ) → BackupsOf l I found → i < l .mains → ltb (getD found i 0) (l .backups) ≡ isPaired l (backupToMain I) i
+shows-paired l I found i h b = ap (λ (n : ℕ). ltb n (l .backups)) (h i b) ∙ sym (is-paired l (backupToMain I) i)
 
-  pub recovers-nothing : a ≡ Nothing → recoverSegment l I (activeLine I) i ≡ []
-  unfolding actionOps
-  recovers-nothing k = segment-by ∙ ap (actionOps l I i (pairedBackup l (backupToMain I) i)) k
+takes-paired : (st : ℕ) (paired : Bool) → takesBackup (recoveryAction st paired) ≡ true → paired ≡ true
+unfolding recoveryAction byState
+takes-paired st true h = refl
+takes-paired zero false h = h
+takes-paired (suc zero) false h = h
+takes-paired (suc (suc st)) false h = h
 
-  pub recovers-zeros : a ≡ ZeroMain → recoverSegment l I (activeLine I) i ≡ zeroSegment l (mainAt l i)
-  unfolding actionOps
-  recovers-zeros k = segment-by ∙ ap (actionOps l I i (pairedBackup l (backupToMain I) i)) k
+-- an action that takes the backup segment of a main segment finds one
+pub takes-there : (l : Layout) (I : Image) (st i : ℕ) (a : Action) → a ≡ recoveryAction st (isPaired l (backupToMain I) i) → takesBackup a ≡ true
+    → pairedBackup l (backupToMain I) i < l .backups
+takes-there l I st i a e h = paired-at l (backupToMain I) i (takes-paired st _ (ap takesBackup (sym e) ∙ h)) .0
 
-  pub recovers-backup : a ≡ CopyToBackup → recoverSegment l I (activeLine I) i ≡ copySegment l I (mainAt l i) (backupAt l (pairedBackup l (backupToMain I) i))
-  unfolding actionOps
-  recovers-backup k = segment-by ∙ ap (actionOps l I i (pairedBackup l (backupToMain I) i)) k
-
-  pub recovers-main : a ≡ CopyToMain → recoverSegment l I (activeLine I) i ≡ copySegment l I (backupAt l (pairedBackup l (backupToMain I) i)) (mainAt l i)
-  unfolding actionOps
-  recovers-main k = segment-by ∙ ap (actionOps l I i (pairedBackup l (backupToMain I) i)) k
-
-  -- only a paired segment is copied
-  pub paired-copied : copies a ≡ true → isPaired l (backupToMain I) i ≡ true
-  paired-copied h = sym q ∙ copies-paired st paired (sym (ap copies e) ∙ h)
-
--- ---- all segments, and a fence
-
-pub length-recovered : (l : Layout) (I : Image) (line : ℕ) → length (recoveryOps l I line) ≡ length (cat (l .mains) (recoverSegment l I line)) + 1
-unfolding recoveryOps
-length-recovered l I line = length-append (cat (l .mains) (recoverSegment l I line)) (sfence ∷ [])
-
--- ---- how many segments are treated
+-- ---- the number of operations
 
 pub recovery-bound : (blocks segments : ℕ) → blocks ≤ 64 → segments ≤ 64 → 36 * blocks * segments ≤ 147456
 recovery-bound blocks segments b h = mul-le-mul {n₁ = 36 * blocks} {m₁ = segments} {n₂ = 2304} {m₂ = 64} (omega arith) h
 
--- by the line that the code finds and the marks that it gathers
-pub treated-by : (l : Layout) (I : Image) (line : ℕ) (paired : List Bool) → line ≡ activeLine I
-    → ((i : ℕ) → i < l .mains → getD paired i false ≡ isPaired l (backupToMain I) i)
-    → sumTo (l .mains) (λ (i : ℕ). acts (recoveryAction (byteAt I (line + i)) (getD paired i false))) ≡ treated l I (activeLine I)
-unfolding treated
-treated-by l I line paired e h =
-    sum-ext (l .mains) _ _ (λ i b. ap₂ (λ (st : ℕ) (x : Bool). acts (recoveryAction st x)) (ap (λ (n : ℕ). byteAt I (n + i)) e) (h i b))
+-- ---- what the pass over states and pairs gives
 
--- ---- refusals
+pub recovers-by : (l : Layout) (I : Image) (line : ℕ) (r : Examined) → SizesOk l → length I ≡ imageSize l → line + most ≤ length I
+    → ExaminedBy l (segState I line) (backupToMain I) r → not (r .valid) ≡ false → Recovers l I line × BackupsOf l I (r .backup)
+recovers-by l I line r s e k x h = (
+  record { sizes = s; long = e; inside = k; valid = valid-means l _ _ (sym (x .valid) ∙ not-false _ h) },
+  λ i b. found-backup l (segState I line) (backupToMain I) r x (s .0 .1) i b,
+)
 
-module _ (l : Layout) (I : Image) (t : Trace) where
-  pub refused-early : (code : ℕ) → code ≡ firstError (containerErrors l I) → code ≢ 0 → code ≡ openStatus l I t
+-- ---- refusals and outcome
+
+-- recovery by a line of states, by the test of validity and a number of operations
+module _ (l : Layout) (I : Image) (line : ℕ) (t : Trace) (v : Bool) (e : v ≡ validMetadata l (segState I line) (backupToMain I)) where
+  pub recovery-invalid : not v ≡ true → 4 ≡ firstError (recoveryErrors l I line t)
+  recovery-invalid h = first-holds 4 _ _ (ap not (sym e) ∙ h)
+
+  module _ (h : not v ≡ false) (n : ℕ) (q : n ≡ length (recoveryOps l I line)) where
+    pub recovery-short : length t < 3 * n → 11 ≡ firstError (recoveryErrors l I line t)
+    unfolding traceShort
+    recovery-short k =
+        first-fails 4 _ _ _ (ap not (sym e) ∙ h) (first-holds 11 _ _ (lt-ltb (length t) (3 * length (recoveryOps l I line)) (omega arith)))
+
+    pub recovery-served : 3 * n ≤ length t → 0 ≡ firstError (recoveryErrors l I line t)
+    unfolding traceShort
+    recovery-served k =
+        first-fails 4 _ _ _ (ap not (sym e) ∙ h)
+        (first-fails 11 _ _ _ (le-ltb (length t) (3 * length (recoveryOps l I line)) (omega arith)) first-of-none)
+
+-- an opening, by refusals 1 to 3
+module _ (l : Layout) (I : Image) (t : Trace) (n : ℕ) (e : n ≡ firstError (layoutErrors l I)) where
+  pub open-refused : served n ≡ false → n ≡ openStatus l I t
   unfolding openStatus
-  refused-early code e n = e ∙ sym (before-refused _ _ (λ z. n (e ∙ z)))
+  open-refused h = stage-refused n (layoutErrors l I) (recoveryErrors l I (activeLine I) t) e h
 
-  pub refused-later : (code r : ℕ) → code ≡ firstError (containerErrors l I) → code ≡ 0
-      → r ≡ firstError ((11, traceShort (recoveryOps l I (activeLine I)) t) ∷ []) → r ≡ openStatus l I t
-  unfolding openStatus
-  refused-later code r e z h = h ∙ sym (container-passes l I _ (container-ok l I (sym e ∙ z)))
+  -- where they do not apply, it is recovery by the active line
+  open-recovers : served n ≡ true → openOutcome l I t ≡ recoveryOutcome l I (activeLine I) t
+  unfolding openOutcome recoveryOutcome openStatus
+  open-recovers h =
+      ap (λ (k : ℕ). outcomeOf k zeroSession (freshSession l) (recoveryOps l I (activeLine I)))
+      (stage-passed n (layoutErrors l I) (recoveryErrors l I (activeLine I) t) (omega arith) e h)
 
-  pub status-within : openStatus l I t ≤ 12
-  unfolding openStatus
-  status-within = code-within (openErrors l I t) (omega arith)
-
-  -- what a served opening goes by
-  pub ready : openStatus l I t ≡ 0
-      → ((l .mains ≤ 64) × (l .backups ≤ 64) × (l .blocks ≤ 64) × (length I ≡ imageSize l))
-      × (((i : ℕ) → i < l .mains → activeState I i ≤ 2) × (3 * length (recoveryOps l I (activeLine I)) ≤ length t))
-  unfolding openStatus traceShort
-  ready h =
-      let k = container-then l I _ h in
-      let s = k .0 .sizes in
-      ((s .0 .1, s .1 .1, s .2 .1, k .0 .long), (k .0 .valid .states, ltb-false _ _ (served-cons 10 _ _ (k .1) .0)))
+  pub open-gives : served n ≡ true → (line : ℕ) → line ≡ activeLine I → (a : Answer) (after : Trace) → Gives (recoveryOutcome l I line t) t a after
+      → Gives (openOutcome l I t) t a after
+  open-gives h line p a after g =
+      subst (λ (o : Outcome). Gives o t a after) (ap (λ (k : ℕ). recoveryOutcome l I k t) p ∙ sym (open-recovers h)) g

@@ -1,5 +1,6 @@
 // Opening, which recovers (document 01: opening): each main segment is treated by the table of states and pairs, so that its
-// bytes are the checkpoint again.
+// bytes are the checkpoint again. What recovery does is given a line of states; an opening goes by the active one.
+use metadata::SLOTS;
 use model::Action;
 use model::Answer;
 use model::Layout;
@@ -7,24 +8,25 @@ use model::Session;
 use model::Status;
 ghost use mathlib.Core.Path.{_≡_};
 ghost use mathlib.Core.Bool.{true};
-ghost use Prim.Native.Nat.{ℕ, _+_, _*_, _≤_, _<_};
+ghost use Prim.Native.Nat.{_+_, _^_, _≤_, _<_};
 ghost use lib.ListN.{length};
-ghost use Rattle.model.specs.Layout.{layoutOf, imageSize, mainAt, backupAt};
-ghost use Rattle.model.specs.Container.{activeLine, activeState, backupToMain, isPaired, pairedBackup};
-ghost use Rattle.model.specs.Ops.{Trace, Gives};
-ghost use Rattle.model.specs.Open.{recoveryAction, copySegment, zeroSegment, recoverSegment, recoveryOps, openStatus, openOutcome};
+ghost use Rattle.model.specs.Layout.{layoutOf, most, SizesOk, imageSize};
+ghost use Rattle.model.specs.Container.{segState, backupToMain, isPaired};
+ghost use Rattle.model.specs.Session.{zeroSession};
+ghost use Rattle.model.specs.Outcome.{Gives};
+ghost use Rattle.model.specs.Open.{recoveryAction, actionOps, recoverSegment, recoveryOps, openOutcome};
 ghost use Rattle.model.specs.Counts.{acts, treated};
-ghost use Rattle.trace.specs.Emit.{emit};
+ghost use Rattle.trace.specs.Emit.{Fits, Emitted};
+ghost use Rattle.open.specs.Recovery.{Recovers, BackupsOf, takesBackup, recoveryOutcome};
 
-// What recovery does, by 2 * state + 1 where the main segment is paired and 2 * state where it is not; the two cells that
-// cannot be do nothing.
-const RECOVERY_ACTION: [Action; 6] = [
-    Action::ZeroMain,
-    Action::Nothing,
-    Action::Nothing,
-    Action::CopyToBackup,
-    Action::Nothing,
-    Action::CopyToMain,
+// The operations that copy or zero a block: its words are stored and its lines written back.
+const BLOCK_OPS: u64 = Layout::BLOCK_WORDS + Layout::BLOCK_LINES;
+
+// What recovery does, by the state of a main segment and whether it is paired; the two cells that cannot be do nothing.
+const RECOVERY_ACTION: [[Action; 2]; 3] = [
+    [Action::ZeroMain, Action::Nothing],
+    [Action::Nothing, Action::CopyToBackup],
+    [Action::Nothing, Action::CopyToMain],
 ];
 
 // The action for a state, and whether the main segment is paired.
@@ -32,12 +34,8 @@ pub fn recovery_action(state: u8, paired: bool) -> Action
     requires { ⌜ state ≤ 2 ⌝ }
     ensures { λ r. ⌜ r ≡ recoveryAction state paired ⌝ }
 {
-    let row = 2 * state as usize;
-    if paired {
-        RECOVERY_ACTION[row + 1]
-    } else {
-        RECOVERY_ACTION[row]
-    }
+    let row = RECOVERY_ACTION[state as usize];
+    if paired { row[1] } else { row[0] }
 }
 
 // 1 for an action that treats a segment, else 0.
@@ -54,144 +52,147 @@ pub fn treats(action: Action) -> u64
 
 // ---- one segment
 
-// Fills main segment i with zeros. The number of operations then on the trace.
-pub fn zero_main(layout: Layout, i: u64, trace: &mut [u64], n: usize) -> usize
-    requires { ⌜ (i < 64) × (layout .blocks ≤ 64) ⌝ }
-    requires { ⌜ 3 * (n + 36 * layout .blocks) ≤ length (now trace) ⌝ }
-    ensures { λ r. ⌜ now (trace .exit) ≡ emit (now (trace .entry)) n (zeroSegment layout (mainAt layout i)) ⌝ }
-    ensures { λ r. ⌜ r ≡ n + 36 * layout .blocks ⌝ }
-{
-    let main = metadata::main_at(layout, i);
-    blocks::zero_segment(layout, main, trace, n);
-    n + blocks::BLOCK_OPS * layout.blocks as usize
-}
-
-// Copies main segment i to its backup segment. The number of operations then on the trace.
-pub fn copy_to_backup(image: &[u8], layout: Layout, i: u64, trace: &mut [u64], n: usize) -> usize
-    requires { ⌜ (i < layout .mains) × (layout .mains ≤ 64) × (layout .backups ≤ 64) × (layout .blocks ≤ 64) ⌝ }
-    requires { ⌜ (length (now image) ≡ imageSize layout) × (isPaired layout (backupToMain (now image)) i ≡ true) ⌝ }
-    requires { ⌜ 3 * (n + 36 * layout .blocks) ≤ length (now trace) ⌝ }
-    ensures { λ r. ⌜ now (trace .exit) ≡ emit (now (trace .entry)) n (copySegment layout (now (image .entry)) (mainAt layout i) (backupAt layout (pairedBackup layout (backupToMain (now (image .entry))) i))) ⌝ }
-    ensures { λ r. ⌜ r ≡ n + 36 * layout .blocks ⌝ }
-{
-    let from = metadata::main_at(layout, i);
-    let to = metadata::backup_at(layout, metadata::find_paired_backup(image, layout, i));
-    blocks::copy_segment(image, layout, from, to, trace, n);
-    n + blocks::BLOCK_OPS * layout.blocks as usize
-}
-
-// Copies its backup segment to main segment i. The number of operations then on the trace.
-pub fn copy_to_main(image: &[u8], layout: Layout, i: u64, trace: &mut [u64], n: usize) -> usize
-    requires { ⌜ (i < layout .mains) × (layout .mains ≤ 64) × (layout .backups ≤ 64) × (layout .blocks ≤ 64) ⌝ }
-    requires { ⌜ (length (now image) ≡ imageSize layout) × (isPaired layout (backupToMain (now image)) i ≡ true) ⌝ }
-    requires { ⌜ 3 * (n + 36 * layout .blocks) ≤ length (now trace) ⌝ }
-    ensures { λ r. ⌜ now (trace .exit) ≡ emit (now (trace .entry)) n (copySegment layout (now (image .entry)) (backupAt layout (pairedBackup layout (backupToMain (now (image .entry))) i)) (mainAt layout i)) ⌝ }
-    ensures { λ r. ⌜ r ≡ n + 36 * layout .blocks ⌝ }
-{
-    let to = metadata::main_at(layout, i);
-    let from = metadata::backup_at(layout, metadata::find_paired_backup(image, layout, i));
-    blocks::copy_segment(image, layout, from, to, trace, n);
-    n + blocks::BLOCK_OPS * layout.blocks as usize
-}
-
-// What recovery does about main segment i, which is in this state and paired or not. The number of operations then on the
-// trace.
-pub fn recover_segment(
+// What recovery does about main segment i.
+pub fn segment_action(
     image: &[u8],
     layout: Layout,
-    state: u8,
-    paired: bool,
+    line: usize,
+    backup: &[u8; SLOTS],
+    i: usize,
+) -> Action
+    requires { ⌜ (i < layout .mains) × Recovers layout (now image) line × BackupsOf layout (now image) (now backup) ⌝ }
+    ensures { λ r. ⌜ r ≡ recoveryAction (segState (now (image .entry)) line i) (isPaired layout (backupToMain (now (image .entry))) i) ⌝ }
+{
+    recovery_action(image[line + i], metadata::wide(backup[i]) < layout.backups)
+}
+
+// Writes the operations of an action on main segment i and backup segment j.
+pub fn put_action(
+    image: &[u8],
+    layout: Layout,
     i: u64,
+    j: u64,
+    action: Action,
     trace: &mut [u64],
     n: usize,
 ) -> usize
-    requires { ⌜ (i < layout .mains) × (layout .mains ≤ 64) × (layout .backups ≤ 64) × (layout .blocks ≤ 64) ⌝ }
-    requires { ⌜ (length (now image) ≡ imageSize layout) × (state ≤ 2) × (state ≡ activeState (now image) i) × (paired ≡ isPaired layout (backupToMain (now image)) i) ⌝ }
-    requires { ⌜ 3 * (n + length (recoverSegment layout (now image) (activeLine (now image)) i)) ≤ length (now trace) ⌝ }
-    ensures { λ r. ⌜ now (trace .exit) ≡ emit (now (trace .entry)) n (recoverSegment layout (now (image .entry)) (activeLine (now (image .entry))) i) ⌝ }
-    ensures { λ r. ⌜ r ≡ n + length (recoverSegment layout (now (image .entry)) (activeLine (now (image .entry))) i) ⌝ }
+    requires { ⌜ (i < layout .mains) × (takesBackup action ≡ true → j < layout .backups) × SizesOk layout × (length (now image) ≡ imageSize layout) ⌝ }
+    requires { ⌜ Fits (now trace) n (actionOps layout (now image) i j action) ⌝ }
+    ensures { λ r. ⌜ Emitted (now (trace .entry)) n (actionOps layout (now (image .entry)) i j action) (now (trace .exit)) r ⌝ }
 {
-    let action = recovery_action(state, paired);
     match action {
         Action::Nothing => n,
-        Action::ZeroMain => zero_main(layout, i, trace, n),
-        Action::CopyToBackup => copy_to_backup(image, layout, i, trace, n),
-        Action::CopyToMain => copy_to_main(image, layout, i, trace, n),
+        Action::ZeroMain => blocks::put_segment_zero(
+            layout,
+            metadata::main_at(layout, i),
+            trace,
+            n,
+        ),
+        Action::CopyToBackup => {
+            let from = metadata::main_at(layout, i);
+            let to = metadata::backup_at(layout, j);
+            blocks::put_segment_copy(image, layout, from, to, trace, n)
+        }
+        Action::CopyToMain => {
+            let from = metadata::backup_at(layout, j);
+            let to = metadata::main_at(layout, i);
+            blocks::put_segment_copy(image, layout, from, to, trace, n)
+        }
     }
 }
 
-// ---- the call
+// Writes the operations of recovery of main segment i.
+pub fn put_segment(
+    image: &[u8],
+    layout: Layout,
+    line: usize,
+    backup: &[u8; SLOTS],
+    i: usize,
+    trace: &mut [u64],
+    n: usize,
+) -> usize
+    requires { ⌜ (i < layout .mains) × Recovers layout (now image) line × BackupsOf layout (now image) (now backup) ⌝ }
+    requires { ⌜ Fits (now trace) n (recoverSegment layout (now image) line i) ⌝ }
+    ensures { λ r. ⌜ Emitted (now (trace .entry)) n (recoverSegment layout (now (image .entry)) line i) (now (trace .exit)) r ⌝ }
+{
+    let action = segment_action(image, layout, line, backup, i);
+    let j = metadata::wide(backup[i]);
+    put_action(image, layout, i as u64, j, action, trace, n)
+}
+
+// ---- all segments
 
 // How many main segments recovery treats.
-pub fn count_treated(image: &[u8], layout: Layout) -> u64
-    requires { ⌜ (layout .mains ≤ 64) × (layout .backups ≤ 64) × (320 ≤ length (now image)) ⌝ }
-    requires { ⌜ ((i : ℕ) → i < layout .mains → activeState (now image) i ≤ 2) ⌝ }
-    ensures { λ r. ⌜ (r ≡ treated layout (now (image .entry)) (activeLine (now (image .entry)))) × (r ≤ 64) ⌝ }
+pub fn count_treated(image: &[u8], layout: Layout, line: usize, backup: &[u8; SLOTS]) -> u64
+    requires { ⌜ Recovers layout (now image) line × BackupsOf layout (now image) (now backup) ⌝ }
+    ensures { λ r. ⌜ (r ≡ treated layout (now (image .entry)) line) × (r ≤ 64) ⌝ }
 {
     let mains = layout.mains as usize;
-    let line = metadata::active_at(image);
-    let scan = metadata::scan_pairs(image, layout.mains, layout.backups as usize);
     let mut sum = 0;
     let mut i = 0;
     while i < mains {
-        sum += treats(recovery_action(image[line + i], scan.paired[i]));
+        sum += treats(segment_action(image, layout, line, backup, i));
         i += 1;
     }
     sum
 }
 
-// The operations of an opening, from the start of the trace on: the main segments upward, then one fence. Their number.
-pub fn put_recovery(image: &[u8], layout: Layout, trace: &mut [u64]) -> usize
-    requires { ⌜ (layout .mains ≤ 64) × (layout .backups ≤ 64) × (layout .blocks ≤ 64) × (length (now image) ≡ imageSize layout) ⌝ }
-    requires { ⌜ ((i : ℕ) → i < layout .mains → activeState (now image) i ≤ 2) ⌝ }
-    requires { ⌜ 3 * length (recoveryOps layout (now image) (activeLine (now image))) ≤ length (now trace) ⌝ }
-    ensures { λ r. ⌜ now (trace .exit) ≡ emit (now (trace .entry)) 0 (recoveryOps layout (now (image .entry)) (activeLine (now (image .entry)))) ⌝ }
-    ensures { λ r. ⌜ r ≡ length (recoveryOps layout (now (image .entry)) (activeLine (now (image .entry)))) ⌝ }
+// The number of the operations of recovery.
+pub fn recovery_length(image: &[u8], layout: Layout, line: usize, backup: &[u8; SLOTS]) -> u64
+    requires { ⌜ Recovers layout (now image) line × BackupsOf layout (now image) (now backup) ⌝ }
+    ensures { λ r. ⌜ (r ≡ length (recoveryOps layout (now (image .entry)) line)) × (r < 2 ^ 32) ⌝ }
 {
-    let mains = layout.mains;
-    let line = metadata::active_at(image);
-    let scan = metadata::scan_pairs(image, mains, layout.backups as usize);
-    let mut next: usize = 0;
+    BLOCK_OPS * layout.blocks * count_treated(image, layout, line, backup) + 1
+}
+
+// Writes the operations of recovery: the main segments upward, then one fence.
+pub fn put_recovery(
+    image: &[u8],
+    layout: Layout,
+    line: usize,
+    backup: &[u8; SLOTS],
+    trace: &mut [u64],
+    n: usize,
+) -> usize
+    requires { ⌜ Recovers layout (now image) line × BackupsOf layout (now image) (now backup) ⌝ }
+    requires { ⌜ Fits (now trace) n (recoveryOps layout (now image) line) ⌝ }
+    ensures { λ r. ⌜ Emitted (now (trace .entry)) n (recoveryOps layout (now (image .entry)) line) (now (trace .exit)) r ⌝ }
+{
+    let mains = layout.mains as usize;
+    let mut next = n;
     let mut i = 0;
     while i < mains {
-        let k = i as usize;
-        next = recover_segment(
-            image,
-            layout,
-            image[line + k],
-            scan.paired[k],
-            i,
-            trace,
-            next,
-        );
+        next = put_segment(image, layout, line, backup, i, trace, next);
         i += 1;
     }
-    trace::put_sfence(trace, next);
-    next + 1
+    trace::put_sfence(trace, next)
 }
 
-// The operations of an opening that treats this many main segments.
-pub fn recovery_count(layout: Layout, segments: u64) -> usize
-    requires { ⌜ (layout .blocks ≤ 64) × (segments ≤ 64) ⌝ }
-    ensures { λ r. ⌜ (r ≡ 36 * layout .blocks * segments + 1) × (r ≤ 147457) ⌝ }
+// ---- the call
+
+// A refused opening: it answers a session of zeros.
+pub fn refused(status: Status) -> Answer
+    ensures { λ r. ⌜ (r .status ≡ status) × (r .session ≡ zeroSession) × (r .ops ≡ 0) ⌝ }
 {
-    let each = blocks::BLOCK_OPS * layout.blocks as usize;
-    each * segments as usize + 1
+    Answer::refused(status, Session::fresh(Layout::new(0, 0, 0)))
 }
 
-// The number of the first refusal of an opening that applies, or 0, on a trace of `room` numbers.
-pub fn open_status(image: &[u8], layout: Layout, room: usize) -> u64
-    ensures { λ r. ⌜ ((t : Trace) → length t ≡ room → r ≡ openStatus layout (now (image .entry)) t) ⌝ }
+// Recovers the checkpoint by a line of states, of an image that has the layout's size, and answers a session in which
+// nothing is dirty.
+pub fn recover(image: &[u8], layout: Layout, line: usize, trace: &mut [u64]) -> Answer
+    requires { ⌜ SizesOk layout × (length (now image) ≡ imageSize layout) × (line + most ≤ length (now image)) ⌝ }
+    ensures { λ r. ⌜ Gives (recoveryOutcome layout (now (image .entry)) line (now (trace .entry))) (now (trace .entry)) r (now (trace .exit)) ⌝ }
 {
-    let code = metadata::container_status(image, layout);
-    if code != 0 {
-        return code;
+    let found = metadata::examine(image, layout, line);
+    if !found.valid {
+        return refused(Status::Invalid);
     }
-    let ops = recovery_count(layout, count_treated(image, layout));
-    if room < 3 * ops {
-        return 11;
+    let ops = recovery_length(image, layout, line, &found.backup);
+    if (trace.len() as u64) < 3 * ops {
+        return refused(Status::TraceShort);
     }
-    0
+    put_recovery(image, layout, line, &found.backup, trace, 0);
+    Answer::served(Session::fresh(layout), ops)
 }
 
 // Opening (document 01): recovers the checkpoint after any crash, and answers a session in which nothing is dirty. A refused
@@ -200,18 +201,9 @@ pub fn crpm_open(image: &[u8], mains: u64, backups: u64, blocks: u64, trace: &mu
     ensures { λ r. ⌜ Gives (openOutcome (layoutOf mains backups blocks) (now (image .entry)) (now (trace .entry))) (now (trace .entry)) r (now (trace .exit)) ⌝ }
 {
     let layout = Layout::new(mains, backups, blocks);
-    let code = open_status(image, layout, trace.len());
-    if code != 0 {
-        return Answer {
-            status: Status::of(code),
-            session: Session::fresh(Layout::new(0, 0, 0)),
-            ops: 0,
-        };
+    let status = metadata::layout_status(image, layout);
+    if !status.is_served() {
+        return refused(status);
     }
-    let ops = put_recovery(image, layout, trace);
-    Answer {
-        status: Status::Served,
-        session: Session::fresh(layout),
-        ops: ops as u64,
-    }
+    recover(image, layout, metadata::active_at(image), trace)
 }

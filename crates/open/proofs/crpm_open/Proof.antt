@@ -1,73 +1,84 @@
-use mathlib.Core.Path.{refl, sym, ap, _∙_}
+use Prim.Native.Nat.{ℕ}
+use mathlib.Core.Bool.{not}
+use mathlib.Core.List.{[], _∷_}
+use mathlib.Core.Path.{refl, sym, subst, _∙_}
 use native.Mathlib.Omega.{arith}
+use borrow.Author.Tests.{eqb-true, not-true, not-false}
 use borrow.Author.Needs.{needs}
+use Rattle.model.specs.declared.Layout.{Layout}
+use Rattle.model.specs.Container.{activeLine, headerOk}
 use Rattle.model.specs.Session.{freshSession, zeroSession}
-use Rattle.model.specs.Open.{openOutcome}
-use Rattle.trace.proofs.CallLaws.{gives-refused, gives-served}
-use Rattle.open.proofs.Laws.{status-within, ready}
+use Rattle.model.specs.Outcome.{Outcome, Gives}
+use Rattle.model.specs.Open.{recoveryOps, openStatus, openOutcome}
+use Rattle.model.proofs.Places.{metadata-inside}
+use Rattle.trace.proofs.CallLaws.{gives-refused}
+use Rattle.metadata.proofs.Laws.{sized}
+use Rattle.open.specs.Recovery.{recoveryOutcome}
+use Rattle.open.proofs.Laws.{open-refused, open-gives}
 use Rattle.open.proofs.crpm_open.Statement.{statement}
 use Rattle.open.proofs.crpm_open.Tie as tie
 
 new-requires : tie.Need-new-requires
 new-requires c κs = search needs
 
-open-status-requires : tie.Need-open-status-requires
-open-status-requires c κs = search needs
+layout-status-requires : tie.Need-layout-status-requires
+layout-status-requires c κs = search needs
 
-of-requires : tie.Need-of-requires
-of-requires c κs =
-    let b = c .before in
-    let g = b .before .before .before .before .args in
-    omega (arith, b .open-status .ensures (g .trace .now) refl, status-within (b .before .new .result) (g .image .now) (g .trace .now))
+is-served-requires : tie.Need-is-served-requires
+is-served-requires c κs = search needs
 
-new-requires-2 : tie.Need-new-requires-2
-new-requires-2 c κs = search needs
-
-fresh-requires : tie.Need-fresh-requires
-fresh-requires c κs = search needs
+refused-requires : tie.Need-refused-requires
+refused-requires c κs = search needs
 
 returns : tie.Need-returns
-unfolding openOutcome zeroSession
+unfolding openOutcome
 returns c =
-    let b = c .before .before .before .before in
-    let e = rw (b .before .new .ensures) at (b .open-status .ensures (b .before .before .before .before .args .trace .now) refl) in
-    gives-refused _ _ _ _ _ (c .before .before .of .result) _ (λ z. c .before .before .before .if1 .taken (e ∙ z)) (c .before .before .of .ensures ∙ e)
-    (c .fresh .ensures ∙ ap freshSession (c .before .new2 .ensures))
+    let s = c .before .before in
+    let a = s .before .before in
+    let g = a .before .before .before .args in
+    let l = a .new .result in
+    let I = g .image .now in
+    let t = g .trace .now in
+    let r = sym (s .is-served .ensures) ∙ not-true _ (c .before .if1 .taken) in
+    let p = open-refused l I t _ (s .before .layout-status .ensures) r in
+    subst (λ (x : Layout). Gives (openOutcome x I t) t (c .refused .result) t) (a .new .ensures)
+    (gives-refused (openStatus l I t) zeroSession (freshSession l) (recoveryOps l I (activeLine I)) t _ (c .refused .ensures) p r refl)
 
-put-recovery-requires : tie.Need-put-recovery-requires
-put-recovery-requires c κs =
-    let b = c .before .before in
-    let g = b .before .before .before .before .args in
-    ready (b .before .new .result) (g .image .now) (g .trace .now) (sym (b .open-status .ensures (g .trace .now) refl) ∙ c .before .if1 .left)
+active-at-requires : tie.Need-active-at-requires
+active-at-requires c κs =
+    let s = c .before in
+    let a = s .before .before in
+    let l = a .new .result in
+    let I = a .before .before .before .args .image .now in
+    let z = sized l I ((3, not (headerOk l I)) ∷ []) (sym (s .before .layout-status .ensures) ∙ eqb-true _ 0 (sym (s .is-served .ensures) ∙ not-false _ (c .if1 .left))) in
+    omega (arith, metadata-inside l)
 
-fresh-requires-2 : tie.Need-fresh-requires-2
-fresh-requires-2 c κs = search needs
+recover-requires : tie.Need-recover-requires
+recover-requires c κs =
+    let d = c .before .before in
+    let s = d .before in
+    let a = s .before .before in
+    let l = a .new .result in
+    let I = a .before .before .before .args .image .now in
+    let z = sized l I ((3, not (headerOk l I)) ∷ []) (sym (s .before .layout-status .ensures) ∙ eqb-true _ 0 (sym (s .is-served .ensures) ∙ not-false _ (d .if1 .left))) in
+    (z .0, z .1, omega (arith, metadata-inside l))
 
 same-length : tie.Need-same-length
 same-length c = search needs
 
 returns-2 : tie.Need-returns-2
-unfolding openOutcome
 returns-2 c =
-    let p = c .before .before .before in
-    let b = p .before .before .before in
-    let g = b .before .before .before .before .args in
-    let z = sym (b .open-status .ensures (g .trace .now) refl) ∙ p .before .before .if1 .left in
-    let l = b .before .new .ensures in
-    gives-served _ _ _ _ _ _ _ _ (rw l at z) (c .fresh2 .ensures ∙ ap freshSession l) (rw l at (p .put-recovery .ensures .1))
-    (rw l at (ready (b .before .new .result) (g .image .now) (g .trace .now) z .1 .1)) (rw l at (p .put-recovery .ensures .0))
+    let f = c .before .before in
+    let d = f .before .before in
+    let s = d .before .before in
+    let a = s .before .before in
+    let g = a .before .before .before .args in
+    let l = a .new .result in
+    let I = g .image .now in
+    let t = g .trace .now in
+    let h = sym (s .is-served .ensures) ∙ not-false _ (d .before .if1 .left) in
+    let o = open-gives l I t _ (s .before .layout-status .ensures) h _ (d .active-at .ensures .0) (f .recover .result) _ (f .recover .ensures) in
+    rw (a .new .ensures) at o
 
 pub crpm-open-spec : {M : Type 1} → statement M
-crpm-open-spec =
-    tie.close
-    (tie.spec
-    new-requires
-    open-status-requires
-    of-requires
-    new-requires-2
-    fresh-requires
-    returns
-    put-recovery-requires
-    fresh-requires-2
-    same-length
-    returns-2)
+crpm-open-spec = tie.close (tie.spec new-requires layout-status-requires is-served-requires refused-requires returns active-at-requires recover-requires same-length returns-2)

@@ -1,0 +1,83 @@
+use mathlib.Core.Path.{_≡_, refl, sym, _∙_}
+use native.Mathlib.Omega.{arith}
+use borrow.Author.Needs.{needs}
+use Rattle.model.specs.Session.{freshSession, zeroSession}
+use Rattle.model.specs.Open.{recoveryOps}
+use Rattle.model.proofs.Places.{metadata-inside}
+use Rattle.trace.proofs.EmitLaws.{emitted-length}
+use Rattle.trace.proofs.CallLaws.{gives-refused, gives-served}
+use Rattle.open.specs.Recovery.{recoveryOutcome}
+use Rattle.open.proofs.Laws.{recovers-by, recovery-invalid, recovery-short, recovery-served}
+use Rattle.open.proofs.recover.Statement.{statement}
+use Rattle.open.proofs.recover.Tie as tie
+
+examine-requires : tie.Need-examine-requires
+examine-requires c κs = omega (arith, metadata-inside (c .before .before .args .layout))
+
+refused-requires : tie.Need-refused-requires
+refused-requires c κs = search needs
+
+returns : tie.Need-returns
+unfolding recoveryOutcome
+returns c =
+    let x = c .before .before in
+    let g = x .before .before .before .args in
+    let p = recovery-invalid (g .layout) (g .image .now) (g .line) (g .trace .now) _ (x .examine .ensures .valid) (c .before .if1 .taken) in
+    gives-refused _ zeroSession (freshSession (g .layout)) (recoveryOps (g .layout) (g .image .now) (g .line)) (g .trace .now) _ (c .refused .ensures) p
+    refl refl
+
+recovery-length-requires : tie.Need-recovery-length-requires
+recovery-length-requires c κs =
+    let d = c .before .before in
+    let f = d .before .before .before .before in
+    recovers-by (f .args .layout) (f .args .image .now) (f .args .line) _ (f .pre .0) (f .pre .1) (f .pre .2) (d .before .examine .ensures) (d .if1 .left)
+
+mul-if2 : tie.Need-mul-if2
+mul-if2 c = search needs
+
+refused-requires-2 : tie.Need-refused-requires-2
+refused-requires-2 c κs = search needs
+
+returns-2 : tie.Need-returns-2
+unfolding recoveryOutcome
+returns-2 c =
+    let n = c .before .before in
+    let d = n .before .before .before in
+    let g = d .before .before .before .before .args in
+    let p = recovery-short (g .layout) (g .image .now) (g .line) (g .trace .now) _ (d .before .examine .ensures .valid) (d .if1 .left) _ (n .recovery-length .ensures .0) (c .before .if2 .taken) in
+    gives-refused _ zeroSession (freshSession (g .layout)) (recoveryOps (g .layout) (g .image .now) (g .line)) (g .trace .now) _ (c .refused2 .ensures) p
+    refl refl
+
+put-recovery-requires : tie.Need-put-recovery-requires
+put-recovery-requires c κs =
+    let n = c .before .before .before .before in
+    let d = n .before .before .before in
+    let f = d .before .before .before .before in
+    let g = f .args in (
+      recovers-by (g .layout) (g .image .now) (g .line) _ (f .pre .0) (f .pre .1) (f .pre .2) (d .before .examine .ensures) (d .if1 .left),
+      record { room = omega (arith, n .recovery-length .ensures .0) },
+    )
+
+fresh-requires : tie.Need-fresh-requires
+fresh-requires c κs = search needs
+
+served-requires : tie.Need-served-requires
+served-requires c κs = search needs
+
+same-length : tie.Need-same-length
+same-length c = emitted-length (c .before .before .before .before .put-recovery .ensures)
+
+returns-3 : tie.Need-returns-3
+unfolding recoveryOutcome
+returns-3 c =
+    let w = c .before .before .before .before in
+    let n = w .before .before .before .before .before in
+    let d = n .before .before .before in
+    let g = d .before .before .before .before .args in
+    let m = n .recovery-length .ensures .0 in
+    let z = recovery-served (g .layout) (g .image .now) (g .line) (g .trace .now) _ (d .before .examine .ensures .valid) (d .if1 .left) _ m (omega arith) in
+    gives-served _ zeroSession (freshSession (g .layout)) (recoveryOps (g .layout) (g .image .now) (g .line)) (g .trace .now) _ _ _ (c .served .ensures) (sym z) (c .before .fresh .ensures) m
+    (record { room = omega (arith, m) }) (w .put-recovery .ensures)
+
+pub recover-spec : {M : Type 1} → statement M
+recover-spec = tie.close (tie.spec examine-requires refused-requires returns recovery-length-requires mul-if2 refused-requires-2 returns-2 put-recovery-requires fresh-requires served-requires same-length returns-3)

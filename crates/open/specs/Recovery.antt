@@ -1,0 +1,43 @@
+-- Recovery by a line of states, of which an opening is the instance by the active line. Assumes nothing.
+use Prim.Native.Nat.{ℕ, _+_, _≤_, _<_}
+use mathlib.Core.Path.{_≡_}
+use mathlib.Core.Bool.{Bool, true, false}
+use mathlib.Core.List.{List, _++_}
+use lib.ListN.{length, getD}
+use Rattle.model.specs.declared.Layout.{Layout}
+use Rattle.model.specs.declared.Action.{Action}
+use Rattle.model.specs.declared.Action.the-variants.{Nothing, ZeroMain, CopyToBackup, CopyToMain}
+use Rattle.model.specs.Words.{Image}
+use Rattle.model.specs.Layout.{most, SizesOk, imageSize}
+use Rattle.model.specs.Status.{Errors, firstError}
+use Rattle.model.specs.Container.{segState, backupToMain, Valid, pairedBackup, validErrors}
+use Rattle.model.specs.Session.{freshSession, zeroSession}
+use Rattle.model.specs.Ops.{Trace, traceErrors}
+use Rattle.model.specs.Open.{recoveryOps}
+use Rattle.model.specs.Outcome.{Outcome, outcomeOf}
+
+-- what recovery goes by: an image of the layout's size, and a line of states that is valid with the pairs
+pub record Recovers (l : Layout) (I : Image) (line : ℕ) : Type 0 where
+  pub sizes : SizesOk l
+  pub long : length I ≡ imageSize l
+  pub inside : line + most ≤ length I
+  pub valid : Valid l (segState I line) (backupToMain I)
+
+-- the backup segment of each main segment, as the pass over the pairs found it
+abbrev pub BackupsOf : Layout → Image → List ℕ → Type 0
+BackupsOf l I found = (i : ℕ) → i < l .mains → getD found i 0 ≡ pairedBackup l (backupToMain I) i
+
+-- an action that reads or writes the backup segment
+abbrev pub takesBackup : Action → Bool
+takesBackup Nothing = false
+takesBackup ZeroMain = false
+takesBackup CopyToBackup = true
+takesBackup CopyToMain = true
+
+-- ---- refusals and outcome of recovery of an image that refusals 1 to 3 let pass
+
+abbrev pub recoveryErrors : Layout → Image → ℕ → Trace → Errors
+recoveryErrors l I line t = validErrors l I line ++ traceErrors (recoveryOps l I line) t
+
+unfoldable pub recoveryOutcome : Layout → Image → ℕ → Trace → Outcome
+recoveryOutcome l I line t = outcomeOf (firstError (recoveryErrors l I line t)) zeroSession (freshSession l) (recoveryOps l I line)
