@@ -16,7 +16,7 @@ use Rattle.model.specs.declared.Action.the-variants.{Nothing, ZeroMain, CopyToB
 use Rattle.model.specs.Words.{Image}
 use Rattle.model.specs.Layout.{most, SizesOk, imageSize}
 use Rattle.model.specs.Status.{firstError, served}
-use Rattle.model.specs.Container.{activeLine, segState, backupToMain, isPaired, validMetadata, pairedBackup, byState, layoutErrors}
+use Rattle.model.specs.Container.{activeLine, segState, backupToMain, isPaired, validMetadata, pairedBackup, byState, layoutErrors, validErrors}
 use Rattle.model.specs.Ops.{Trace, traceShort}
 use Rattle.model.specs.Open.{recoveryAction, recoveryOps, openStatus, openOutcome}
 use Rattle.model.specs.Session.{freshSession, zeroSession}
@@ -81,22 +81,13 @@ recovers-by l I line r s e k x h = (
 
 -- ---- refusals and outcome
 
--- recovery by a line of states, by the test of validity and a number of operations
-module _ (l : Layout) (I : Image) (line : ℕ) (t : Trace) (v : Bool) (e : v ≡ validMetadata l (segState I line) (backupToMain I)) where
-  pub recovery-invalid : not v ≡ true → 4 ≡ firstError (recoveryErrors l I line t)
-  recovery-invalid h = first-holds 4 _ _ (ap not (sym e) ∙ h)
+-- recovery by a line of states, by the test of validity
+module _ (l : Layout) (I : Image) (line : ℕ) (v : Bool) (e : v ≡ validMetadata l (segState I line) (backupToMain I)) where
+  pub recovery-invalid : (t : Trace) → not v ≡ true → 4 ≡ firstError (recoveryErrors l I line t)
+  recovery-invalid t h = first-holds 4 _ _ (ap not (sym e) ∙ h)
 
-  module _ (h : not v ≡ false) (n : ℕ) (q : n ≡ length (recoveryOps l I line)) where
-    pub recovery-short : length t < 3 * n → 11 ≡ firstError (recoveryErrors l I line t)
-    unfolding traceShort
-    recovery-short k =
-        first-fails 4 _ _ _ (ap not (sym e) ∙ h) (first-holds 11 _ _ (lt-ltb (length t) (3 * length (recoveryOps l I line)) (omega arith)))
-
-    pub recovery-served : 3 * n ≤ length t → 0 ≡ firstError (recoveryErrors l I line t)
-    unfolding traceShort
-    recovery-served k =
-        first-fails 4 _ _ _ (ap not (sym e) ∙ h)
-        (first-fails 11 _ _ _ (le-ltb (length t) (3 * length (recoveryOps l I line)) (omega arith)) first-of-none)
+  pub recovery-valid : not v ≡ false → 0 ≡ firstError (validErrors l I line)
+  recovery-valid h = first-fails 4 _ _ _ (ap not (sym e) ∙ h) first-of-none
 
 -- an opening, by refusals 1 to 3
 module _ (l : Layout) (I : Image) (t : Trace) (n : ℕ) (e : n ≡ firstError (layoutErrors l I)) where

@@ -1,13 +1,14 @@
 use mathlib.Core.Path.{_≡_, refl, sym, _∙_}
 use native.Mathlib.Omega.{arith}
 use borrow.Author.Needs.{needs}
+use Rattle.model.specs.Container.{validErrors}
 use Rattle.model.specs.Session.{freshSession, zeroSession}
 use Rattle.model.specs.Open.{recoveryOps}
 use Rattle.model.proofs.Places.{metadata-inside}
 use Rattle.trace.proofs.EmitLaws.{emitted-length}
-use Rattle.trace.proofs.CallLaws.{gives-refused, gives-served}
+use Rattle.trace.proofs.CallLaws.{refused-short, served-long, fits-whole, gives-refused, gives-served}
 use Rattle.open.specs.Recovery.{recoveryOutcome}
-use Rattle.open.proofs.Laws.{recovers-by, recovery-invalid, recovery-short, recovery-served}
+use Rattle.open.proofs.Laws.{recovers-by, recovery-invalid, recovery-valid}
 use Rattle.open.proofs.recover.Statement.{statement}
 use Rattle.open.proofs.recover.Tie as tie
 
@@ -22,7 +23,7 @@ unfolding recoveryOutcome
 returns c =
     let x = c .before .before in
     let g = x .before .before .before .args in
-    let p = recovery-invalid (g .layout) (g .image .now) (g .line) (g .trace .now) _ (x .examine .ensures .valid) (c .before .if1 .taken) in
+    let p = recovery-invalid (g .layout) (g .image .now) (g .line) _ (x .examine .ensures .valid) (g .trace .now) (c .before .if1 .taken) in
     gives-refused _ zeroSession (freshSession (g .layout)) (recoveryOps (g .layout) (g .image .now) (g .line)) (g .trace .now) _ (c .refused .ensures) p
     refl refl
 
@@ -44,9 +45,12 @@ returns-2 c =
     let n = c .before .before in
     let d = n .before .before .before in
     let g = d .before .before .before .before .args in
-    let p = recovery-short (g .layout) (g .image .now) (g .line) (g .trace .now) _ (d .before .examine .ensures .valid) (d .if1 .left) _ (n .recovery-length .ensures .0) (c .before .if2 .taken) in
-    gives-refused _ zeroSession (freshSession (g .layout)) (recoveryOps (g .layout) (g .image .now) (g .line)) (g .trace .now) _ (c .refused2 .ensures) p
-    refl refl
+    let l = g .layout in
+    let I = g .image .now in
+    let O = recoveryOps l I (g .line) in
+    let v = recovery-valid l I (g .line) _ (d .before .examine .ensures .valid) (d .if1 .left) in
+    gives-refused _ zeroSession (freshSession l) O (g .trace .now) _ (c .refused2 .ensures)
+    (refused-short (validErrors l I (g .line)) O (g .trace .now) 0 v (omega arith) refl _ (n .recovery-length .ensures .0) (c .before .if2 .taken)) refl refl
 
 put-recovery-requires : tie.Need-put-recovery-requires
 put-recovery-requires c κs =
@@ -55,7 +59,7 @@ put-recovery-requires c κs =
     let f = d .before .before .before .before in
     let g = f .args in (
       recovers-by (g .layout) (g .image .now) (g .line) _ (f .pre .0) (f .pre .1) (f .pre .2) (d .before .examine .ensures) (d .if1 .left),
-      record { room = omega (arith, n .recovery-length .ensures .0) },
+      fits-whole (n .recovery-length .ensures .0) (c .before .before .before .if2 .left),
     )
 
 fresh-requires : tie.Need-fresh-requires
@@ -71,13 +75,18 @@ returns-3 : tie.Need-returns-3
 unfolding recoveryOutcome
 returns-3 c =
     let w = c .before .before .before .before in
-    let n = w .before .before .before .before .before in
+    let b = w .before .before .before .before in
+    let n = b .before in
     let d = n .before .before .before in
     let g = d .before .before .before .before .args in
+    let l = g .layout in
+    let I = g .image .now in
+    let O = recoveryOps l I (g .line) in
     let m = n .recovery-length .ensures .0 in
-    let z = recovery-served (g .layout) (g .image .now) (g .line) (g .trace .now) _ (d .before .examine .ensures .valid) (d .if1 .left) _ m (omega arith) in
-    gives-served _ zeroSession (freshSession (g .layout)) (recoveryOps (g .layout) (g .image .now) (g .line)) (g .trace .now) _ _ _ (c .served .ensures) (sym z) (c .before .fresh .ensures) m
-    (record { room = omega (arith, m) }) (w .put-recovery .ensures)
+    let v = recovery-valid l I (g .line) _ (d .before .examine .ensures .valid) (d .if1 .left) in
+    gives-served _ zeroSession (freshSession l) O (g .trace .now) _ (c .served .ensures)
+    (sym (served-long (validErrors l I (g .line)) O (g .trace .now) 0 v (omega arith) refl _ m (b .if2 .left))) (c .before .fresh .ensures) m
+    (fits-whole m (b .if2 .left)) (w .put-recovery .ensures)
 
 pub recover-spec : {M : Type 1} → statement M
 recover-spec = tie.close (tie.spec examine-requires refused-requires returns recovery-length-requires mul-if2 refused-requires-2 returns-2 put-recovery-requires fresh-requires served-requires same-length returns-3)
