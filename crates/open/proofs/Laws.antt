@@ -3,12 +3,12 @@
 use Prim.Native.Nat.{ℕ, zero, suc, _+_, _*_, _≤_, _<_}
 use mathlib.Core.Path.{_≡_, refl, sym, ap, subst, _∙_}
 use mathlib.Core.Bool.{Bool, true, false, not}
-use mathlib.Core.List.{List, [], _∷_, _++_}
+use mathlib.Core.List.{List, [], _∷_}
 use native.Mathlib.Omega.{arith}
 use native.Mathlib.Nat.{mul-le-mul}
 use lib.Dec.{ltb}
 use lib.ListN.{length, getD}
-use borrow.Author.Tests.{lt-ltb, le-ltb, not-false}
+use borrow.Author.Tests.{not-false}
 use Rattle.model.specs.declared.Layout.{Layout}
 use Rattle.model.specs.declared.Action.{Action}
 use Rattle.model.specs.declared.Answer.{Answer}
@@ -17,7 +17,7 @@ use Rattle.model.specs.Words.{Image}
 use Rattle.model.specs.Layout.{most, SizesOk, imageSize}
 use Rattle.model.specs.Status.{firstError, served}
 use Rattle.model.specs.Container.{activeLine, segState, backupToMain, isPaired, validMetadata, pairedBackup, byState, layoutErrors, validErrors}
-use Rattle.model.specs.Ops.{Trace, traceShort}
+use Rattle.model.specs.Ops.{Trace}
 use Rattle.model.specs.Open.{recoveryAction, recoveryOps, openStatus, openOutcome}
 use Rattle.model.specs.Session.{freshSession, zeroSession}
 use Rattle.model.specs.Outcome.{Outcome, outcomeOf, Gives}

@@ -1,4 +1,3 @@
-use Prim.Native.Nat.{ℕ}
 use mathlib.Core.Bool.{not}
 use mathlib.Core.List.{[], _∷_}
 use mathlib.Core.Path.{refl, sym, subst, _∙_}
@@ -8,12 +7,11 @@ use borrow.Author.Needs.{needs}
 use Rattle.model.specs.declared.Layout.{Layout}
 use Rattle.model.specs.Container.{activeLine, headerOk}
 use Rattle.model.specs.Session.{freshSession, zeroSession}
-use Rattle.model.specs.Outcome.{Outcome, Gives}
+use Rattle.model.specs.Outcome.{Gives}
 use Rattle.model.specs.Open.{recoveryOps, openStatus, openOutcome}
 use Rattle.model.proofs.Places.{metadata-inside}
 use Rattle.trace.proofs.CallLaws.{gives-refused}
 use Rattle.metadata.proofs.Laws.{sized}
-use Rattle.open.specs.Recovery.{recoveryOutcome}
 use Rattle.open.proofs.Laws.{open-refused, open-gives}
 use Rattle.open.proofs.crpm_open.Statement.{statement}
 use Rattle.open.proofs.crpm_open.Tie as tie
