@@ -7,28 +7,16 @@ use mathlib.Core.List.{_++_}
 use native.Mathlib.Omega.{arith}
 use lib.ListN.{length}
 use borrow.Author.Tests.{lt-ltb, le-ltb}
-use Rattle.model.specs.declared.Layout.{Layout}
 use Rattle.model.specs.declared.Session.{Session}
 use Rattle.model.specs.declared.Status.{Status}
 use Rattle.model.specs.declared.Status.the-variants.{Served}
 use Rattle.model.specs.declared.Answer.{Answer}
-use Rattle.model.specs.Words.{Image}
-use Rattle.model.specs.Layout.{SizesOk, metadataSize}
 use Rattle.model.specs.Status.{Errors, codeOf, firstError, served}
-use Rattle.model.specs.Container.{containerErrors}
 use Rattle.model.specs.Ops.{Ops, Trace, encode, written, traceShort, traceErrors}
 use Rattle.model.specs.Outcome.{outcomeOf, Gives}
-use Rattle.model.proofs.Metadata.{container-ok}
-use Rattle.model.proofs.Places.{metadata-inside}
 use Rattle.model.proofs.Refusals.{Numbered, first-holds, first-fails, first-of-none, stage-refused, stage-passed}
 use Rattle.trace.specs.Emit.{Fits, Emitted}
 use Rattle.trace.proofs.EmitLaws.{emit-whole}
-
--- ---- refusals 1 to 4 do not apply
-
-pub sizes-known : (l : Layout) (I : Image) (code : ℕ) → code ≡ firstError (containerErrors l I) → code ≡ 0 → SizesOk l × (metadataSize ≤ length I)
-sizes-known l I code e z =
-    let k = container-ok l I (sym e ∙ z) in (k .sizes, omega (arith, k .long, metadata-inside l))
 
 -- ---- refusal 11, after those of the list es: n is the number that the code found for these, m the operations it counted
 
