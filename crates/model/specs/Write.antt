@@ -26,6 +26,9 @@ pub record WriteArgs : Type 0 where
   pub offset : ℕ
   pub bytes : List ℕ
 
+abbrev pub writeArgsOf : ℕ → ℕ → ℕ → List ℕ → WriteArgs
+writeArgsOf main block offset bytes = record { main = main; block = block; offset = offset; bytes = bytes }
+
 -- the segment must be copied first: it is not dirty, and its state is 1 (document 01: untouched and in state 1)
 unfoldable pub needsCopy : Session → Image → ℕ → Bool
 needsCopy s I i = not (dirtySegment s i) && eqb (activeState I i) ssMain

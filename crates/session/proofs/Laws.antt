@@ -17,7 +17,7 @@ use Rattle.model.specs.declared.Layout.{Layout}
 use Rattle.model.specs.declared.Session.{Session}
 use Rattle.model.specs.Range.{allB}
 use Rattle.model.specs.Words.{Image}
-use Rattle.model.specs.Layout.{SizesOk, metadataSize}
+use Rattle.model.specs.Layout.{most, SizesOk, metadataSize}
 use Rattle.model.specs.Status.{firstError, served}
 use Rattle.model.specs.Container.{segState, activeLine, activeState, containerErrors}
 use Rattle.model.specs.Session.{bit, isDirty, setBit, setBits, dirtyWord, dirtySegment, validSession, sessionErrors, contextErrors}
@@ -88,6 +88,13 @@ pub valid-session-tests : (s : Session) (st : ℕ → ℕ) (a b c d : Bool) → 
 unfolding validSession dirtySegment
 valid-session-tests s st a b c d h p q r t =
     ap₂ (λ (x y : Bool). x && y) (ap₂ (λ (x y : Bool). x && y) p (ap₂ (λ (x y : Bool). x && y) q r ∙ words-in-two (dirtyWord s) (s .layout .mains) (s .layout .blocks) h)) t
+
+-- in a valid session no word of dirty blocks has a bit beyond the blocks
+pub words-within : (s : Session) (st : ℕ → ℕ) → s .layout .mains ≤ most → validSession s st ≡ true → (i : ℕ) → i < s .layout .mains
+    → dirtyWord s i < 2 ^ s .layout .blocks
+unfolding validSession
+words-within s st m v i h =
+    ltb-true _ _ (rw (lt-ltb i (s .layout .mains) h) at (all-at most _ (and-right (ltb (s .«dirty_segments») (2 ^ s .layout .mains)) _ (and-left _ _ v)) i (omega arith)))
 
 -- validity depends on the states of main segments only
 pub valid-session-cong : (s : Session) (f g : ℕ → ℕ) → ((i : ℕ) → i < s .layout .mains → f i ≡ g i) → validSession s f ≡ validSession s g

@@ -1,3 +1,4 @@
 pub mod SpanLaws
 pub mod PlanLaws
+pub mod CopyLaws
 pub mod OutcomeLaws

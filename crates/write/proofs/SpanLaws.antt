@@ -1,5 +1,6 @@
--- Laws of a span: bytes and words of an image with the span's bytes laid over it, and the test of its end.
-use Prim.Native.Nat.{ℕ, zero, suc, _+_, _-_, _*_, _≤_, _<_}
+-- Laws of a span: bytes and words of an image with the span's bytes laid over it, a span of whole words, and the test of its
+-- end.
+use Prim.Native.Nat.{ℕ, zero, suc, _+_, _-_, _*_, _/_, _%_, _≤_, _<_}
 use mathlib.Core.Path.{_≡_, refl, sym, ap, _∙_}
 use mathlib.Core.List.{List, [], _∷_}
 use native.Mathlib.Omega.{arith}
@@ -7,8 +8,12 @@ use native.Mathlib.Decide.{decLt}
 use lib.Dec.{ltb}
 use lib.ListN.{length, getD}
 use borrow.Author.Tests.{lt-ltb, le-ltb}
-use Rattle.model.specs.Words.{byteAt, littleEndian, wordOf, wordAt, overlay}
+use Rattle.model.specs.Words.{Image, byteAt, littleEndian, wordOf, wordAt, overlay}
+use Rattle.model.specs.Ops.{store, stores, wordPlace}
+use Rattle.model.specs.Write.{spanWords}
+use Rattle.model.proofs.Range.{cat-ext}
 use Rattle.model.proofs.WordLaws.{overlay-in}
+use Rattle.write.specs.Steps.{wordStores, spanStores}
 
 -- an element that is there does not depend on the default
 any-default : (bs : List ℕ) (j d : ℕ) → j < length bs → getD bs j 0 ≡ getD bs j d
@@ -33,9 +38,17 @@ unfolding wordOf
 word-inside f a bs p h l = number-inside 8 f a bs p (p - a) h refl l
 
 -- word k of bytes that start a word
-pub word-whole : (f : ℕ → ℕ) (a : ℕ) (bs : List ℕ) (k : ℕ) → 8 * k + 8 ≤ length bs → wordAt bs (8 * k) ≡ wordOf (overlay f a bs) (a + 8 * k)
+word-whole : (f : ℕ → ℕ) (a : ℕ) (bs : List ℕ) (k : ℕ) → 8 * k + 8 ≤ length bs → wordAt bs (8 * k) ≡ wordOf (overlay f a bs) (a + 8 * k)
 unfolding wordOf
 word-whole f a bs k l = number-inside 8 f a bs (a + 8 * k) (8 * k) (omega arith) (omega arith) l
+
+-- bytes that start a word and are whole words: what they are laid over does not matter
+pub whole-words : (I : Image) (a : ℕ) (bs : List ℕ) → 1 ≤ length bs → a % 8 ≡ 0 → length bs % 8 ≡ 0 → wordStores a bs ≡ spanStores I a bs
+unfolding stores
+whole-words I a bs some x y =
+    let e : wordPlace a ≡ a = omega arith in
+    let d : spanWords a (length bs) ≡ length bs / 8 = omega arith in
+    rw (e, d) (cat-ext (length bs / 8) _ _ (λ k l. ap (λ (v : ℕ). store (a + 8 * k) v ∷ []) (word-whole (byteAt I) a bs k (omega arith))))
 
 -- the span's end, tested without a sum
 pub span-over : (offset len : ℕ) → offset ≤ 256 → ltb (256 - offset) len ≡ ltb 256 (offset + len)

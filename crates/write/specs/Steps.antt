@@ -1,27 +1,23 @@
--- The steps in which the code does a write: its arguments, refusals 1 to 8, the plan of its copy, its counts and stores.
--- That they are model's Write is shown in proofs/. Assumes nothing.
-use Prim.Native.Nat.{ℕ, _+_, _*_, _%_, _^_, _≤_, _<_}
+-- The steps in which the code does a write: refusals 1 to 8 and what they leave, the plan of its copy, and the stores of its
+-- span. That they are model's Write is shown in proofs/. Assumes nothing.
+use Prim.Native.Nat.{ℕ, _+_, _*_, _/_, _%_, _^_, _≤_, _<_}
 use mathlib.Core.Path.{_≡_}
-use mathlib.Core.Bool.{Bool, true, false, not, cond, _&&_}
 use mathlib.Core.List.{List, [], _∷_, _++_}
-use lib.Count.{ones}
-use lib.Dec.{leb, eqb}
 use lib.ListN.{length}
+use Rattle.model.specs.declared.Layout.{Layout}
 use Rattle.model.specs.declared.Session.{Session}
 use Rattle.model.specs.declared.Answer.{Answer}
-use Rattle.model.specs.Words.{Image, byteAt, wordOf, overlay}
+use Rattle.model.specs.declared.Plan.{Plan}
+use Rattle.model.specs.declared.Plan.the-variants.{NoCopy, OwnBackup, NewBackup, NoneFree}
+use Rattle.model.specs.Words.{Image, byteAt, wordOf, wordAt, overlay}
 use Rattle.model.specs.Layout.{most, wordSize, lineSize, blockSize, metadataSize, segmentSize, mainAt}
 use Rattle.model.specs.Status.{Errors, firstError}
-use Rattle.model.specs.Container.{activeState, backupToMain, isPaired, pairedBackup, containerErrors}
-use Rattle.model.specs.Session.{dirtyWord, validSession}
-use Rattle.model.specs.Ops.{Ops, Trace, Gives, stores, wordPlace}
-use Rattle.model.specs.Write.{WriteArgs, needsCopy, copyOnWriteOps, spanWords, spanBad, writeOutcome, Chosen}
-use Rattle.metadata.specs.Scan.{Choice}
-use Rattle.write.specs.declared.Plan.{Plan}
-
--- what a write is given
-abbrev pub writeArgsOf : ℕ → ℕ → ℕ → List ℕ → WriteArgs
-writeArgsOf main block offset bytes = record { main = main; block = block; offset = offset; bytes = bytes }
+use Rattle.model.specs.Container.{activeState, backupToMain, Valid, Free, mainErrors, blockErrors}
+use Rattle.model.specs.Session.{dirtyWord, contextErrors}
+use Rattle.model.specs.Ops.{Ops, Trace, stores, wordPlace, traceErrors}
+use Rattle.model.specs.Outcome.{Gives}
+use Rattle.model.specs.Write.{WriteArgs, copyPlan, noneFree, spanWords, spanBad, writeOutcome, Chosen}
+use Rattle.session.specs.Parts.{sessionOf}
 
 -- what a write answers, for some backup segment that it may take
 abbrev pub Writes : Session → Image → WriteArgs → Trace → Answer → Trace → Type 0
@@ -29,64 +25,58 @@ Writes s I w t a after = (j : ℕ) × Chosen s I w t j × Gives (writeOutcome s 
 
 -- ---- refusals
 
--- refusals 5 to 8, and 1 to 8
-abbrev pub callErrors : Session → Image → WriteArgs → Errors
-callErrors s I w =
-    (5, not (validSession s (activeState I)))
-    ∷ (6, leb (s .layout .mains) (w .main))
-    ∷ (7, leb (s .layout .blocks) (w .block))
-    ∷ (8, spanBad w) ∷ []
-
+-- 1 to 8, which do not depend on the plan of the copy
 abbrev pub earlyErrors : Session → Image → WriteArgs → Errors
-earlyErrors s I w = containerErrors (s .layout) I ++ callErrors s I w
+earlyErrors s I w =
+    contextErrors s I ++ mainErrors (s .layout) (w .main) ++ blockErrors (s .layout) (w .block) ++ (8, spanBad (s .layout) w) ∷ []
 
--- refusals 9 and 11
-abbrev pub lateErrors : Bool → Bool → Errors
-lateErrors noBackup short = (9, noBackup) ∷ (11, short) ∷ []
+-- 9 and 11, by the plan and the operations
+abbrev pub lateErrors : Plan → Ops → Trace → Errors
+lateErrors p O t = (9, noneFree p) ∷ traceErrors O t
 
--- what the first eight leave, of session, image and main segment i
-pub record Ready (s : Session) (I : Image) (i : ℕ) : Type 0 where
-  pub mains : s .layout .mains ≤ most
-  pub backups : s .layout .backups ≤ most
-  pub blocks : s .layout .blocks ≤ most
-  pub main : i < s .layout .mains
+-- what the first eight leave: of the layout, of the image, and of main segment i
+pub record Ready (l : Layout) (I : Image) (i : ℕ) : Type 0 where
+  pub mains : l .mains ≤ most
+  pub backups : l .backups ≤ most
+  pub some : 1 ≤ l .blocks
+  pub blocks : l .blocks ≤ most
+  pub main : i < l .mains
   pub metadata : metadataSize ≤ length I
   pub size : length I ≤ 2097664
   pub lines : length I % lineSize ≡ 0
-  pub inside : mainAt (s .layout) i + segmentSize (s .layout) ≤ length I
-  pub word : dirtyWord s i < 2 ^ s .layout .blocks
+  pub inside : mainAt l i + segmentSize l ≤ length I
+  pub valid : Valid l (activeState I) (backupToMain I)
 
--- and of the span
+-- and of the span, and of the segment's word of dirty blocks
 pub record ReadySpan (s : Session) (I : Image) (w : WriteArgs) : Type 0 where
   pub none : firstError (earlyErrors s I w) ≡ 0
-  pub segment : Ready s I (w .main)
+  pub segment : Ready (s .layout) I (w .main)
   pub block : w .block < s .layout .blocks
   pub some : 1 ≤ length (w .bytes)
   pub span : w .offset + length (w .bytes) ≤ blockSize
+  pub word : dirtyWord s (w .main) < 2 ^ s .layout .blocks
 
 -- ---- the plan of the copy
 
--- the plan says whether main segment i is copied, whether it has a backup segment, and where it is copied to: to its own
--- backup segment, or to a free one
-pub record Planned (s : Session) (I : Image) (i : ℕ) (p : Plan) : Type 0 where
-  pub copies : p .copy ≡ needsCopy s I i
-  pub pairs : p .copy ≡ true → p .paired ≡ isPaired (s .layout) (backupToMain I) i
-  pub own : p .copy ≡ true → p .paired ≡ true → p .backup ≡ pairedBackup (s .layout) (backupToMain I) i
-  pub new : p .copy ≡ true → p .paired ≡ false → Choice (s .layout) (activeState I) (backupToMain I) (p .backup)
+-- where it copies to: its own backup segment is one of the layout's, a new one is free
+abbrev pub CopiesTo : Layout → Image → Plan → Type 0
+CopiesTo l I NoCopy = Unit {0}
+CopiesTo l I (OwnBackup j) = j < l .backups
+CopiesTo l I (NewBackup j) = Free l (activeState I) (backupToMain I) j
+CopiesTo l I NoneFree = Unit {0}
 
--- a new backup segment is wanted, and there is none
-unfoldable pub noneFree : Plan → ℕ → Bool
-noneFree p backups = p .copy && not (p .paired) && eqb (p .backup) backups
-
--- the operations of the copy, by the number of blocks and the word of dirty blocks
-unfoldable pub copyCount : Plan → ℕ → ℕ → ℕ
-copyCount p blocks word = cond (p .copy) (cond (p .paired) (36 * ones word + 4) (36 * blocks + 6)) 0
+-- the plan of a write to main segment i, with `backup` for the new backup segment, by any session with this layout and this
+-- word of dirty segments
+pub record Planned (l : Layout) (segments : ℕ) (I : Image) (i : ℕ) (p : Plan) : Type 0 where
+  pub backup : ℕ
+  pub plan : (words : List ℕ) → p ≡ copyPlan (sessionOf l segments words) I i backup
+  pub to : CopiesTo l I p
 
 -- ---- the operations
 
--- those of the copy, if there is one
-abbrev pub prepareOps : Session → Image → ℕ → ℕ → Ops
-prepareOps s I i j = cond (needsCopy s I i) (copyOnWriteOps s I i j) []
+-- bytes that are whole words, stored from a place on, upward
+abbrev pub wordStores : ℕ → List ℕ → Ops
+wordStores a bs = stores (length bs / wordSize) a (λ k. wordAt bs (wordSize * k))
 
 -- the words that a span of bytes at a place meets
 abbrev pub spanStores : Image → ℕ → List ℕ → Ops

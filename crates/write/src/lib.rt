@@ -1,31 +1,31 @@
 // Write (document 01: Write): the bytes of a span come to stand in a block of a main segment. Before its first store to a
-// segment that holds its checkpoint itself, the segment is copied to a backup segment (copy on write).
+// segment that holds its checkpoint itself, the segment is copied to a backup segment (copy on write). Every function
+// `put_..` writes its operations from number n on and answers the number of the next one.
 use model::Answer;
 use model::Layout;
+use model::Plan;
 use model::Session;
 use model::Status;
 ghost use mathlib.Core.Path.{_≡_};
-ghost use mathlib.Core.Bool.{true, cond, _||_};
-ghost use mathlib.Core.List.{[], _∷_, _++_};
-ghost use Prim.Native.Nat.{ℕ, _+_, _*_, _/_, _%_, _^_, _≤_, _<_};
-ghost use lib.Dec.{eqb, ltb};
+ghost use mathlib.Core.Bool.{cond};
+ghost use mathlib.Core.List.{List, [], _∷_, _++_};
+ghost use Prim.Native.Nat.{ℕ, _+_, _-_, _*_, _/_, _%_, _^_, _≤_, _<_};
 ghost use lib.ListN.{length};
-ghost use Rattle.model.specs.Words.{byteAt, wordOf, overlay};
-ghost use Rattle.model.specs.Layout.{mainAt, backupAt};
+ghost use Rattle.model.specs.Words.{Image, byteAt, wordOf, overlay};
+ghost use Rattle.model.specs.Layout.{most, lineSize, wordSize, blockSize, mainAt};
 ghost use Rattle.model.specs.Status.{codeOf, firstError};
-ghost use Rattle.model.specs.Container.{activeState};
-ghost use Rattle.model.specs.Session.{dirtyWord, withDirty, validSession};
-ghost use Rattle.model.specs.Ops.{sfence, storeByte, stores, wordPlace, Gives};
-ghost use Rattle.model.specs.Open.{copySegment};
-ghost use Rattle.model.specs.Write.{pairOps, copyDirty, backupOps, stateOps, spanWords, writeOutcome, Chosen};
-ghost use Rattle.model.specs.Counts.{dirtyCount};
-ghost use Rattle.trace.specs.Emit.{emit};
-ghost use Rattle.write.specs.Steps.{writeArgsOf, Writes, earlyErrors, lateErrors, Ready, ReadySpan, Planned, noneFree, copyCount, prepareOps, spanStores};
+ghost use Rattle.model.specs.Session.{withDirty};
+ghost use Rattle.model.specs.Ops.{Ops, Trace, sfence, storeByte, wordPlace};
+ghost use Rattle.model.specs.Outcome.{Gives};
+ghost use Rattle.model.specs.Write.{writeArgsOf, copies, noneFree, pairOps, backupOps, stateOps, copyOnWriteOps, spanWords, spanBad, writeOutcome, Chosen};
+ghost use Rattle.trace.specs.Emit.{Fits, Emitted};
+ghost use Rattle.session.specs.Parts.{sessionOf};
+ghost use Rattle.write.specs.Steps.{earlyErrors, lateErrors, Ready, CopiesTo, Planned, wordStores, spanStores};
 
-// Bytes of a word and of a line, as indexes count them.
+// Main segments at most, and bytes of a word, as indexes count them.
+const MOST: usize = Layout::MOST as usize;
+
 const WORD_SIZE: usize = Layout::WORD_SIZE as usize;
-
-const LINE_SIZE: usize = Layout::LINE_SIZE as usize;
 
 // States as bytes.
 const SS_MAIN: u8 = Layout::SS_MAIN as u8;
@@ -39,16 +39,6 @@ const BLOCK_OPS: u64 = Layout::BLOCK_WORDS + Layout::BLOCK_LINES;
 const PAIR_OPS: u64 = 2;
 
 const STATE_OPS: u64 = 4;
-
-// What a write does before its stores.
-pub struct Plan {
-    // The main segment is copied to a backup segment.
-    pub copy: bool,
-    // It has that backup segment already.
-    pub paired: bool,
-    // That backup segment, or the number of backup segments where none is free; 0 where nothing is copied.
-    pub backup: u64,
-}
 
 // ---- bytes laid over an image
 
@@ -98,273 +88,236 @@ pub fn span_word(image: &[u8], at: usize, bytes: &[u8], place: usize) -> u64
     overlaid_word(image, at, bytes, place)
 }
 
-// Stores one byte in its word, as operation n.
-pub fn put_byte(image: &[u8], at: usize, byte: u8, trace: &mut [u64], n: usize)
-    requires { ⌜ wordPlace at + 8 ≤ length (now image) ⌝ }
-    requires { ⌜ 3 * (n + 1) ≤ length (now trace) ⌝ }
-    ensures { λ _. ⌜ now (trace .exit) ≡ emit (now (trace .entry)) n (storeByte (now (image .entry)) at byte ∷ []) ⌝ }
+// Stores one byte in its word.
+pub fn put_byte(image: &[u8], at: usize, byte: u8, trace: &mut [u64], n: usize) -> usize
+    requires { ⌜ wordPlace at + wordSize ≤ length (now image) ⌝ }
+    requires { ⌜ Fits (now trace) n (storeByte (now image) at byte ∷ []) ⌝ }
+    ensures { λ r. ⌜ Emitted (now (trace .entry)) n (storeByte (now (image .entry)) at byte ∷ []) (now (trace .exit)) r ⌝ }
 {
     let place = WORD_SIZE * (at / WORD_SIZE);
     let one = [byte];
     let word = overlaid_word(image, at, &one, place);
-    trace::put_store(trace, n, place as u64, word);
+    trace::put_store(trace, n, place as u64, word)
 }
 
 // ---- the span
 
 // How many words a span meets.
 pub fn span_words(at: usize, len: usize) -> usize
-    requires { ⌜ (1 ≤ len) × (at + len ≤ 4294967296) ⌝ }
+    requires { ⌜ (1 ≤ len) × (at + len ≤ 2 ^ 32) ⌝ }
     ensures { λ r. ⌜ r ≡ spanWords at len ⌝ }
 {
     (at + len - 1) / WORD_SIZE - at / WORD_SIZE + 1
 }
 
+// How many blocks a span meets.
+pub fn span_blocks(offset: u64, len: usize) -> u64
+    requires { ⌜ (1 ≤ len) × (offset + len ≤ 2 ^ 32) ⌝ }
+    ensures { λ r. ⌜ r ≡ (offset + len - 1) / blockSize + 1 ⌝ }
+{
+    (offset + len as u64 - 1) / Layout::BLOCK_SIZE + 1
+}
+
 // Where a span starts in the image.
 pub fn span_at(layout: Layout, main: u64, block: u64, offset: u64) -> usize
-    requires { ⌜ (main < 64) × (layout .blocks ≤ 64) × (block < layout .blocks) × (offset ≤ 256) ⌝ }
-    ensures { λ r. ⌜ r ≡ mainAt layout main + (256 * block + offset) ⌝ }
+    requires { ⌜ (main < most) × (layout .blocks ≤ most) × (block < layout .blocks) × (offset ≤ blockSize) ⌝ }
+    ensures { λ r. ⌜ r ≡ mainAt layout main + (blockSize * block + offset) ⌝ }
 {
     metadata::main_at(layout, main) + (Layout::BLOCK_SIZE * block + offset) as usize
 }
 
-// Stores bytes that are whole words, upward, from the start of a word on; they are not written back. What they are laid over
-// does not matter.
-pub fn put_words(at: usize, bytes: &[u8], trace: &mut [u64], n: usize)
-    requires { ⌜ at + length (now bytes) ≤ 4294967296 ⌝ }
-    requires { ⌜ 3 * (n + length (now bytes) / 8) ≤ length (now trace) ⌝ }
-    ensures { λ _. ⌜ ((f : ℕ → ℕ) → now (trace .exit) ≡ emit (now (trace .entry)) n (stores (length (now (bytes .entry)) / 8) at (λ k. wordOf (overlay f at (now (bytes .entry))) (at + 8 * k)))) ⌝ }
+// Stores bytes that are whole words from a place on, upward; they are not written back.
+pub fn put_words(at: usize, bytes: &[u8], trace: &mut [u64], n: usize) -> usize
+    requires { ⌜ at + length (now bytes) ≤ 2 ^ 32 ⌝ }
+    requires { ⌜ Fits (now trace) n (wordStores at (now bytes)) ⌝ }
+    ensures { λ r. ⌜ Emitted (now (trace .entry)) n (wordStores at (now (bytes .entry))) (now (trace .exit)) r ⌝ }
 {
     let count = bytes.len() / WORD_SIZE;
+    let mut next = n;
     let mut k: usize = 0;
     while k < count {
         let from = WORD_SIZE * k;
-        trace::put_store(
-            trace,
-            n + k,
-            (at + from) as u64,
-            words::word_at(bytes, from),
-        );
+        next = trace::put_store(trace, next, (at + from) as u64, words::word_at(bytes, from));
         k += 1;
     }
+    next
 }
 
-// Stores the words that a span meets, upward, with the bytes laid over what stands there; they are not written back. The
-// number of operations then on the trace.
+// Stores the words that a span meets, upward, with the bytes laid over what stands there; they are not written back.
 pub fn put_span(image: &[u8], at: usize, bytes: &[u8], trace: &mut [u64], n: usize) -> usize
     requires { ⌜ (1 ≤ length (now bytes)) × (at + length (now bytes) ≤ length (now image)) ⌝ }
-    requires { ⌜ (length (now image) % 64 ≡ 0) × (length (now image) ≤ 2097664) ⌝ }
-    requires { ⌜ 3 * (n + spanWords at (length (now bytes))) ≤ length (now trace) ⌝ }
-    ensures { λ _. ⌜ now (trace .exit) ≡ emit (now (trace .entry)) n (spanStores (now (image .entry)) at (now (bytes .entry))) ⌝ }
-    ensures { λ r. ⌜ r ≡ n + spanWords at (length (now (bytes .entry))) ⌝ }
+    requires { ⌜ (length (now image) % lineSize ≡ 0) × (length (now image) ≤ 2097664) ⌝ }
+    requires { ⌜ Fits (now trace) n (spanStores (now image) at (now bytes)) ⌝ }
+    ensures { λ r. ⌜ Emitted (now (trace .entry)) n (spanStores (now (image .entry)) at (now (bytes .entry))) (now (trace .exit)) r ⌝ }
 {
-    let count = span_words(at, bytes.len());
     if (at % WORD_SIZE == 0) & (bytes.len() % WORD_SIZE == 0) {
-        put_words(at, bytes, trace, n);
-        return n + count;
+        return put_words(at, bytes, trace, n);
     }
+    let count = span_words(at, bytes.len());
     let start = WORD_SIZE * (at / WORD_SIZE);
+    let mut next = n;
     let mut k: usize = 0;
     while k < count {
         let place = start + WORD_SIZE * k;
-        trace::put_store(
+        next = trace::put_store(
             trace,
-            n + k,
+            next,
             place as u64,
             span_word(image, at, bytes, place),
         );
         k += 1;
     }
-    n + count
+    next
 }
 
 // ---- the plan
 
 // Whether a main segment is to be copied, and to which backup segment: its own, or the lowest that is unpaired, else the
 // lowest that is free.
-pub fn plan_copy(image: &[u8], session: Session, main: u64) -> Plan
-    requires { ⌜ Ready session (now image) main ⌝ }
-    ensures { λ r. ⌜ Planned session (now (image .entry)) main r ⌝ }
+pub fn plan_copy(image: &[u8], layout: Layout, segments: u64, main: u64) -> Plan
+    requires { ⌜ Ready layout (now image) main ⌝ }
+    ensures { λ r. ⌜ Planned layout segments (now (image .entry)) main r ⌝ }
 {
-    let layout = session.layout;
     let active = metadata::active_at(image);
-    let dirty = session::is_dirty(session.dirty_segments, main);
+    let dirty = session::is_dirty(segments, main);
     let state = image[active + main as usize];
     if dirty | (state != SS_MAIN) {
-        return Plan {
-            copy: false,
-            paired: false,
-            backup: 0,
-        };
+        return Plan::NoCopy;
     }
     let own = metadata::find_paired_backup(image, layout, main);
     if own < layout.backups {
-        return Plan {
-            copy: true,
-            paired: true,
-            backup: own,
-        };
+        return Plan::OwnBackup(own);
     }
-    Plan {
-        copy: true,
-        paired: false,
-        backup: metadata::find_free_backup(image, layout, active),
+    let new = metadata::find_free_backup(image, layout);
+    if new < layout.backups {
+        return Plan::NewBackup(new);
+    }
+    Plan::NoneFree
+}
+
+// Whether the plan copies the segment.
+pub fn has_copy(plan: Plan) -> bool
+    ensures { λ r. ⌜ r ≡ copies plan ⌝ }
+{
+    match plan {
+        Plan::NoCopy => false,
+        Plan::OwnBackup(_) => true,
+        Plan::NewBackup(_) => true,
+        Plan::NoneFree => false,
     }
 }
 
-// Whether a new backup segment is wanted and none is free.
-pub fn none_free(plan: Plan, backups: u64) -> bool
-    ensures { λ r. ⌜ r ≡ noneFree plan backups ⌝ }
+// Whether a new backup segment is needed and none is free.
+pub fn none_free(plan: Plan) -> bool
+    ensures { λ r. ⌜ r ≡ noneFree plan ⌝ }
 {
-    plan.copy & !plan.paired & (plan.backup == backups)
+    match plan {
+        Plan::NoCopy => false,
+        Plan::OwnBackup(_) => false,
+        Plan::NewBackup(_) => false,
+        Plan::NoneFree => true,
+    }
 }
 
-// How many operations the copy is, by the number of blocks and the word of dirty blocks.
-pub fn copy_count(plan: Plan, blocks: u64, word: u64) -> u64
-    requires { ⌜ blocks ≤ 64 ⌝ }
-    ensures { λ r. ⌜ (r ≡ copyCount plan blocks word) × (r ≤ 2310) ⌝ }
+// How many operations the copy is (document 01: what a write writes), by the layout and the word of dirty blocks.
+pub fn copy_count(plan: Plan, layout: Layout, word: u64) -> u64
+    requires { ⌜ (layout .blocks ≤ most) × (word < 2 ^ layout .blocks) ⌝ }
+    ensures { λ r. ⌜ ((I : Image) (i : ℕ) → r ≡ length (copyOnWriteOps layout I word i plan)) × (r ≤ 2 ^ 32) ⌝ }
 {
-    if !plan.copy {
-        return 0;
+    match plan {
+        Plan::NoCopy => 0,
+        Plan::OwnBackup(_) => BLOCK_OPS * session::dirty_count(word) + STATE_OPS,
+        Plan::NewBackup(_) => BLOCK_OPS * layout.blocks + (PAIR_OPS + STATE_OPS),
+        Plan::NoneFree => 0,
     }
-    if plan.paired {
-        return BLOCK_OPS * session::dirty_count(word) + STATE_OPS;
-    }
-    BLOCK_OPS * blocks + (PAIR_OPS + STATE_OPS)
 }
 
 // ---- the copy
 
 // Gives backup segment `backup` the main segment `main`: its pair byte is stored in its word and written back.
-pub fn put_pair(image: &[u8], main: u64, backup: u64, trace: &mut [u64], n: usize)
-    requires { ⌜ (main < 64) × (backup < 64) × (320 ≤ length (now image)) ⌝ }
-    requires { ⌜ 3 * (n + 2) ≤ length (now trace) ⌝ }
-    ensures { λ _. ⌜ now (trace .exit) ≡ emit (now (trace .entry)) n (pairOps (now (image .entry)) main backup) ⌝ }
+pub fn put_pair(image: &[u8], main: u64, backup: u64, trace: &mut [u64], n: usize) -> usize
+    requires { ⌜ (main < most) × (backup < most) × (320 ≤ length (now image)) ⌝ }
+    requires { ⌜ Fits (now trace) n (pairOps (now image) main backup) ⌝ }
+    ensures { λ r. ⌜ Emitted (now (trace .entry)) n (pairOps (now (image .entry)) main backup) (now (trace .exit)) r ⌝ }
 {
     let pair = (Layout::PAIRS_AT + backup) as usize;
-    put_byte(image, pair, main as u8, trace, n);
-    trace::put_clwb(trace, n + 1, Layout::PAIRS_AT);
+    let next = put_byte(image, pair, main as u8, trace, n);
+    trace::put_clwb(trace, next, Layout::PAIRS_AT)
 }
 
 // A fence; state 2 for a main segment stored on the active line of states and written back; a fence.
-pub fn put_state(image: &[u8], main: u64, trace: &mut [u64], n: usize)
-    requires { ⌜ (main < 64) × (256 ≤ length (now image)) ⌝ }
-    requires { ⌜ 3 * (n + 4) ≤ length (now trace) ⌝ }
-    ensures { λ _. ⌜ now (trace .exit) ≡ emit (now (trace .entry)) n (sfence ∷ stateOps (now (image .entry)) main ++ sfence ∷ []) ⌝ }
+pub fn put_state(image: &[u8], main: u64, trace: &mut [u64], n: usize) -> usize
+    requires { ⌜ (main < most) × (256 ≤ length (now image)) ⌝ }
+    requires { ⌜ Fits (now trace) n (sfence ∷ stateOps (now image) main ++ sfence ∷ []) ⌝ }
+    ensures { λ r. ⌜ Emitted (now (trace .entry)) n (sfence ∷ stateOps (now (image .entry)) main ++ sfence ∷ []) (now (trace .exit)) r ⌝ }
 {
     let active = metadata::active_at(image);
     let state = active + main as usize;
-    let store = n + 1;
-    trace::put_sfence(trace, n);
-    put_byte(image, state, SS_BACKUP, trace, store);
-    trace::put_clwb(trace, n + 2, active as u64);
-    trace::put_sfence(trace, n + 3);
+    let store = trace::put_sfence(trace, n);
+    let clwb = put_byte(image, state, SS_BACKUP, trace, store);
+    let fence = trace::put_clwb(trace, clwb, active as u64);
+    trace::put_sfence(trace, fence)
 }
 
-// Copies the dirty blocks of a main segment to its backup segment. The number of operations then on the trace.
-pub fn put_dirty(
-    image: &[u8],
-    session: Session,
-    main: u64,
-    backup: u64,
-    trace: &mut [u64],
-    n: usize,
-) -> usize
-    requires { ⌜ Ready session (now image) main ⌝ }
-    requires { ⌜ backup < session .layout .backups ⌝ }
-    requires { ⌜ 3 * (n + 36 * dirtyCount session main) ≤ length (now trace) ⌝ }
-    ensures { λ _. ⌜ now (trace .exit) ≡ emit (now (trace .entry)) n (copyDirty session (now (image .entry)) main backup) ⌝ }
-    ensures { λ r. ⌜ r ≡ n + 36 * dirtyCount session main ⌝ }
-{
-    let layout = session.layout;
-    let i = main as usize;
-    let from = metadata::main_at(layout, main);
-    let to = metadata::backup_at(layout, backup);
-    blocks::copy_dirty_blocks(
-        image,
-        layout.blocks,
-        session.dirty_blocks[i],
-        from,
-        to,
-        trace,
-        n,
-    )
-}
-
-// Gives a main segment a backup segment and copies it there whole. The number of operations then on the trace.
-pub fn put_whole(
-    image: &[u8],
-    session: Session,
-    main: u64,
-    backup: u64,
-    trace: &mut [u64],
-    n: usize,
-) -> usize
-    requires { ⌜ Ready session (now image) main ⌝ }
-    requires { ⌜ backup < session .layout .backups ⌝ }
-    requires { ⌜ 3 * (n + (36 * session .layout .blocks + 2)) ≤ length (now trace) ⌝ }
-    ensures { λ _. ⌜ now (trace .exit) ≡ emit (now (trace .entry)) n (pairOps (now (image .entry)) main backup ++ copySegment (session .layout) (now (image .entry)) (mainAt (session .layout) main) (backupAt (session .layout) backup)) ⌝ }
-    ensures { λ r. ⌜ r ≡ n + (36 * session .layout .blocks + 2) ⌝ }
-{
-    let layout = session.layout;
-    let from = metadata::main_at(layout, main);
-    let to = metadata::backup_at(layout, backup);
-    put_pair(image, main, backup, trace, n);
-    blocks::copy_segment(image, layout, from, to, trace, n + PAIR_OPS as usize);
-    n + (BLOCK_OPS * layout.blocks + PAIR_OPS) as usize
-}
-
-// Makes the bytes of a main segment stand in the plan's backup segment. The number of operations then on the trace.
+// Makes the bytes of a main segment stand in the plan's backup segment: its dirty blocks in its own, all in a new one, which
+// is given to it first.
 pub fn put_backup(
     image: &[u8],
-    session: Session,
+    layout: Layout,
+    word: u64,
     main: u64,
     plan: Plan,
     trace: &mut [u64],
     n: usize,
 ) -> usize
-    requires { ⌜ Ready session (now image) main ⌝ }
-    requires { ⌜ Planned session (now image) main plan ⌝ }
-    requires { ⌜ (plan .copy ≡ true) × (plan .backup < session .layout .backups) ⌝ }
-    requires { ⌜ 3 * (n + length (backupOps session (now image) main (plan .backup))) ≤ length (now trace) ⌝ }
-    ensures { λ _. ⌜ now (trace .exit) ≡ emit (now (trace .entry)) n (backupOps session (now (image .entry)) main (plan .backup)) ⌝ }
-    ensures { λ r. ⌜ r ≡ n + length (backupOps session (now (image .entry)) main (plan .backup)) ⌝ }
+    requires { ⌜ Ready layout (now image) main ⌝ }
+    requires { ⌜ CopiesTo layout (now image) plan ⌝ }
+    requires { ⌜ Fits (now trace) n (backupOps layout (now image) word main plan) ⌝ }
+    ensures { λ r. ⌜ Emitted (now (trace .entry)) n (backupOps layout (now (image .entry)) word main plan) (now (trace .exit)) r ⌝ }
 {
-    if plan.paired {
-        return put_dirty(image, session, main, plan.backup, trace, n);
+    let from = metadata::main_at(layout, main);
+    match plan {
+        Plan::NoCopy => n,
+        Plan::OwnBackup(j) => {
+            let to = metadata::backup_at(layout, j);
+            blocks::put_dirty_copies(image, layout.blocks, word, from, to, trace, n)
+        }
+        Plan::NewBackup(j) => {
+            let to = metadata::backup_at(layout, j);
+            let next = put_pair(image, main, j, trace, n);
+            blocks::put_segment_copy(image, layout, from, to, trace, next)
+        }
+        Plan::NoneFree => n,
     }
-    put_whole(image, session, main, plan.backup, trace, n)
 }
 
-// Copy on write, if the plan has a copy: the backup, a fence, state 2, a fence. The number of operations then on the trace.
+// Copy on write, if the plan copies: the backup, a fence, state 2, a fence.
 pub fn put_copy(
     image: &[u8],
-    session: Session,
+    layout: Layout,
+    word: u64,
     main: u64,
     plan: Plan,
     trace: &mut [u64],
     n: usize,
 ) -> usize
-    requires { ⌜ Ready session (now image) main ⌝ }
-    requires { ⌜ Planned session (now image) main plan ⌝ }
-    requires { ⌜ (plan .copy ≡ true → plan .backup < session .layout .backups) ⌝ }
-    requires { ⌜ 3 * (n + length (prepareOps session (now image) main (plan .backup))) ≤ length (now trace) ⌝ }
-    ensures { λ _. ⌜ now (trace .exit) ≡ emit (now (trace .entry)) n (prepareOps session (now (image .entry)) main (plan .backup)) ⌝ }
-    ensures { λ r. ⌜ r ≡ n + length (prepareOps session (now (image .entry)) main (plan .backup)) ⌝ }
+    requires { ⌜ Ready layout (now image) main ⌝ }
+    requires { ⌜ CopiesTo layout (now image) plan ⌝ }
+    requires { ⌜ Fits (now trace) n (copyOnWriteOps layout (now image) word main plan) ⌝ }
+    ensures { λ r. ⌜ Emitted (now (trace .entry)) n (copyOnWriteOps layout (now (image .entry)) word main plan) (now (trace .exit)) r ⌝ }
 {
-    if !plan.copy {
+    if !has_copy(plan) {
         return n;
     }
-    let next = put_backup(image, session, main, plan, trace, n);
-    put_state(image, main, trace, next);
-    next + STATE_OPS as usize
+    let next = put_backup(image, layout, word, main, plan, trace, n);
+    put_state(image, main, trace, next)
 }
 
 // ---- refusals
 
 // Whether a span is empty or leaves its block.
-pub fn span_bad(offset: u64, len: usize) -> bool
-    ensures { λ r. ⌜ r ≡ (eqb len 0 || ltb 256 (offset + len)) ⌝ }
+pub fn span_bad(layout: Layout, block: u64, offset: u64, len: usize) -> bool
+    ensures { λ r. ⌜ ((main : ℕ) (bytes : List ℕ) → length bytes ≡ len → r ≡ spanBad layout (writeArgsOf main block offset bytes)) ⌝ }
 {
     if len == 0 {
         return true;
@@ -375,141 +328,91 @@ pub fn span_bad(offset: u64, len: usize) -> bool
     Layout::BLOCK_SIZE - offset < len as u64
 }
 
-// Whether the session is valid by the active line of states.
-pub fn session_fits(image: &[u8], session: Session) -> bool
-    requires { ⌜ (1 ≤ session .layout .mains) × (session .layout .mains ≤ 64) × (1 ≤ session .layout .blocks) × (session .layout .blocks ≤ 64) ⌝ }
-    requires { ⌜ 256 ≤ length (now image) ⌝ }
-    ensures { λ r. ⌜ r ≡ validSession session (activeState (now (image .entry))) ⌝ }
-{
-    let active = metadata::active_at(image);
-    session::session_valid(session, &image[active..active + LINE_SIZE])
-}
-
-// The number of the first of refusals 1 to 8 that applies, or 0.
+// The first of refusals 1 to 8 that applies, for the session of these parts.
 pub fn early_status(
     image: &[u8],
-    session: Session,
+    layout: Layout,
+    segments: u64,
+    words: &[u64; MOST],
     main: u64,
     block: u64,
     offset: u64,
     bytes: &[u8],
-) -> u64
-    ensures { λ r. ⌜ r ≡ firstError (earlyErrors session (now (image .entry)) (writeArgsOf main block offset (now (bytes .entry)))) ⌝ }
+) -> Status
+    ensures { λ r. ⌜ codeOf r ≡ firstError (earlyErrors (sessionOf layout segments (now (words .entry))) (now (image .entry)) (writeArgsOf main block offset (now (bytes .entry)))) ⌝ }
 {
-    let layout = session.layout;
-    let container = metadata::container_status(image, layout);
-    if container != 0 {
-        return container;
-    }
-    if !session_fits(image, session) {
-        return 5;
+    let context = session::context_status(image, layout, segments, words);
+    if !context.is_served() {
+        return context;
     }
     if layout.mains <= main {
-        return 6;
+        return Status::NoSuchMain;
     }
     if layout.blocks <= block {
-        return 7;
+        return Status::NoSuchBlock;
     }
-    if span_bad(offset, bytes.len()) {
-        return 8;
+    if span_bad(layout, block, offset, bytes.len()) {
+        return Status::BadSpan;
     }
-    0
+    Status::Served
 }
 
-// The number of the first of refusals 9 and 11 that applies, or 0, for a word of dirty blocks and a trace of `room` numbers.
-pub fn late_status(layout: Layout, word: u64, plan: Plan, at: usize, len: usize, room: usize) -> u64
-    requires { ⌜ (layout .blocks ≤ 64) × (1 ≤ len) × (at + len ≤ 2097664) ⌝ }
-    ensures { λ r. ⌜ r ≡ firstError (lateErrors (noneFree plan (layout .backups)) (ltb room (3 * (copyCount plan (layout .blocks) word + spanWords at len)))) ⌝ }
+// The first of refusals 9 and 11 that applies, for so many operations and a trace of `room` numbers.
+pub fn late_status(plan: Plan, ops: u64, room: usize) -> Status
+    requires { ⌜ ops ≤ 2 ^ 33 ⌝ }
+    ensures { λ r. ⌜ ((O : Ops) (t : Trace) → length O ≡ ops → length t ≡ room → codeOf r ≡ firstError (lateErrors plan O t)) ⌝ }
 {
-    if none_free(plan, layout.backups) {
-        return 9;
+    if none_free(plan) {
+        return Status::NoFreeBackup;
     }
-    let copied = copy_count(plan, layout.blocks, word) as usize;
-    if room < 3 * (copied + span_words(at, len)) {
-        return 11;
+    if (room as u64) < 3 * ops {
+        return Status::TraceShort;
     }
-    0
+    Status::Served
 }
 
 // ---- the call
 
-// The answer of a refused call.
-pub fn refuse(code: u64, session: Session) -> Answer
-    requires { ⌜ code ≤ 12 ⌝ }
-    ensures { λ r. ⌜ (codeOf (r .status) ≡ code) × (r .session ≡ session) × (r .ops ≡ 0) ⌝ }
+// The session after a write to `count` blocks, from a block on, of a main segment whose word of dirty blocks was `word`: a
+// copy clears the dirty blocks of the segment; then the segment and these blocks are dirty.
+pub fn written_session(
+    session: Session,
+    plan: Plan,
+    word: u64,
+    main: u64,
+    block: u64,
+    count: u64,
+) -> Session
+    requires { ⌜ (main < most) × (1 ≤ count) × (block + count ≤ session .layout .blocks) × (session .layout .blocks ≤ most) ⌝ }
+    requires { ⌜ word < 2 ^ session .layout .blocks ⌝ }
+    ensures { λ r. ⌜ r ≡ withDirty session main block count (cond (copies plan) 0 word) ⌝ }
 {
-    let status = Status::of(code);
-    Answer {
-        status: status,
-        session: session,
-        ops: 0,
-    }
-}
-
-// The session after a write to a main segment whose word of dirty blocks was `word`: a copy clears the dirty blocks of the
-// segment; then segment and block are dirty.
-pub fn written_session(session: Session, word: u64, copied: bool, main: u64, block: u64) -> Session
-    requires { ⌜ (main < 64) × (block < session .layout .blocks) × (session .layout .blocks ≤ 64) ⌝ }
-    requires { ⌜ (word ≡ dirtyWord session main) × (word < 2 ^ session .layout .blocks) ⌝ }
-    ensures { λ r. ⌜ r ≡ withDirty session main block (cond copied 0 (dirtyWord session main)) ⌝ }
-{
-    if copied {
+    if has_copy(plan) {
         let cleared = session::clear_blocks(word, session.layout.blocks);
-        return session::with_dirty(session, main, block, cleared);
+        return session::with_dirty(session, main, block, count, cleared);
     }
-    session::with_dirty(session, main, block, word)
+    session::with_dirty(session, main, block, count, word)
 }
 
-// The operations of a write: the copy, and then the span. Their number.
+// The operations of a write: the copy, and then the span.
 pub fn put_write(
     image: &[u8],
-    session: Session,
+    layout: Layout,
+    word: u64,
     main: u64,
     plan: Plan,
     at: usize,
     bytes: &[u8],
     trace: &mut [u64],
 ) -> usize
-    requires { ⌜ Ready session (now image) main ⌝ }
-    requires { ⌜ Planned session (now image) main plan ⌝ }
-    requires { ⌜ (plan .copy ≡ true → plan .backup < session .layout .backups) ⌝ }
+    requires { ⌜ Ready layout (now image) main ⌝ }
+    requires { ⌜ CopiesTo layout (now image) plan ⌝ }
     requires { ⌜ (1 ≤ length (now bytes)) × (at + length (now bytes) ≤ length (now image)) ⌝ }
-    requires { ⌜ 3 * (length (prepareOps session (now image) main (plan .backup)) + spanWords at (length (now bytes))) ≤ length (now trace) ⌝ }
-    ensures { λ _. ⌜ now (trace .exit) ≡ emit (now (trace .entry)) 0 (prepareOps session (now (image .entry)) main (plan .backup) ++ spanStores (now (image .entry)) at (now (bytes .entry))) ⌝ }
-    ensures { λ r. ⌜ r ≡ length (prepareOps session (now (image .entry)) main (plan .backup) ++ spanStores (now (image .entry)) at (now (bytes .entry))) ⌝ }
+    requires { ⌜ Fits (now trace) 0 (copyOnWriteOps layout (now image) word main plan ++ spanStores (now image) at (now bytes)) ⌝ }
+    ensures { λ r. ⌜ Emitted (now (trace .entry)) 0 (copyOnWriteOps layout (now (image .entry)) word main plan ++ spanStores (now (image .entry)) at (now (bytes .entry))) (now (trace .exit)) r ⌝ }
 {
-    let next = put_copy(image, session, main, plan, trace, 0);
+    let next = put_copy(image, layout, word, main, plan, trace, 0);
     put_span(image, at, bytes, trace, next)
-}
-
-// A write that refusals 1 to 8 leave.
-pub fn write_checked(
-    image: &[u8],
-    session: Session,
-    main: u64,
-    block: u64,
-    offset: u64,
-    bytes: &[u8],
-    trace: &mut [u64],
-) -> Answer
-    requires { ⌜ ReadySpan session (now image) (writeArgsOf main block offset (now bytes)) ⌝ }
-    ensures { λ r. ⌜ Writes session (now (image .entry)) (writeArgsOf main block offset (now (bytes .entry))) (now (trace .entry)) r (now (trace .exit)) ⌝ }
-{
-    let plan = plan_copy(image, session, main);
-    let at = span_at(session.layout, main, block, offset);
-    let i = main as usize;
-    let word = session.dirty_blocks[i];
-    let late = late_status(session.layout, word, plan, at, bytes.len(), trace.len());
-    if late != 0 {
-        return refuse(late, session);
-    }
-    let ops = put_write(image, session, main, plan, at, bytes, trace);
-    let next = written_session(session, word, plan.copy, main, block);
-    Answer {
-        status: Status::Served,
-        session: next,
-        ops: ops as u64,
-    }
 }
 
 // Write: puts the bytes into a block of a main segment, from an offset on. The operations stand on the trace; the answer
@@ -525,9 +428,24 @@ pub fn crpm_write(
 ) -> Answer
     ensures { λ r. ⌜ ((j : ℕ) × Chosen session (now (image .entry)) (writeArgsOf main block offset (now (bytes .entry))) (now (trace .entry)) j × Gives (writeOutcome session (now (image .entry)) (writeArgsOf main block offset (now (bytes .entry))) j (now (trace .entry))) (now (trace .entry)) r (now (trace .exit))) ⌝ }
 {
-    let early = early_status(image, session, main, block, offset, bytes);
-    if early != 0 {
-        return refuse(early, session);
+    let layout = session.layout;
+    let segments = session.dirty_segments;
+    let words = &session.dirty_blocks;
+    let early = early_status(image, layout, segments, words, main, block, offset, bytes);
+    if !early.is_served() {
+        return Answer::refused(early, session);
     }
-    write_checked(image, session, main, block, offset, bytes, trace)
+    let i = main as usize;
+    let word = session.dirty_blocks[i];
+    let plan = plan_copy(image, layout, segments, main);
+    let at = span_at(layout, main, block, offset);
+    let ops = copy_count(plan, layout, word) + span_words(at, bytes.len()) as u64;
+    let late = late_status(plan, ops, trace.len());
+    if !late.is_served() {
+        return Answer::refused(late, session);
+    }
+    put_write(image, layout, word, main, plan, at, bytes, trace);
+    let count = span_blocks(offset, bytes.len());
+    let next = written_session(session, plan, word, main, block, count);
+    Answer::served(next, ops)
 }

@@ -1,13 +1,19 @@
+use Prim.Native.Nat.{ℕ, _+_, _*_}
+use mathlib.Core.Path.{sym, ap, _∙_}
 use native.Mathlib.Omega.{arith}
-use borrow.Author.Tests.{not-true, not-false}
+use lib.ListN.{length}
 use borrow.Author.Needs.{needs}
-use Rattle.write.specs.Steps.{copyCount}
+use Rattle.model.specs.declared.Plan.{Plan}
+use Rattle.model.specs.Write.{copies, copyOnWriteOps}
+use Rattle.write.proofs.CopyLaws.{count-none, count-own, count-new}
 use Rattle.write.proofs.copy_count.Statement.{statement}
 use Rattle.write.proofs.copy_count.Tie as tie
 
-returns : tie.Need-returns
-unfolding copyCount
-returns c = let p = c .before .before .args .plan in (rw (not-true (p .copy) (c .if1 .taken)), omega arith)
+enum-told : tie.Need-enum-told
+enum-told c = search needs
+
+enum-told-2 : tie.Need-enum-told-2
+enum-told-2 c = search needs
 
 dirty-count-requires : tie.Need-dirty-count-requires
 dirty-count-requires c κs = search needs
@@ -18,9 +24,8 @@ mul-result c = search needs
 add-result : tie.Need-add-result
 add-result c = search needs
 
-returns-2 : tie.Need-returns-2
-unfolding copyCount
-returns-2 c = let p = c .before .before .before .before .args .plan in (rw (not-false (p .copy) (c .before .before .if1 .left), c .before .if2 .taken) (omega arith), omega arith)
+enum-told-3 : tie.Need-enum-told-3
+enum-told-3 c = search needs
 
 mul-result-2 : tie.Need-mul-result-2
 mul-result-2 c = search needs
@@ -31,20 +36,46 @@ add-result-2 c = search needs
 add-result-3 : tie.Need-add-result-3
 add-result-3 c = search needs
 
+enum-told-4 : tie.Need-enum-told-4
+enum-told-4 c = search needs
+
+returns : tie.Need-returns
+returns c = let a = c .before .before .args in (λ I i. count-none (a .layout) I (a .word) i (a .plan) (ap copies (c .enum-told .given .1)), omega arith)
+
+returns-2 : tie.Need-returns-2
+returns-2 c =
+    let b = c .before .before .before in
+    let a = b .args in (
+      λ I i. ap (λ (n : ℕ). 36 * n + 4) (c .dirty-count .ensures .0) ∙ count-own (a .layout) I (a .word) i _ (b .pre .1)
+          ∙ ap (λ (p : Plan). length (copyOnWriteOps (a .layout) I (a .word) i p)) (sym (c .before .enum-told2 .given .1)),
+      omega arith,
+    )
+
 returns-3 : tie.Need-returns-3
-unfolding copyCount
-returns-3 c = let p = c .before .before .before .args .plan in (rw (not-false (p .copy) (c .before .if1 .left), c .if2 .left), omega arith)
+returns-3 c =
+    let a = c .before .before .before .args in (
+      λ I i. count-new (a .layout) I (a .word) i _ ∙ ap (λ (p : Plan). length (copyOnWriteOps (a .layout) I (a .word) i p)) (sym (c .before .enum-told3 .given .1)),
+      omega arith,
+    )
+
+returns-4 : tie.Need-returns-4
+returns-4 c = let a = c .before .before .args in (λ I i. count-none (a .layout) I (a .word) i (a .plan) (ap copies (c .enum-told4 .given .1)), omega arith)
 
 pub copy-count-spec : {M : Type 1} → statement M
 copy-count-spec =
     tie.close
     (tie.spec
-    returns
+    enum-told
+    enum-told-2
     dirty-count-requires
     mul-result
     add-result
-    returns-2
+    enum-told-3
     mul-result-2
     add-result-2
     add-result-3
-    returns-3)
+    enum-told-4
+    returns
+    returns-2
+    returns-3
+    returns-4)

@@ -1,21 +1,26 @@
 use Prim.Native.Nat.{_+_}
-use mathlib.Core.Path.{sym}
+use mathlib.Core.Path.{sym, _∙_}
 use native.Mathlib.Omega.{arith}
 use lib.Dec.{eqb}
+use lib.ListN.{length}
 use borrow.Author.Tests.{lt-ltb, eq-eqb, ne-eqb}
+use Rattle.model.specs.Write.{spanBad}
 use Rattle.model.proofs.Range.{or-left, or-right}
 use Rattle.write.proofs.SpanLaws.{span-over}
 use Rattle.write.proofs.span_bad.Statement.{statement}
 use Rattle.write.proofs.span_bad.Tie as tie
 
 returns : tie.Need-returns
-returns c = sym (or-left _ (eq-eqb _ _ (c .if1 .taken)))
+unfolding spanBad
+returns c = λ main bytes x. sym (or-left _ (eq-eqb _ _ (x ∙ c .if1 .taken)))
 
 returns-2 : tie.Need-returns-2
-returns-2 c = let a = c .before .before .args in sym (or-right (eqb (a .len) 0) (lt-ltb 256 (a .offset + a .len) (omega arith)))
+unfolding spanBad
+returns-2 c = λ main bytes x. let a = c .before .before .args in sym (or-right (eqb (length bytes) 0) (lt-ltb 256 (a .offset + length bytes) (omega (arith, x))))
 
 returns-3 : tie.Need-returns-3
-returns-3 c = let a = c .before .before .args in rw (ne-eqb (a .len) 0 (c .before .if1 .left)) (span-over (a .offset) (a .len) (omega arith))
+unfolding spanBad
+returns-3 c = λ main bytes x. let a = c .before .before .args in rw (x, ne-eqb (a .len) 0 (c .before .if1 .left)) (span-over (a .offset) (a .len) (omega arith))
 
 pub span-bad-spec : {M : Type 1} → statement M
 span-bad-spec = tie.close (tie.spec returns returns-2 returns-3)
