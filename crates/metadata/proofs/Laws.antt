@@ -406,13 +406,9 @@ valid-by-scan l st pr r a b c m s p q t =
     paired : (i : ℕ) → i < l .mains → ltb (getD (r .backup) i 0) (l .backups) ≡ isPaired l pr i
     paired i h = ap (λ (n : ℕ). ltb n (l .backups)) (s .found i (omega arith)) ∙ sym (slot-paired l pr i m h)
 
--- what the pass over states and pairs found of main segment i
-module _ (l : Layout) (st pr : ℕ → ℕ) (r : Examined) (x : ExaminedBy l st pr r) (m : l .mains ≤ 64) (i : ℕ) (b : i < l .mains) where
-  pub found-backup : getD (r .backup) i 0 ≡ pairedBackup l pr i
-  found-backup = x .found i (omega arith) ∙ slot-backup l pr i m b
-
-  pub found-paired : ltb (getD (r .backup) i 0) (l .backups) ≡ isPaired l pr i
-  found-paired = ap (λ (n : ℕ). ltb n (l .backups)) (x .found i (omega arith)) ∙ sym (slot-paired l pr i m b)
+-- the pass over states and pairs found the backup segment of main segment i
+pub found-backup : (l : Layout) (st pr : ℕ → ℕ) (r : Examined) → ExaminedBy l st pr r → l .mains ≤ 64 → (i : ℕ) → i < l .mains → getD (r .backup) i 0 ≡ pairedBackup l pr i
+found-backup l st pr r x m i b = x .found i (omega arith) ∙ slot-backup l pr i m b
 
 -- ---- where the checkpoint stands
 
