@@ -17,7 +17,8 @@ use Rattle.model.specs.Layout.{layoutOf}
 use Rattle.model.specs.Words.{Image}
 use Rattle.model.specs.Status.{codeOf}
 use Rattle.model.specs.Session.{freshSession, zeroSession}
-use Rattle.model.specs.Ops.{Ops, Trace, Outcome, Gives, encode, written}
+use Rattle.model.specs.Ops.{Ops, Trace, encode, written}
+use Rattle.model.specs.Outcome.{Outcome, outcomeOf, Gives}
 use Rattle.model.specs.Open.{openStatus, openOutcome}
 use Rattle.model.specs.Write.{WriteArgs, writeStatus, writeOutcome}
 use Rattle.model.specs.Checkpoint.{checkpointStatus, checkpointOutcome}
@@ -214,11 +215,11 @@ module _ (l : Layout) (I : Image) (i b : ℕ) (out : Words) (x : Layout) (r : x 
 abbrev pub refused : ℕ → Words → Trace → Returned
 refused number s t = record { number = number; session = s; trace = t; out = 0 ∷ 0 ∷ [] }
 
-answered-refused : (t : Trace) (n : ℕ) (x y : Session) (O : Ops) → n ≢ 0
-    → answered t (record { status = n; session = cond (eqb n 0) x y; ops = cond (eqb n 0) O [] }) ≡ refused n (wordsOf y) t
-unfolding written encode
-answered-refused t n x y O h =
-    ap (λ (b : Bool). answered t (record { status = n; session = cond b x y; ops = cond b O [] })) (ne-eqb n 0 h)
+answered-refused : (t : Trace) (n : ℕ) (kept next : Session) (O : Ops) → n ≢ 0
+    → answered t (outcomeOf n kept next O) ≡ refused n (wordsOf kept) t
+unfolding outcomeOf written encode
+answered-refused t n kept next O h =
+    ap (λ (b : Bool). answered t (record { status = n; session = cond b next kept; ops = cond b O [] })) (ne-eqb n 0 h)
 
 module _ (I : Image) (s : Words) (t : Trace) (out : Words) (e : length s ≡ 68) (f : length out ≡ 2) where
   -- an opening a session of zeros
@@ -226,7 +227,7 @@ module _ (I : Image) (s : Words) (t : Trace) (out : Words) (e : length s ≡ 68)
       → openReturned l I s t out ≡ refused (openStatus l I t) (replicate 68 0) t
   unfolding openOutcome zeroSession freshSession wordsOf
   open-refused l n =
-      returned-answered s out t (openOutcome l I t) (both-sized s out e f) ∙ answered-refused t (openStatus l I t) _ zeroSession _ n
+      returned-answered s out t (openOutcome l I t) (both-sized s out e f) ∙ answered-refused t (openStatus l I t) zeroSession _ _ n
 
   -- a write and a checkpoint the session as it came
   pub write-refused : (w : WriteArgs) (j : ℕ) → writeStatus (sessionOf s) I w j t ≢ 0
@@ -234,7 +235,7 @@ module _ (I : Image) (s : Words) (t : Trace) (out : Words) (e : length s ≡ 68)
   unfolding writeOutcome
   write-refused w j n =
       returned-answered s out t (writeOutcome (sessionOf s) I w j t) (both-sized s out e f)
-      ∙ answered-refused t (writeStatus (sessionOf s) I w j t) _ (sessionOf s) _ n
+      ∙ answered-refused t (writeStatus (sessionOf s) I w j t) (sessionOf s) _ _ n
       ∙ ap (λ (x : Words). refused (writeStatus (sessionOf s) I w j t) x t) (words-session s e)
 
   pub checkpoint-refused : checkpointStatus (sessionOf s) I t ≢ 0
@@ -242,5 +243,5 @@ module _ (I : Image) (s : Words) (t : Trace) (out : Words) (e : length s ≡ 68)
   unfolding checkpointOutcome
   checkpoint-refused n =
       returned-answered s out t (checkpointOutcome (sessionOf s) I t) (both-sized s out e f)
-      ∙ answered-refused t (checkpointStatus (sessionOf s) I t) _ (sessionOf s) _ n
+      ∙ answered-refused t (checkpointStatus (sessionOf s) I t) (sessionOf s) _ _ n
       ∙ ap (λ (x : Words). refused (checkpointStatus (sessionOf s) I t) x t) (words-session s e)

@@ -10,7 +10,8 @@ use Rattle.model.specs.declared.Layout.{Layout}
 use Rattle.model.specs.declared.Session.{Session}
 use Rattle.model.specs.Layout.{layoutOf}
 use Rattle.model.specs.Words.{Image}
-use Rattle.model.specs.Ops.{Trace, Outcome, written}
+use Rattle.model.specs.Ops.{Trace, written}
+use Rattle.model.specs.Outcome.{Outcome}
 use Rattle.model.specs.Open.{openOutcome}
 use Rattle.model.specs.Write.{WriteArgs, writeOutcome, Chosen}
 use Rattle.model.specs.Checkpoint.{checkpointOutcome}

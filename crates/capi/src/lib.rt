@@ -11,7 +11,7 @@ ghost use Rattle.model.specs.Layout.{layoutOf};
 ghost use Rattle.model.specs.Status.{codeOf};
 ghost use Rattle.model.specs.Format.{formatOutcome};
 ghost use Rattle.model.specs.Reads.{readStatus};
-ghost use Rattle.write.specs.Steps.{writeArgsOf};
+ghost use Rattle.model.specs.Write.{writeArgsOf};
 ghost use Rattle.capi.specs.Interface.{wordsOf, sessionOf, openReturned, checkpointReturned, Returns, WriteReturns, replayTold, replayImage, workingTold, checkpointTold, sameTold, Tells};
 
 // Words of a session: the three sizes, the dirty segments, and a word of dirty blocks for each main segment.
@@ -35,7 +35,7 @@ fn session_of(words: &[u64]) -> Session
     requires { ⌜ length (now words) ≡ 68 ⌝ }
     ensures { λ r. ⌜ r ≡ sessionOf (now (words .entry)) ⌝ }
 {
-    let mut blocks = [0u64; 64];
+    let mut blocks = [0u64; MOST];
     let mut i = 0;
     while i < MOST {
         blocks[i] = words[DIRTY_BLOCKS_AT + i];
@@ -95,7 +95,8 @@ fn part_code(image: &[u8], layout: Layout, main: u64, block: u64, size: u64) -> 
     if size != 0 {
         return 0;
     }
-    reads::read_code(image, layout, main, block)
+    let status = reads::read_status(image, layout, main, block);
+    status.code()
 }
 
 // ---- the calls

@@ -1,7 +1,7 @@
 use mathlib.Core.Path.{sym, _∙_}
 use mathlib.Core.Bool.{false≢true}
 use borrow.Author.Needs.{needs}
-use Rattle.write.specs.Steps.{writeArgsOf}
+use Rattle.model.specs.Write.{writeArgsOf}
 use Rattle.capi.proofs.Laws.{both-sized, session-not, result-not, returns-misused, write-returns}
 use Rattle.capi.proofs.crpm_write.Statement.{statement}
 use Rattle.capi.proofs.crpm_write.Tie as tie

@@ -1,4 +1,4 @@
-use mathlib.Core.Path.{sym}
+use mathlib.Core.Path.{sym, _∙_}
 use borrow.Author.Needs.{needs}
 use Rattle.capi.proofs.part_code.Statement.{statement}
 use Rattle.capi.proofs.part_code.Tie as tie
@@ -7,11 +7,14 @@ returns : tie.Need-returns
 returns c =
     sym (c .before .before .pre (c .if1 .taken))
 
-read-code-requires : tie.Need-read-code-requires
-read-code-requires c κs = search needs
+read-status-requires : tie.Need-read-status-requires
+read-status-requires c κs = search needs
+
+code-requires : tie.Need-code-requires
+code-requires c κs = search needs
 
 returns-2 : tie.Need-returns-2
-returns-2 c = search needs
+returns-2 c = c .code .ensures ∙ c .before .read-status .ensures
 
 pub part-code-spec : {M : Type 1} → statement M
-part-code-spec = tie.close (tie.spec returns read-code-requires returns-2)
+part-code-spec = tie.close (tie.spec returns read-status-requires code-requires returns-2)
