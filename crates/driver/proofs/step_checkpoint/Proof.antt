@@ -24,7 +24,7 @@ returns : tie.Need-returns
 returns c =
     let p = c .before .before in
     let r = p .before .before .before .before .before in
-    ((tt, r .crpm-checkpoint .ensures), p .play-reported .ensures .2)
+    ((tt, r .crpm-checkpoint .ensures), p .play-reported .ensures .1 .1)
 
 pub step-checkpoint-spec : {M : Type 1} → statement M
 step-checkpoint-spec =

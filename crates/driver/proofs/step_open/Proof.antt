@@ -25,7 +25,7 @@ returns : tie.Need-returns
 returns c =
     let p = c .before .before in
     let r = p .before .before .before .before .before in
-    λ s. ((tt, r .crpm-open .ensures), p .play-reported .ensures .2)
+    λ s. ((tt, r .crpm-open .ensures), p .play-reported .ensures .1 .1)
 
 pub step-open-spec : {M : Type 1} → statement M
 step-open-spec =

@@ -28,7 +28,7 @@ returns c =
     let r = p .before .before .before .before .before in
     let b = r .before .before .before .before in
     let g = r .crpm-write .ensures in
-    (g .0, (((λ i. b .shared-slice-known .given i .fits), g .1), g .2), p .play-reported .ensures .2)
+    (g .0, ((((λ i. b .shared-slice-known .given i .fits), g .1), g .2), p .play-reported .ensures .1 .1))
 
 pub step-write-spec : {M : Type 1} → statement M
 step-write-spec =
