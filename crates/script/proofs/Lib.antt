@@ -1,6 +1,6 @@
 pub mod Texts
 pub mod TraceLength
-pub mod Called
+pub mod CallLaws
 pub mod GroupLaws
 pub mod OpenLaws
 pub mod NextLaws

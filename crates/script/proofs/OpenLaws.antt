@@ -1,4 +1,4 @@
--- The opening of a formatted image is the start of a history.
+-- The opening of a formatted image is where a history starts.
 use Prim.Native.Nat.{ℕ}
 use mathlib.Core.Path.{_≡_, refl, sym, _∙_}
 use mathlib.Core.Bool.{true}
@@ -11,30 +11,29 @@ use Rattle.model.specs.Words.{Image}
 use Rattle.model.specs.Layout.{sizesOk, imageSize}
 use Rattle.model.specs.Status.{firstError}
 use Rattle.model.specs.Format.{formatted, formatOutcome}
-use Rattle.model.specs.History.{State, callOpen, openedImage, step, start}
+use Rattle.model.specs.History.{Device, callOpen, openedImage, deviceStep, start}
 use Rattle.parser.specs.Text.{text}
 use Rattle.printer.specs.Decimal.{Appended}
 use Rattle.printer.proofs.Laws.{appended-then}
 use Rattle.script.specs.declared.Ran.{Ran}
 use Rattle.script.specs.Prints.{blank, openText}
-use Rattle.script.specs.Ran.{Called, Opened}
+use Rattle.script.specs.Ran.{CallRan, Opened}
 
 -- a format of a right length with right sizes is served
 pub formats : (l : Layout) (I J : Image) → sizesOk l ≡ true → length I ≡ imageSize l → J ≡ formatOutcome l I .image → J ≡ formatted l
 unfolding formatOutcome firstError
 formats l I J s e f = rw (s, eq-eqb (length I) (imageSize l) e) at f
 
--- a state that stands at an image and a session
-abbrev standing : Layout → Image → Session → State
-standing l I s =
-    record { layout = l; durable = I; played = []; image = I; session = s; model = record { working = []; checkpoint = [] } }
+-- a module that stands at an image and a session
+abbrev standing : Layout → Image → Session → Device
+standing l I s = record { layout = l; durable = I; played = []; image = I; session = s }
 
 pub opened : (l : Layout) (I : Image) (s : Session) (out out₁ out₂ : List ℕ) (p : ℕ) (I′ : Image) (w r : Ran) → I ≡ formatted l
-    → Called I s (callOpen l blank) "open=" out p I′ out₁ w
+    → CallRan I s (callOpen l blank) "open=" out p I′ out₁ w
     → Appended out₁ (w .place) (text "\n") out₂ (r .place)
     → r .session ≡ w .session
     → Opened l out p I′ out₂ r
-unfolding openText step start openedImage
+unfolding openText deviceStep start openedImage
 opened l I s out out₁ out₂ p I′ w r e a b es =
     let x = (rw e at a) (standing l (formatted l) s) (refl, refl) in
     (appended-then (x .1) b, (x .2 .0, x .2 .1 ∙ sym es))

@@ -1,7 +1,7 @@
 -- A sheet: what its judgement and its header give, and its text at the start of the buffer.
 use Prim.Native.Nat.{ℕ, zero, suc, _+_, _*_, _≤_, _<_}
 use mathlib.Core.Path.{_≡_, refl, sym, ap, ap₂, _∙_, subst}
-use mathlib.Core.Bool.{true}
+use mathlib.Core.Bool.{true, cond}
 use mathlib.Core.List.{List, _++_}
 use native.Mathlib.Omega.{arith}
 use native.Mathlib.Nat.{mul-le-mul}
@@ -17,6 +17,7 @@ use Rattle.parser.specs.Read.{ReadsHeader}
 use Rattle.parser.proofs.Groups.{GoodSizes, good-sizes}
 use Rattle.printer.specs.Decimal.{Appended}
 use Rattle.script.specs.Prints.{Prints, refused}
+use Rattle.script.specs.Room.{SheetSizes}
 use Rattle.script.specs.Ran.{GoodFrom, groupsFrom, ScriptRan}
 use Rattle.script.proofs.GroupLaws.{numberText}
 
@@ -27,12 +28,7 @@ image-least l = omega arith
 
 -- ---- the header of a sheet without a bad line
 
-pub record Small (l : Layout) : Type 0 where
-  pub mains : (1 ≤ l .mains) × (l .mains ≤ 4)
-  pub backups : (1 ≤ l .backups) × (l .backups ≤ 4)
-  pub blocks : (1 ≤ l .blocks) × (l .blocks ≤ 4)
-
-pub small-fits : (l : Layout) → Small l → imageSize l ≤ 8704
+small-fits : (l : Layout) → SheetSizes l → imageSize l ≤ 8704
 unfolding imageSize
 small-fits l s =
     omega (arith, s .mains, s .backups, mul-le-mul {n₁ = 256 * l .blocks} {m₁ = l .mains + l .backups} {n₂ = 1024} {m₂ = 8} (omega (arith, s .blocks .1)) (omega (arith, s .mains .1, s .backups .1)))
@@ -41,15 +37,19 @@ in-range : (n : ℕ) → (1 ≤ n) × (n ≤ 4) → inRange n ≡ true
 unfolding inRange
 in-range n h = rw (le-leb 1 n (h .0), le-leb n 64 (omega (arith, h .1)))
 
-pub small-ok : (l : Layout) → Small l → sizesOk l ≡ true
+pub small-ok : (l : Layout) → SheetSizes l → sizesOk l ≡ true
 unfolding sizesOk
 small-ok l s = rw (in-range (l .mains) (s .mains), in-range (l .backups) (s .backups), in-range (l .blocks) (s .blocks))
+
+-- the bytes of its image
+pub small-size : (l : Layout) (n : ℕ) → SheetSizes l → n ≡ cond (sizesOk l) (imageSize l) 0 → (n ≡ imageSize l) × (n ≤ 8704)
+small-size l n s e = let q : n ≡ imageSize l = rw (small-ok l s) at e in (q, omega (arith, q, small-fits l s))
 
 module _ (input : List ℕ) (r : HeaderAt) (read : ReadsHeader input r) (h : firstBad 0 0 (linesOf input) ≡ 0) where
   sizes : GoodSizes (linesOf input)
   sizes = good-sizes (linesOf input) h
 
-  pub header-small : Small (r .layout)
+  pub header-small : SheetSizes (r .layout)
   header-small = rw (read .layout) (record { mains = sizes .mains; backups = sizes .backups; blocks = sizes .blocks })
 
   pub header-rest : GoodFrom input (r .next)

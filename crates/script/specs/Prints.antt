@@ -1,5 +1,6 @@
--- What a bench sheet prints (document 01: "The bench sheet"), by the outcomes and steps of a history. Document 01 leaves open
--- which free backup segment a write takes, so what is printed is said for some permitted choice at each write. Assumes nothing.
+-- What a bench sheet prints (document 01: "The bench sheet"), by the outcomes and steps of a module in a history. Document 01
+-- leaves open which free backup segment a write takes, so what is printed is said for some permitted choice at each write.
+-- Assumes nothing.
 use Prim.Native.Nat.{ℕ, suc, _+_}
 use Prim.Native.String.{String}
 use mathlib.Core.Bool.{Bool, cond}
@@ -8,9 +9,11 @@ use lib.ListN.{length, replicate}
 use Rattle.model.specs.declared.Layout.{Layout}
 use Rattle.model.specs.Container.{committedEpoch}
 use Rattle.model.specs.Format.{formatted}
-use Rattle.model.specs.Ops.{Trace, Outcome}
+use Rattle.model.specs.Ops.{Trace}
+use Rattle.model.specs.Outcome.{Outcome}
 use Rattle.model.specs.Open.{openOutcome}
-use Rattle.model.specs.History.{State, Call, callWrite, callCheckpoint, outcome, step, start, Permitted}
+use Rattle.model.specs.Write.{writeArgsOf}
+use Rattle.model.specs.History.{Device, Call, callWrite, callCheckpoint, outcome, deviceStep, start, Permitted}
 use Rattle.parser.specs.Text.{text}
 use Rattle.parser.specs.Script.{Script, bad, good, Group}
 use Rattle.printer.specs.Decimal.{decimal}
@@ -32,36 +35,36 @@ answerText key o = text key ++ decimal (o .status) ++ text " orders=" ++ decimal
 
 -- its write, for the backup segment j
 abbrev pub writeOf : Group → ℕ → Call
-writeOf g j = callWrite (record { main = g .main; block = g .block; offset = g .offset; bytes = g .bytes }) blank j
+writeOf g j = callWrite (writeArgsOf (g .main) (g .block) (g .offset) (g .bytes)) blank j
 
 abbrev pub checkpointCall : Call
 checkpointCall = callCheckpoint blank
 
 -- a checkpoint runs if it is asked for, whatever the write answered; where it is not, its text says so
-unfoldable pub checkpointed : State → Bool → State
-checkpointed h wanted = cond wanted (step h checkpointCall) h
+unfoldable pub checkpointed : Device → Bool → Device
+checkpointed d wanted = cond wanted (deviceStep d checkpointCall) d
 
-unfoldable pub checkpointText : State → Bool → List ℕ
-checkpointText h wanted = cond wanted (answerText "save=" (outcome h checkpointCall)) (text "save=- orders=0")
+unfoldable pub checkpointText : Device → Bool → List ℕ
+checkpointText d wanted = cond wanted (answerText "save=" (outcome d checkpointCall)) (text "save=- orders=0")
 
--- where a group leaves the history
-unfoldable pub afterGroup : State → Group → ℕ → State
-afterGroup h g j = checkpointed (step h (writeOf g j)) (g .checkpoint)
+-- where a group leaves the module
+unfoldable pub afterGroup : Device → Group → ℕ → Device
+afterGroup d g j = checkpointed (deviceStep d (writeOf g j)) (g .checkpoint)
 
 -- the line of group n; the epoch is the one after the group
-unfoldable pub groupText : State → ℕ → Group → ℕ → List ℕ
-groupText h n g j =
+unfoldable pub groupText : Device → ℕ → Group → ℕ → List ℕ
+groupText d n g j =
     text "step=" ++ decimal n
-    ++ text " " ++ answerText "write=" (outcome h (writeOf g j))
-    ++ text " " ++ checkpointText (step h (writeOf g j)) (g .checkpoint)
-    ++ text " epoch=" ++ decimal (committedEpoch (afterGroup h g j .image))
+    ++ text " " ++ answerText "write=" (outcome d (writeOf g j))
+    ++ text " " ++ checkpointText (deviceStep d (writeOf g j)) (g .checkpoint)
+    ++ text " epoch=" ++ decimal (committedEpoch (afterGroup d g j .image))
     ++ text "\n"
 
 -- the lines of groups from number n on, for some permitted backup segment at each write
-pub data GroupsPrint : State → ℕ → List Group → List ℕ → Type 0 where
-  none : (h : State) (n : ℕ) → GroupsPrint h n [] []
-  more : (h : State) (n : ℕ) (g : Group) (gs : List Group) (j : ℕ) (rest : List ℕ) → Permitted h (writeOf g j)
-      → GroupsPrint (afterGroup h g j) (suc n) gs rest → GroupsPrint h n (g ∷ gs) (groupText h n g j ++ rest)
+pub data GroupsPrint : Device → ℕ → List Group → List ℕ → Type 0 where
+  none : (d : Device) (n : ℕ) → GroupsPrint d n [] []
+  more : (d : Device) (n : ℕ) (g : Group) (gs : List Group) (j : ℕ) (rest : List ℕ) → Permitted d (writeOf g j)
+      → GroupsPrint (afterGroup d g j) (suc n) gs rest → GroupsPrint d n (g ∷ gs) (groupText d n g j ++ rest)
 
 -- ---- a sheet
 
@@ -72,5 +75,5 @@ openText l = answerText "open=" (openOutcome l (formatted l) blank) ++ text "\n"
 -- all that a sheet prints: a bad one only its number
 pub data Prints : Script → List ℕ → Type 0 where
   refused : (n : ℕ) → Prints (bad n) (text "sheet=" ++ decimal n ++ text "\n")
-  ran : (l : Layout) (gs : List Group) (rest : List ℕ) → GroupsPrint (start l (formatted l) blank) 1 gs rest
+  ran : (l : Layout) (gs : List Group) (rest : List ℕ) → GroupsPrint (start l (formatted l) blank .device) 1 gs rest
       → Prints (good l gs) (openText l ++ rest)

@@ -1,4 +1,4 @@
--- What the parts of a sheet's run leave, wherever a history stands with the image I and the session s. The buffer `out` held a
+-- What the parts of a sheet's run leave, wherever a module stands with the image I and the session s. The buffer `out` held a
 -- text up to the place p before; I′ and `out′` are image and buffer afterwards. Assumes nothing.
 use Prim.Native.Nat.{ℕ, _+_, _≤_}
 use Prim.Native.String.{String}
@@ -10,7 +10,7 @@ use Rattle.model.specs.declared.Layout.{Layout}
 use Rattle.model.specs.declared.Session.{Session}
 use Rattle.model.specs.Words.{Image}
 use Rattle.model.specs.Format.{formatted}
-use Rattle.model.specs.History.{State, Call, outcome, step, start, Permitted}
+use Rattle.model.specs.History.{Device, Call, outcome, deviceStep, start, Permitted}
 use Rattle.parser.specs.Text.{text, linesOf}
 use Rattle.parser.specs.Script.{Script, Group, groupKey, firstBad, groupsOf}
 use Rattle.printer.specs.Decimal.{Appended}
@@ -18,9 +18,9 @@ use Rattle.script.specs.declared.Ran.{Ran}
 use Rattle.script.specs.declared.Next.{Next}
 use Rattle.script.specs.Prints.{blank, answerText, writeOf, checkpointed, checkpointText, afterGroup, groupText, GroupsPrint, openText, Prints}
 
--- a history stands there
-abbrev pub Stands : State → Image → Session → Type 0
-Stands h I s = (h .image ≡ I) × (h .session ≡ s)
+-- a module stands there
+abbrev pub Stands : Device → Image → Session → Type 0
+Stands d I s = (d .image ≡ I) × (d .session ≡ s)
 
 -- a text stands behind the one before
 abbrev pub Printed : List ℕ → ℕ → List ℕ → List ℕ → Ran → Type 0
@@ -28,17 +28,17 @@ Printed out p t out′ r = Appended out p t out′ (r .place)
 
 -- the opening of a formatted image, and its line
 abbrev pub Opened : Layout → List ℕ → ℕ → Image → List ℕ → Ran → Type 0
-Opened l out p I′ out′ r = Printed out p (openText l) out′ r × Stands (start l (formatted l) blank) I′ (r .session)
+Opened l out p I′ out′ r = Printed out p (openText l) out′ r × Stands (start l (formatted l) blank .device) I′ (r .session)
 
 -- a call, made and replayed, and its answer
-abbrev pub Called : Image → Session → Call → String → List ℕ → ℕ → Image → List ℕ → Ran → Type 0
-Called I s c key out p I′ out′ r =
-    (h : State) → Stands h I s → Permitted h c × Printed out p (answerText key (outcome h c)) out′ r × Stands (step h c) I′ (r .session)
+abbrev pub CallRan : Image → Session → Call → String → List ℕ → ℕ → Image → List ℕ → Ran → Type 0
+CallRan I s c key out p I′ out′ r =
+    (d : Device) → Stands d I s → Permitted d c × Printed out p (answerText key (outcome d c)) out′ r × Stands (deviceStep d c) I′ (r .session)
 
 -- a checkpoint, if it is wanted, and its text
-abbrev pub Checkpointed : Image → Session → Bool → List ℕ → ℕ → Image → List ℕ → Ran → Type 0
-Checkpointed I s wanted out p I′ out′ r =
-    (h : State) → Stands h I s → Printed out p (checkpointText h wanted) out′ r × Stands (checkpointed h wanted) I′ (r .session)
+abbrev pub CheckpointRan : Image → Session → Bool → List ℕ → ℕ → Image → List ℕ → Ran → Type 0
+CheckpointRan I s wanted out p I′ out′ r =
+    (d : Device) → Stands d I s → Printed out p (checkpointText d wanted) out′ r × Stands (checkpointed d wanted) I′ (r .session)
 
 -- a group of these parts
 abbrev pub groupOfParts : ℕ → ℕ → ℕ → List ℕ → Bool → Group
@@ -47,16 +47,16 @@ groupOfParts main block offset bytes wanted = record { main = main; block = bloc
 -- its write and its checkpoint, for some permitted backup segment
 abbrev pub CallsRan : Image → Session → Group → List ℕ → ℕ → Image → List ℕ → Ran → Type 0
 CallsRan I s g out p I′ out′ r =
-    (j : ℕ) × ((h : State) → Stands h I s
-    → Permitted h (writeOf g j)
-    × Printed out p (answerText "write=" (outcome h (writeOf g j)) ++ text " " ++ checkpointText (step h (writeOf g j)) (g .checkpoint)) out′ r
-    × Stands (afterGroup h g j) I′ (r .session))
+    (j : ℕ) × ((d : Device) → Stands d I s
+    → Permitted d (writeOf g j)
+    × Printed out p (answerText "write=" (outcome d (writeOf g j)) ++ text " " ++ checkpointText (deviceStep d (writeOf g j)) (g .checkpoint)) out′ r
+    × Stands (afterGroup d g j) I′ (r .session))
 
 -- group n with its line, for some permitted backup segment
 abbrev pub GroupRan : Image → Session → ℕ → Group → List ℕ → ℕ → Image → List ℕ → Ran → Type 0
 GroupRan I s n g out p I′ out′ r =
-    (j : ℕ) × ((h : State) → Stands h I s
-    → Permitted h (writeOf g j) × Printed out p (groupText h n g j) out′ r × Stands (afterGroup h g j) I′ (r .session))
+    (j : ℕ) × ((d : Device) → Stands d I s
+    → Permitted d (writeOf g j) × Printed out p (groupText d n g j) out′ r × Stands (afterGroup d g j) I′ (r .session))
 
 -- ---- the groups of an input from a place on
 
@@ -79,7 +79,7 @@ pub record NextRan (input : List ℕ) (p : ℕ) (I : Image) (s : Session) (n : �
 
 -- all are
 abbrev pub GroupsRan : Image → Session → List Group → List ℕ → ℕ → List ℕ → ℕ → Type 0
-GroupsRan I s gs out p out′ q = (h : State) → Stands h I s → (t : List ℕ) × GroupsPrint h 1 gs t × Appended out p t out′ q
+GroupsRan I s gs out p out′ q = (d : Device) → Stands d I s → (t : List ℕ) × GroupsPrint d 1 gs t × Appended out p t out′ q
 
 -- ---- a sheet
 

@@ -8,13 +8,13 @@ ghost use mathlib.Core.List.{List, _++_};
 ghost use lib.ListN.{length, drop};
 ghost use Rattle.model.specs.Layout.{sizesOk, imageSize};
 ghost use Rattle.model.specs.History.{callWrite};
-ghost use Rattle.write.specs.Steps.{writeArgsOf};
+ghost use Rattle.model.specs.Write.{writeArgsOf};
 ghost use Rattle.printer.specs.Decimal.{decimal, Appended};
 ghost use Rattle.parser.specs.Text.{text, linesOf};
 ghost use Rattle.parser.specs.Script.{good, judged, firstBad, parse};
 ghost use Rattle.io.specs.Counts.{Counts};
 ghost use Rattle.script.specs.Prints.{room, blank, Prints};
-ghost use Rattle.script.specs.Ran.{Opened, Called, Checkpointed, groupOfParts, CallsRan, GroupRan, GoodFrom, groupsFrom, NextRan, GroupsRan, ScriptRan};
+ghost use Rattle.script.specs.Ran.{Opened, CallRan, CheckpointRan, groupOfParts, CallsRan, GroupRan, GoodFrom, groupsFrom, NextRan, GroupsRan, ScriptRan};
 
 // The most bytes of a sheet, and those of its printed text.
 pub const MOST_BYTES: usize = 4096;
@@ -101,7 +101,7 @@ fn run_write(
     from: usize,
 ) -> Ran
     requires { ⌜ (length (now trace) ≡ room) × (from + 54 ≤ length (now out)) ⌝ }
-    ensures { λ r. ⌜ ((j : ℕ) × Called (now (image .entry)) session (callWrite (writeArgsOf main block offset (now (bytes .entry))) blank j) "write=" (now (out .entry)) from (now (image .exit)) (now (out .exit)) r) ⌝ }
+    ensures { λ r. ⌜ ((j : ℕ) × CallRan (now (image .entry)) session (callWrite (writeArgsOf main block offset (now (bytes .entry))) blank j) "write=" (now (out .entry)) from (now (image .exit)) (now (out .exit)) r) ⌝ }
     ensures { λ r. ⌜ r .place ≤ from + 54 ⌝ }
 {
     let written = driver::step_write(image, session, main, block, offset, bytes, trace);
@@ -124,7 +124,7 @@ fn run_checkpoint(
     from: usize,
 ) -> Ran
     requires { ⌜ (length (now trace) ≡ room) × (from + 53 ≤ length (now out)) ⌝ }
-    ensures { λ r. ⌜ Checkpointed (now (image .entry)) session wanted (now (out .entry)) from (now (image .exit)) (now (out .exit)) r ⌝ }
+    ensures { λ r. ⌜ CheckpointRan (now (image .entry)) session wanted (now (out .entry)) from (now (image .exit)) (now (out .exit)) r ⌝ }
     ensures { λ r. ⌜ r .place ≤ from + 53 ⌝ }
 {
     if !wanted {

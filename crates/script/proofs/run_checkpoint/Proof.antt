@@ -4,10 +4,8 @@ use borrow.Author.Tests.{not-true, not-false}
 use borrow.Author.Needs.{needs}
 use Rattle.model.specs.History.{callCheckpoint}
 use Rattle.printer.proofs.Laws.{appended-as}
-use Rattle.script.specs.Prints.{checkpointCall}
 use Rattle.script.proofs.Texts.{save-text, no-save-text}
-use Rattle.script.proofs.TraceLength.{checkpoint-alike}
-use Rattle.script.proofs.Called.{called, checkpoint-made, checkpoint-none}
+use Rattle.script.proofs.CallLaws.{call-ran, checkpoint-made, checkpoint-none}
 use Rattle.script.proofs.run_checkpoint.Statement.{statement}
 use Rattle.script.proofs.run_checkpoint.Tie as tie
 
@@ -53,8 +51,8 @@ returns-2 c =
     let s = w .before .before .before .before .before .before .before in
     let t = s .args .trace .now in (
       checkpoint-made _ _ _ _ _ _ _ _ (not-false _ (w .before .before .before .if1 .left))
-          (called "save=" (callCheckpoint t) checkpointCall _ _ (w .step-checkpoint .result) _ _ _ _ _ _ (p .before .code .result) _
-          (checkpoint-alike t (s .pre .0)) (w .step-checkpoint .ensures) save-text (p .before .code .ensures) refl (p .put-answer-text .ensures .0)),
+          (call-ran "save=" (callCheckpoint t) _ _ (w .step-checkpoint .result) _ _ _ _ _ _ (p .before .code .result) _
+          (s .pre .0) (w .step-checkpoint .ensures) save-text (p .before .code .ensures) refl (p .put-answer-text .ensures .0)),
       omega arith,
     )
 

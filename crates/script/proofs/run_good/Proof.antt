@@ -2,31 +2,26 @@ use mathlib.Core.Path.{refl, sym, _∙_}
 use native.Mathlib.Omega.{arith}
 use lib.Seq.{length-take-le}
 use borrow.Author.Needs.{needs}
-use Rattle.script.proofs.SheetLaws.{header-small, small-fits, small-ok, header-rest, header-script}
+use Rattle.script.proofs.SheetLaws.{header-small, small-size, small-ok, header-rest, header-script}
 use Rattle.script.proofs.run_good.Statement.{statement}
 use Rattle.script.proofs.run_good.Tie as tie
 
 header-requires : tie.Need-header-requires
 header-requires c κs = search needs
 
-image-size-requires : tie.Need-image-size-requires
-image-size-requires c κs =
-    let h = c .before in
-    let s = h .before .before .before in
-    let m = header-small (s .args .input .now) (h .header .result) (h .header .ensures) (s .pre .1) in
-    (omega (arith, m .mains .1), omega (arith, m .backups .1), omega (arith, m .blocks .1))
-
 array-borrow-prefix-image : tie.Need-array-borrow-prefix-image
 array-borrow-prefix-image c =
     let h = c .before .before in
     let s = h .before .before .before in
-    omega (arith, small-fits (h .header .result .layout) (header-small (s .args .input .now) (h .header .result) (h .header .ensures) (s .pre .1)))
+    let m = header-small (s .args .input .now) (h .header .result) (h .header .ensures) (s .pre .1) in
+    omega (arith, small-size (h .header .result .layout) _ m (c .image-size .ensures) .1)
 
 slice-aggregate-run-script : tie.Need-slice-aggregate-run-script
 slice-aggregate-run-script c =
     let h = c .before .before .before in
     let s = h .before .before .before in
-    sym (length-take-le _ _ (omega (arith, small-fits (h .header .result .layout) (header-small (s .args .input .now) (h .header .result) (h .header .ensures) (s .pre .1)))))
+    let m = header-small (s .args .input .now) (h .header .result) (h .header .ensures) (s .pre .1) in
+    sym (length-take-le _ _ (omega (arith, small-size (h .header .result .layout) _ m (c .before .image-size .ensures) .1)))
 
 slice-aggregate-run-script-2 : tie.Need-slice-aggregate-run-script-2
 slice-aggregate-run-script-2 c = search needs
@@ -36,9 +31,9 @@ run-script-requires c κs =
     let h = c .before .before .before .before .before in
     let s = h .before .before .before in
     let m = header-small (s .args .input .now) (h .header .result) (h .header .ensures) (s .pre .1) in
-    let z = c .before .before .before .image-size in (
+    let z = small-size (h .header .result .layout) _ m (c .before .before .before .image-size .ensures) in (
       (s .pre .0, header-rest (s .args .input .now) (h .header .result) (h .header .ensures) (s .pre .1)),
-      (refl, length-take-le _ _ (omega (arith, small-fits (h .header .result .layout) m)) ∙ z .ensures .0, small-ok (h .header .result .layout) m, s .pre .2),
+      (refl, length-take-le _ _ (omega (arith, z .1)) ∙ z .0, small-ok (h .header .result .layout) m, s .pre .2),
     )
 
 same-length : tie.Need-same-length
@@ -55,7 +50,6 @@ run-good-spec =
     tie.close
     (tie.spec
     header-requires
-    image-size-requires
     array-borrow-prefix-image
     slice-aggregate-run-script
     slice-aggregate-run-script-2

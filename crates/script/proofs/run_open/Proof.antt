@@ -4,10 +4,8 @@ use borrow.Author.Needs.{needs}
 use Rattle.model.specs.Session.{zeroSession}
 use Rattle.model.specs.History.{callOpen}
 use Rattle.printer.proofs.Laws.{appended-as}
-use Rattle.script.specs.Prints.{blank}
 use Rattle.script.proofs.Texts.{open-text, line-end-text}
-use Rattle.script.proofs.TraceLength.{open-alike}
-use Rattle.script.proofs.Called.{called}
+use Rattle.script.proofs.CallLaws.{call-ran}
 use Rattle.script.proofs.OpenLaws.{formats, opened}
 use Rattle.script.proofs.run_open.Statement.{statement}
 use Rattle.script.proofs.run_open.Tie as tie
@@ -53,8 +51,8 @@ returns c =
     let t = s .args .trace .now in (
       opened l _ zeroSession _ _ _ 0 _ (record { session = o .step-open .result .session; place = a .put-answer-text .result }) _
           (formats l (s .args .image .now) _ (s .pre .2) (s .pre .1) (f .crpm-format .ensures .1))
-          (called "open=" (callOpen l t) (callOpen l blank) _ zeroSession (o .step-open .result) _ _ _ _ _ _ (a .before .code .result) _
-          (open-alike t (s .pre .0) l) (o .step-open .ensures zeroSession) open-text (a .before .code .ensures) refl (a .put-answer-text .ensures .0))
+          (call-ran "open=" (callOpen l t) _ zeroSession (o .step-open .result) _ _ _ _ _ _ (a .before .code .result) _
+          (s .pre .0) (o .step-open .ensures zeroSession) open-text (a .before .code .ensures) refl (a .put-answer-text .ensures .0))
           (appended-as line-end-text (e .put-text .ensures)) refl,
       omega (arith, a .put-answer-text .ensures .1),
     )

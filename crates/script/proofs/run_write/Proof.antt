@@ -2,11 +2,9 @@ use mathlib.Core.Path.{refl}
 use native.Mathlib.Omega.{arith}
 use borrow.Author.Needs.{needs}
 use Rattle.model.specs.History.{callWrite}
-use Rattle.write.specs.Steps.{writeArgsOf}
-use Rattle.script.specs.Prints.{blank}
+use Rattle.model.specs.Write.{writeArgsOf}
 use Rattle.script.proofs.Texts.{write-text}
-use Rattle.script.proofs.TraceLength.{write-alike}
-use Rattle.script.proofs.Called.{called}
+use Rattle.script.proofs.CallLaws.{call-ran}
 use Rattle.script.proofs.run_write.Statement.{statement}
 use Rattle.script.proofs.run_write.Tie as tie
 
@@ -41,8 +39,8 @@ returns c =
     let x = writeArgsOf (a .main) (a .block) (a .offset) (a .bytes .now) in (
       (
         j,
-        called "write=" (callWrite x (a .trace .now) j) (callWrite x blank j) _ _ (w .step-write .result) _ _ _ _ _ _ (p .before .code .result) _
-            (write-alike (a .trace .now) (s .pre .0) x j) (w .step-write .ensures .1) write-text (p .before .code .ensures) refl (p .put-answer-text .ensures .0),
+        call-ran "write=" (callWrite x (a .trace .now) j) _ _ (w .step-write .result) _ _ _ _ _ _ (p .before .code .result) _
+            (s .pre .0) (w .step-write .ensures .1) write-text (p .before .code .ensures) refl (p .put-answer-text .ensures .0),
       ),
       omega arith,
     )
