@@ -21,15 +21,19 @@ const BACKUPS: u64 = 1;
 
 const BLOCKS: u64 = 1;
 
-// The bytes of a frame, and of a page: every frame of every level.
+// The bytes of a frame, of a page, which has every frame of every level, and of the image; and the image's lines.
 const BLOCK: usize = 256;
 
 const PAGE: usize = 512;
 
-// The lines of the image.
+const IMAGE: usize = 1280;
+
 const LINES: usize = 20;
 
-// The numbers of the log, on which the orders of a history stand one after the other.
+// The numbers of the tape that an opening of the image needs at most, and of the log, on which the orders of a history stand one
+// after the other.
+const TAPE: usize = 219;
+
 const LOG: usize = 1200;
 
 // The most ways that are tried for a cut.
@@ -158,9 +162,9 @@ fn line_of(place: u64) -> usize
 // For each line of the image, among some orders: how many stores it got, how many before its last flush, and how many before
 // its last flush that a later fence followed.
 struct Lines {
-    stores: [u64; 20],
-    flushed: [u64; 20],
-    durable: [u64; 20],
+    stores: [u64; LINES],
+    flushed: [u64; LINES],
+    durable: [u64; LINES],
 }
 
 // The counts after one more order.
@@ -183,9 +187,9 @@ fn counted(lines: Lines, kind: u64, place: u64) -> Lines {
 // The counts of all orders.
 fn count_lines(ops: &[u64]) -> Lines {
     let mut lines = Lines {
-        stores: [0; 20],
-        flushed: [0; 20],
-        durable: [0; 20],
+        stores: [0; LINES],
+        flushed: [0; LINES],
+        durable: [0; LINES],
     };
     let mut k = 0;
     while k < ops.len() / 3 {
@@ -197,7 +201,7 @@ fn count_lines(ops: &[u64]) -> Lines {
 }
 
 // Plays one order if it is a store that its line still takes, and answers how many stores each line takes after that.
-fn arrive(image: &mut [u8], op: &[u64], takes: [u64; 20]) -> [u64; 20] {
+fn arrive(image: &mut [u8], op: &[u64], takes: [u64; LINES]) -> [u64; LINES] {
     let l = line_of(number_at(op, 1));
     if number_at(op, 0) != trace::OP_STORE {
         return takes;
@@ -212,7 +216,7 @@ fn arrive(image: &mut [u8], op: &[u64], takes: [u64; 20]) -> [u64; 20] {
 }
 
 // Plays on each line as many of its stores as it takes, the first ones.
-fn arrive_all(image: &mut [u8], ops: &[u64], takes: [u64; 20]) {
+fn arrive_all(image: &mut [u8], ops: &[u64], takes: [u64; LINES]) {
     let mut left = takes;
     let mut k = 0;
     while k < ops.len() / 3 {
@@ -225,7 +229,7 @@ fn arrive_all(image: &mut [u8], ops: &[u64], takes: [u64; 20]) {
 
 // Whether both reads show a part of a page in a level: the saved read may have length 0 if the part is zeros.
 fn shows_main(image: &[u8], part: &[u8], main: u64) -> bool {
-    let zeros = [0u8; 256];
+    let zeros = [0u8; BLOCK];
     if !same(
         reads::crpm_read_working(image, MAINS, BACKUPS, BLOCKS, main, 0),
         part,
@@ -259,13 +263,13 @@ struct Tally {
 }
 
 // Opens an image that a crash left, and counts which page it shows.
-fn judged(tally: Tally, image: &mut [u8], old: [u8; 512], new: [u8; 512]) -> Tally {
-    let mut trace = [0u64; 219];
+fn judged(tally: Tally, image: &mut [u8], old: [u8; PAGE], new: [u8; PAGE]) -> Tally {
+    let mut trace = [0u64; TAPE];
     let mut next = tally;
     next.ways = wrapping_add_u64(next.ways, 1);
     let opened = driver::step_open(image, MAINS, BACKUPS, BLOCKS, &mut trace);
     let status = opened.status;
-    if status.code() != 0 {
+    if !status.is_served() {
         next.other = wrapping_add_u64(next.other, 1);
         return next;
     }
@@ -283,12 +287,12 @@ fn judged(tally: Tally, image: &mut [u8], old: [u8; 512], new: [u8; 512]) -> Tal
 
 // How many stores each line takes, and whether there was such a way.
 struct Way {
-    takes: [u64; 20],
+    takes: [u64; LINES],
     found: bool,
 }
 
 // The next way after one: the first line that can takes one store more, and the lines before it start again.
-fn next_way(takes: [u64; 20], lines: Lines) -> Way {
+fn next_way(takes: [u64; LINES], lines: Lines) -> Way {
     let mut next = takes;
     let mut l = 0;
     while l < LINES {
@@ -309,7 +313,13 @@ fn next_way(takes: [u64; 20], lines: Lines) -> Way {
 }
 
 // One way: the image that it leaves, opened and judged.
-fn try_way(tally: Tally, held: [u8; 1280], ops: &[u64], takes: [u64; 20], bench: Bench) -> Tally {
+fn try_way(
+    tally: Tally,
+    held: [u8; IMAGE],
+    ops: &[u64],
+    takes: [u64; LINES],
+    bench: Bench,
+) -> Tally {
     let mut image = held;
     let old = bench.saved;
     let new = bench.working;
@@ -318,7 +328,7 @@ fn try_way(tally: Tally, held: [u8; 1280], ops: &[u64], takes: [u64; 20], bench:
 }
 
 // Every way, from the least that each line holds to all its stores.
-fn try_ways(held: [u8; 1280], ops: &[u64], bench: Bench) -> Tally {
+fn try_ways(held: [u8; IMAGE], ops: &[u64], bench: Bench) -> Tally {
     let lines = count_lines(ops);
     let mut tally = Tally {
         ways: 0,
@@ -343,7 +353,7 @@ fn try_ways(held: [u8; 1280], ops: &[u64], bench: Bench) -> Tally {
 }
 
 // Cuts a call after some of its orders, where the history stood at `bench` before the call.
-fn cut(case: u64, held: [u8; 1280], log: &[u64], bench: Bench, ops: u64) {
+fn cut(case: u64, held: [u8; IMAGE], log: &[u64], bench: Bench, ops: u64) {
     let end = within(log, after(bench.used, ops));
     let tally = try_ways(held, &log[0..end], bench);
     print_number(b"P", case);
@@ -356,7 +366,7 @@ fn cut(case: u64, held: [u8; 1280], log: &[u64], bench: Bench, ops: u64) {
 }
 
 // Takes the cuts of a call.
-fn cuts(call: Call, held: [u8; 1280], log: &[u64], bench: Bench) {
+fn cuts(call: Call, held: [u8; IMAGE], log: &[u64], bench: Bench) {
     let case = call.case;
     let end = call.end;
     let mut ops = call.first;
@@ -419,8 +429,8 @@ fn call_of(row: [u64; 8]) -> Call {
 struct Bench {
     session: Session,
     used: usize,
-    saved: [u8; 512],
-    working: [u8; 512],
+    saved: [u8; PAGE],
+    working: [u8; PAGE],
 }
 
 // The first n bytes, or all if there are fewer.
@@ -435,7 +445,7 @@ fn first_of(bytes: &[u8], n: u64) -> &[u8] {
 
 // A page with bytes put on it from a place of a level on. They lie within a page, so no remainder here changes a place (of P10, which
 // has other sizes and is not cut, no page is looked at).
-fn page_after(page: [u8; 512], main: u64, offset: u64, bytes: &[u8]) -> [u8; 512] {
+fn page_after(page: [u8; PAGE], main: u64, offset: u64, bytes: &[u8]) -> [u8; PAGE] {
     let start = (main % MAINS * BLOCK as u64 + offset % BLOCK as u64) as usize;
     let mut next = page;
     let mut i = 0;
@@ -454,7 +464,7 @@ fn kept(bench: Bench, call: Call, answer: Answer, bytes: &[u8]) -> Bench {
     let working = bench.working;
     next.session = session;
     next.used = after(bench.used, answer.ops);
-    if status.code() != 0 {
+    if !status.is_served() {
         return next;
     }
     if call.checkpoint {
@@ -492,7 +502,7 @@ fn make(image: &mut [u8], trace: &mut [u64], session: Session, call: Call, bytes
 }
 
 // A call of a history, on what is left of the log: made, looked at and cut.
-fn step(image: &mut [u8], log: &mut [u64], held: [u8; 1280], bench: Bench, call: Call) -> Bench {
+fn step(image: &mut [u8], log: &mut [u64], held: [u8; IMAGE], bench: Bench, call: Call) -> Bench {
     let bytes = BYTES;
     let given = first_of(&bytes, call.length);
     let session = bench.session;
@@ -508,7 +518,7 @@ fn step(image: &mut [u8], log: &mut [u64], held: [u8; 1280], bench: Bench, call:
 fn history(
     image: &mut [u8],
     log: &mut [u64],
-    held: [u8; 1280],
+    held: [u8; IMAGE],
     session: Session,
     from: usize,
     to: usize,
@@ -518,8 +528,8 @@ fn history(
     let mut bench = Bench {
         session: session,
         used: 0,
-        saved: [0; 512],
-        working: [0; 512],
+        saved: [0; PAGE],
+        working: [0; PAGE],
     };
     let mut i = from;
     while i < to {
@@ -540,9 +550,9 @@ fn lay_out(image: &mut [u8]) {
 
 // P1: the lengths of images, other lengths, and a size out of range.
 fn p1() {
-    let mut shorter = [7u8; 1279];
-    let mut fitting = [7u8; 1280];
-    let mut longer = [7u8; 1281];
+    let mut shorter = [7u8; IMAGE - 1];
+    let mut fitting = [7u8; IMAGE];
+    let mut longer = [7u8; IMAGE + 1];
     let image = metadata::image_size(Layout {
         mains: MAINS,
         backups: BACKUPS,
@@ -574,8 +584,8 @@ fn open(image: &mut [u8], layout: Layout, trace: &mut [u64]) -> Session {
 
 // P2: a tape too short by one, and one that is just long enough.
 fn p2(image: &mut [u8]) -> Session {
-    let mut short = [0u64; 218];
-    let mut fitting = [0u64; 219];
+    let mut short = [0u64; TAPE - 1];
+    let mut fitting = [0u64; TAPE];
     let layout = Layout::new(MAINS, BACKUPS, BLOCKS);
     print(b"P2");
     open(image, layout, &mut short);
@@ -587,17 +597,17 @@ fn p2(image: &mut [u8]) -> Session {
 // P10: before the last call of its history the level is paired, in state 1 and untouched, with one mark. It is not cut.
 fn p10() {
     let mut image = [7u8; 2560];
-    let mut log = [0u64; 1200];
+    let mut log = [0u64; LOG];
     print(b"P10");
     let session = open(&mut image, Layout::new(1, 1, 4), &mut log);
     print(b"\n");
-    history(&mut image, &mut log, [0; 1280], session, 11, 16);
+    history(&mut image, &mut log, [0; IMAGE], session, 11, 16);
 }
 
 // P5's write with a flush in the place of the fence after its copy, cut once its state 2 is flushed: the cuts find the fault.
 // P3 and P4 left 20 orders before it, and the fence is its order 39.
-fn p5_unfenced(held: [u8; 1280], log: [u64; 1200], session: Session) {
-    let page = page_after([0; 512], 0, 6, b"\xa1\xb2\xc3\xd4");
+fn p5_unfenced(held: [u8; IMAGE], log: [u64; LOG], session: Session) {
+    let page = page_after([0; PAGE], 0, 6, b"\xa1\xb2\xc3\xd4");
     let bench = Bench {
         session: session,
         used: 3 * 20,
@@ -611,8 +621,8 @@ fn p5_unfenced(held: [u8; 1280], log: [u64; 1200], session: Session) {
 }
 
 fn main() {
-    let mut image = [7u8; 1280];
-    let mut log = [0u64; 1200];
+    let mut image = [7u8; IMAGE];
+    let mut log = [0u64; LOG];
     p1();
     let session = p2(&mut image);
     let held = image;
