@@ -14,14 +14,14 @@ array-borrow-prefix-image c =
     let h = c .before .before in
     let s = h .before .before .before in
     let m = header-small (s .args .input .now) (h .header .result) (h .header .ensures) (s .pre .1) in
-    omega (arith, small-size (h .header .result .layout) _ m (c .image-size .ensures) .1)
+    omega (arith, small-size (h .header .result .layout) _ m (c .image-size .ensures .0) .1)
 
 slice-aggregate-run-script : tie.Need-slice-aggregate-run-script
 slice-aggregate-run-script c =
     let h = c .before .before .before in
     let s = h .before .before .before in
     let m = header-small (s .args .input .now) (h .header .result) (h .header .ensures) (s .pre .1) in
-    sym (length-take-le _ _ (omega (arith, small-size (h .header .result .layout) _ m (c .before .image-size .ensures) .1)))
+    sym (length-take-le _ _ (omega (arith, small-size (h .header .result .layout) _ m (c .before .image-size .ensures .0) .1)))
 
 slice-aggregate-run-script-2 : tie.Need-slice-aggregate-run-script-2
 slice-aggregate-run-script-2 c = search needs
@@ -31,7 +31,7 @@ run-script-requires c κs =
     let h = c .before .before .before .before .before in
     let s = h .before .before .before in
     let m = header-small (s .args .input .now) (h .header .result) (h .header .ensures) (s .pre .1) in
-    let z = small-size (h .header .result .layout) _ m (c .before .before .before .image-size .ensures) in (
+    let z = small-size (h .header .result .layout) _ m (c .before .before .before .image-size .ensures .0) in (
       (s .pre .0, header-rest (s .args .input .now) (h .header .result) (h .header .ensures) (s .pre .1)),
       (refl, length-take-le _ _ (omega (arith, z .1)) ∙ z .0, small-ok (h .header .result .layout) m, s .pre .2),
     )
