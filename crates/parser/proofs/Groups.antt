@@ -7,11 +7,11 @@ use mathlib.Core.List.{List, [], _∷_}
 use native.Mathlib.Omega.{arith}
 use native.Mathlib.Decide.{decLt}
 use lib.Dec.{leb, eqb}
-use lib.ListN.{length, getD, take, drop, length-drop}
+use lib.ListN.{length, getD, drop, length-drop}
 use borrow.Author.Tests.{leb-true, eqb-true}
 use Rattle.model.specs.Range.{cat}
 use Rattle.model.proofs.Range.{and-left, and-right}
-use Rattle.parser.specs.Text.{text, startsWith, Line, linesOf, numberOf, hexPairs, hexBytes}
+use Rattle.parser.specs.Text.{text, startsWith, Line, linesOf, numberOf, hexPairs}
 use Rattle.parser.specs.Script.{isSize, isBytes, key, groupKey, groupLines, named, valueOf, goodLine, keyFor, following, firstBad}
 use Rattle.parser.specs.Script.{lineAt, groupOf, firstGroups, groupsOf, defaultBackups, blocksLine, sizesOf}
 use Rattle.parser.specs.declared.GroupAt.{GroupAt}
@@ -168,14 +168,6 @@ module _ (input : List ℕ) («at» n : ℕ) (h : firstBad groupKey n (linesOf (
 
   pub group-rest : (r : GroupAt) → «at» < length input → ReadsGroup input «at» r → firstBad groupKey (5 + n) (linesOf (drop (r .next) input)) ≡ 0
   group-rest r l g = rw (g .rest) (group-here l .rest)
-
-  -- the digits as the part of the input that they are
-  pub group-digits : (r : GroupAt) → «at» < length input → ReadsGroup input «at» r
-      → (hexPairs (take (r .«digits_end» - r .digits) (drop (r .digits) input)) ≡ true)
-      × (length (take (r .«digits_end» - r .digits) (drop (r .digits) input)) ≤ 512)
-      × (hexBytes (take (r .«digits_end» - r .digits) (drop (r .digits) input)) ≡ groupOf (linesOf (drop «at» input)) .bytes)
-  unfolding groupOf
-  group-digits r l g = rw (g .digits) (group-here l .pairs, group-here l .short, refl)
 
 -- where the input ends there is no group
 pub groups-end : (input : List ℕ) («at» : ℕ) → «at» ≡ length input → groupsOf (linesOf (drop «at» input)) ≡ []

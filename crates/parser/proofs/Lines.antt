@@ -75,9 +75,6 @@ lines-some (b ∷ bs) h = go (eqb b 10) (linesOf bs)
 -- ---- the line that starts at a place
 
 module _ (input : List ℕ) («at» r : ℕ) (e : r ≡ «at» + lineLength (drop «at» input)) where
-  pub next-inside : «at» ≤ length input → r ≤ length input
-  next-inside h = omega (arith, line-inside (drop «at» input), length-drop «at» input)
-
   pub next-after : «at» < length input → «at» < r
   next-after h = omega (arith, line-some (drop «at» input) (omega (arith, length-drop «at» input)))
 

@@ -12,7 +12,7 @@ use Rattle.model.specs.Ops.{Ops, Trace, encode, traceShort}
 use Rattle.model.specs.Outcome.{Outcome}
 use Rattle.model.specs.Replay.{replayedOps, replayOutcome}
 use Rattle.model.specs.Open.{recoveryOps, openStatus, openOutcome}
-use Rattle.model.specs.Write.{WriteArgs, writeOps, writeStatus, writeOutcome, Chosen}
+use Rattle.model.specs.Write.{WriteArgs, writeOps, writeStatus, writeOutcome}
 use Rattle.model.specs.Checkpoint.{checkpointOps, checkpointStatus, checkpointOutcome}
 use Rattle.model.specs.Reference.{CallArgs, openArgs, writeArgs, checkpointArgs}
 use Rattle.model.specs.History.{Call, Device, answers, outcome, playedOps, replayedImage, deviceStep, PermittedOn, Permitted}

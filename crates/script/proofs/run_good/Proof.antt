@@ -9,6 +9,9 @@ use Rattle.script.proofs.run_good.Tie as tie
 header-requires : tie.Need-header-requires
 header-requires c κs = search needs
 
+image-size-requires : tie.Need-image-size-requires
+image-size-requires c κs = search needs
+
 array-borrow-prefix-image : tie.Need-array-borrow-prefix-image
 array-borrow-prefix-image c =
     let h = c .before .before in
@@ -50,6 +53,7 @@ run-good-spec =
     tie.close
     (tie.spec
     header-requires
+    image-size-requires
     array-borrow-prefix-image
     slice-aggregate-run-script
     slice-aggregate-run-script-2
