@@ -15,15 +15,6 @@ use Rattle.parser.specs.Script.{lineAt}
 
 -- ---- the first line
 
-pub line-inside : (bs : List ℕ) → lineLength bs ≤ length bs
-unfolding lineLength
-line-inside [] = omega arith
-line-inside (b ∷ bs) = go (eqb b 10) (line-inside bs)
-  where
-    go : (t : Bool) → lineLength bs ≤ length bs → cond t 1 (suc (lineLength bs)) ≤ suc (length bs)
-    go true h = omega arith
-    go false h = omega arith
-
 pub line-some : (bs : List ℕ) → 0 < length bs → 1 ≤ lineLength bs
 unfolding lineLength
 line-some [] h = omega arith
