@@ -26,7 +26,6 @@ use Rattle.model.proofs.Refusals.{served-parts, served-condition}
 use Rattle.model.proofs.Places.{segment-in-image}
 use Rattle.model.proofs.Metadata.{sizes-ok, paired-at, unpaired-none, paired-by, valid-means, valid-test}
 use Rattle.model.proofs.Gather.{all-ext, same-test}
-use Rattle.metadata.specs.declared.PairScan.{PairScan}
 use Rattle.metadata.specs.declared.Examined.{Examined}
 use Rattle.metadata.specs.Scan.{pairFits, slotOf, slotBackup, stateFits, Scanned, ExaminedBy, freeBackup, Choice}
 
@@ -394,12 +393,12 @@ module _ (l : Layout) (st pr : ℕ → ℕ) where
   }
 
 -- validity by what the code finds
-pub valid-by-scan : (l : Layout) (st pr : ℕ → ℕ) (r : PairScan) (a b c : Bool) → l .mains ≤ 64
+pub valid-by-scan : (l : Layout) (st pr : ℕ → ℕ) (r : Examined) (a b c : Bool) → l .mains ≤ 64
     → Scanned pr (l .mains) (l .backups) r
     → a ≡ restIs (l .backups) unpaired pr
     → b ≡ allB (l .mains) (λ (i : ℕ). stateFits (ltb (getD (r .backup) i 0) (l .backups)) (st i))
     → c ≡ restIs (l .mains) ssInitial st
-    → ((r .ok && a) && (b && c)) ≡ validMetadata l st pr
+    → ((r .valid && a) && (b && c)) ≡ validMetadata l st pr
 valid-by-scan l st pr r a b c m s p q t =
     ap₂ _&&_ (ap₂ _&&_ (s .fits) p) (ap₂ _&&_ (q ∙ all-ext (l .mains) _ _ (λ i h. ap (λ (x : Bool). stateFits x (st i)) (paired i h))) t) ∙ scan-valid l st pr
   where

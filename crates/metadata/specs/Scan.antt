@@ -9,7 +9,6 @@ use Rattle.model.specs.declared.Layout.{Layout}
 use Rattle.model.specs.Range.{allB, anyB, firstB}
 use Rattle.model.specs.Layout.{most, unpaired, ssInitial, ssMain, ssBackup}
 use Rattle.model.specs.Container.{validMetadata, pairedBackup, Free, anyFree}
-use Rattle.metadata.specs.declared.PairScan.{PairScan}
 use Rattle.metadata.specs.declared.Examined.{Examined}
 
 -- the pair of backup segment j is `unpaired`, or a main segment that no later backup segment has
@@ -30,8 +29,8 @@ unfoldable pub stateFits : Bool → ℕ → Bool
 stateFits paired st = cond paired (ltb ssInitial st && leb st ssBackup) (leb st ssMain)
 
 -- what the pass over the pairs answers: whether all fit, and the backup segment of every slot
-pub record Scanned (pr : ℕ → ℕ) (mains backups : ℕ) (r : PairScan) : Type 0 where
-  pub fits : r .ok ≡ allB backups (pairFits pr mains backups)
+pub record Scanned (pr : ℕ → ℕ) (mains backups : ℕ) (r : Examined) : Type 0 where
+  pub fits : r .valid ≡ allB backups (pairFits pr mains backups)
   pub found : (i : ℕ) → i ≤ most → getD (r .backup) i 0 ≡ slotBackup pr mains backups i
 
 -- what the pass over states and pairs answers: whether they are valid, and the backup segment of every slot

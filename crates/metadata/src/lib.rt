@@ -108,10 +108,10 @@ pub fn rest_is(image: &[u8], line: usize, n: usize, value: u8) -> bool
     ok
 }
 
-// What the pass over the pairs finds: whether they fit, and for each slot the lowest backup segment that has it, or the
-// number of backup segments where none has it.
-pub struct PairScan {
-    pub ok: bool,
+// What a pass over metadata finds: whether what it looked at is valid, and for each slot of the pairs the lowest backup
+// segment that has it, or the number of backup segments where none has it.
+pub struct Examined {
+    pub valid: bool,
     pub backup: [u8; SLOTS],
 }
 
@@ -142,13 +142,13 @@ pub fn slot_of(pair: u8, mains: u64) -> usize
 }
 
 // The pass over the pairs of backup segments, downward, so that the lowest stays.
-pub fn scan_pairs(image: &[u8], mains: u64, backups: usize) -> PairScan
+pub fn scan_pairs(image: &[u8], mains: u64, backups: usize) -> Examined
     requires { ⌜ (mains ≤ 64) × (backups ≤ 64) × (320 ≤ length (now image)) ⌝ }
     ensures { λ r. ⌜ Scanned (backupToMain (now (image .entry))) mains backups r ⌝ }
 {
     let none = backups as u8;
-    let mut scan = PairScan {
-        ok: true,
+    let mut scan = Examined {
+        valid: true,
         backup: [none; SLOTS],
     };
     let mut j = backups;
@@ -157,7 +157,7 @@ pub fn scan_pairs(image: &[u8], mains: u64, backups: usize) -> PairScan
         let pair = image[Layout::PAIRS_AT as usize + j];
         let i = slot_of(pair, mains);
         let later = scan.backup[i];
-        scan.ok = scan.ok & pair_fits(pair, mains, later < none);
+        scan.valid = scan.valid & pair_fits(pair, mains, later < none);
         scan.backup[i] = j as u8;
     }
     scan
@@ -194,28 +194,19 @@ pub fn states_fit(
     ok
 }
 
-// What one pass over states and pairs finds: whether the metadata is valid, and the slots of the pairs.
-pub struct Examined {
-    pub valid: bool,
-    pub backup: [u8; SLOTS],
-}
-
-// The pass over a line of states and the pairs.
+// The pass over a line of states and the pairs: whether the metadata is valid by that line.
 pub fn examine(image: &[u8], layout: Layout, line: usize) -> Examined
     requires { ⌜ (layout .mains ≤ 64) × (layout .backups ≤ 64) × (320 ≤ length (now image)) × (line + 64 ≤ length (now image)) ⌝ }
     ensures { λ r. ⌜ ExaminedBy layout (segState (now (image .entry)) line) (backupToMain (now (image .entry))) r ⌝ }
 {
     let mains = layout.mains as usize;
     let backups = layout.backups as usize;
-    let scan = scan_pairs(image, layout.mains, backups);
-    let backup = scan.backup;
-    let pairs_ok = scan.ok & rest_is(image, Layout::PAIRS_AT as usize, backups, UNPAIRED);
-    let states_ok = states_fit(image, line, mains, &backup, layout.backups as u8)
+    let mut found = scan_pairs(image, layout.mains, backups);
+    let pairs_ok = found.valid & rest_is(image, Layout::PAIRS_AT as usize, backups, UNPAIRED);
+    let states_ok = states_fit(image, line, mains, &found.backup, layout.backups as u8)
         & rest_is(image, line, mains, SS_INITIAL);
-    Examined {
-        valid: pairs_ok & states_ok,
-        backup: backup,
-    }
+    found.valid = pairs_ok & states_ok;
+    found
 }
 
 // ---- refusals 1 to 4

@@ -19,13 +19,12 @@ pub struct Replayed {
 pub fn op_well_formed(lines: u64, kind: u64, place: u64, word: u64) -> bool
     ensures { λ r. ⌜ r ≡ wellFormed lines kind place word ⌝ }
 {
-    let inside = place / Layout::LINE_SIZE < lines;
     if kind == trace::OP_STORE {
-        return inside & (place % Layout::WORD_SIZE == 0);
+        return (place / Layout::LINE_SIZE < lines) & (place % Layout::WORD_SIZE == 0);
     }
     let clwb = (kind == trace::OP_CLWB) & (place % Layout::LINE_SIZE == 0) & (word == 0);
     let sfence = (kind == trace::OP_SFENCE) & (place == 0) & (word == 0);
-    inside & (clwb | sfence)
+    (place / Layout::LINE_SIZE < lines) & (clwb | sfence)
 }
 
 // Whether the first `count` operations of a trace are well formed on an image of so many lines. They are judged downward, so

@@ -24,7 +24,7 @@ returns : tie.Need-returns
 returns c =
     let s = c .before in
     let p = s .before .before .before .before in
-    let k = p .before .before in
+    let k = p .before in
     let g = k .before .before .args in
     let I = g .image .now in
     record {

@@ -15,7 +15,7 @@ use Rattle.metadata.proofs.scan_pairs.Tie as tie
 abbrev Inv-loop : tie.InvT-loop
 Inv-loop image mains backups none scan₀ j₀ scan j =
     (j ≤ backups) × (length (scan .backup) ≡ 65)
-    × (scan .ok ≡ allB backups (λ k. ltb k j || pairFits (backupToMain image) mains backups k))
+    × (scan .valid ≡ allB backups (λ k. ltb k j || pairFits (backupToMain image) mains backups k))
     × ((i : ℕ) → i ≤ 64 → getD (scan .backup) i 0 ≡ firstB backups (slotted (backupToMain image) mains i j))
 
 abbrev μ-loop : tie.MeasureT-loop
