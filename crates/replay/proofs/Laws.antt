@@ -1,14 +1,15 @@
 -- Laws of replay for its two passes: what a well-formed store may touch, one operation more, and what each status leaves.
 use Prim.Native.Nat.{ℕ, zero, suc, _+_, _*_, _/_, _%_, _≤_, _<_}
-use mathlib.Core.Path.{_≡_, refl, sym, ap, _∙_}
+use mathlib.Core.Path.{_≡_, refl, sym, ap, ap₂, _∙_}
 use mathlib.Core.Logic.{_≢_}
 use mathlib.Core.Bool.{Bool, true, false, not, cond, _&&_, _||_, true≢false, false≢true}
 use mathlib.Core.List.{[], _∷_, _++_}
 use native.Mathlib.Omega.{arith}
+use native.Mathlib.Decide.{decLt}
 use native.Mathlib.Numerals.{add-one}
 use lib.Dec.{ltb, eqb}
 use lib.ListN.{length, take, getD}
-use borrow.Author.Tests.{ltb-true, eqb-true, ne-eqb, not-false}
+use borrow.Author.Tests.{lt-ltb, le-ltb, ltb-true, eqb-true, ne-eqb, not-false}
 use Rattle.model.specs.Range.{allB}
 use Rattle.model.specs.Words.{Image, storeWord}
 use Rattle.model.specs.Status.{firstError}
@@ -54,18 +55,28 @@ judged-stop lines t n k l h = go (allWellFormed lines t n) refl
     go false e = sym e
 
 -- what is judged of a store, and of another operation
-pub judged-store : (lines kind p w : ℕ) → kind ≡ 1 → (ltb (p / 64) lines && eqb (p % 8) 0) ≡ wellFormed lines kind p w
+-- a place lies below so many lines exactly if its line does
+below-lines : (lines p : ℕ) → ltb p (64 * lines) ≡ ltb (p / 64) lines
+below-lines lines p =
+    elim (decLt (p / 64) lines) [
+      | yes h ↦ lt-ltb p (64 * lines) (omega arith) ∙ sym (lt-ltb (p / 64) lines h)
+      | no h ↦ le-ltb p (64 * lines) (omega arith) ∙ sym (le-ltb (p / 64) lines (omega arith))
+    ]
+
+pub judged-store : (lines kind p w : ℕ) → kind ≡ 1 → (ltb p (64 * lines) && eqb (p % 8) 0) ≡ wellFormed lines kind p w
 unfolding wellFormed
-judged-store lines kind p w e = rw e (ap (λ (b : Bool). ltb (p / 64) lines && b) (go (eqb (p % 8) 0)))
+judged-store lines kind p w e = rw e (ap₂ _&&_ (below-lines lines p) (go (eqb (p % 8) 0)))
   where
     go : (b : Bool) → b ≡ (b || false || false)
     go true = refl
     go false = refl
 
 pub judged-other : (lines kind p w : ℕ) → kind ≢ 1
-    → (ltb (p / 64) lines && (eqb kind 2 && eqb (p % 64) 0 && eqb w 0 || eqb kind 3 && eqb p 0 && eqb w 0)) ≡ wellFormed lines kind p w
+    → (ltb p (64 * lines) && (eqb kind 2 && eqb (p % 64) 0 && eqb w 0 || eqb kind 3 && eqb p 0 && eqb w 0)) ≡ wellFormed lines kind p w
 unfolding wellFormed
-judged-other lines kind p w h = rw (ne-eqb kind 1 h)
+judged-other lines kind p w h =
+    rw (ne-eqb kind 1 h)
+    (ap (λ (b : Bool). b && (eqb kind 2 && eqb (p % 64) 0 && eqb w 0 || eqb kind 3 && eqb p 0 && eqb w 0)) (below-lines lines p))
 
 -- a well-formed store lies in the image
 pub store-inside : (size kind p w : ℕ) → kind ≡ 1 → size % 64 ≡ 0 → wellFormed (size / 64) kind p w ≡ true → p + 8 ≤ size

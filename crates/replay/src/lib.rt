@@ -3,7 +3,7 @@ use model::Layout;
 use model::Status;
 ghost use mathlib.Core.Path.{_≡_};
 ghost use mathlib.Core.Bool.{true};
-ghost use Prim.Native.Nat.{_*_, _/_, _%_, _≤_};
+ghost use Prim.Native.Nat.{_*_, _/_, _%_, _≤_, _^_, _<_};
 ghost use lib.ListN.{length};
 ghost use Rattle.model.specs.Status.{codeOf};
 ghost use Rattle.model.specs.Ops.{opOf, apply, replay};
@@ -17,19 +17,22 @@ pub struct Replayed {
 
 // Whether three numbers are an operation on an image of so many lines.
 pub fn op_well_formed(lines: u64, kind: u64, place: u64, word: u64) -> bool
+    requires { ⌜ lines < 2 ^ 58 ⌝ }
     ensures { λ r. ⌜ r ≡ wellFormed lines kind place word ⌝ }
 {
+    let size = Layout::LINE_SIZE * lines;
     if kind == trace::OP_STORE {
-        return (place / Layout::LINE_SIZE < lines) & (place % Layout::WORD_SIZE == 0);
+        return (place < size) & (place % Layout::WORD_SIZE == 0);
     }
     let clwb = (kind == trace::OP_CLWB) & (place % Layout::LINE_SIZE == 0) & (word == 0);
     let sfence = (kind == trace::OP_SFENCE) & (place == 0) & (word == 0);
-    (place / Layout::LINE_SIZE < lines) & (clwb | sfence)
+    (place < size) & (clwb | sfence)
 }
 
 // Whether the first `count` operations of a trace are well formed on an image of so many lines. They are judged downward, so
 // that the first of them are still in the cache when they are played.
 pub fn all_well_formed(lines: u64, trace: &[u64], count: usize) -> bool
+    requires { ⌜ lines < 2 ^ 58 ⌝ }
     requires { ⌜ 3 * count ≤ length (now trace) ⌝ }
     ensures { λ r. ⌜ r ≡ allWellFormed lines (now (trace .entry)) count ⌝ }
 {

@@ -14,7 +14,7 @@ replay-count-requires : tie.Need-replay-count-requires
 replay-count-requires c κs = search needs
 
 all-well-formed-requires : tie.Need-all-well-formed-requires
-all-well-formed-requires c κs = rw (c .replay-count .ensures) (count-inside _ _)
+all-well-formed-requires c κs = (search needs, rw (c .replay-count .ensures) (count-inside _ _))
 
 returns-3 : tie.Need-returns-3
 returns-3 c =
