@@ -27,7 +27,7 @@ use Rattle.model.proofs.Places.{segment-in-image}
 use Rattle.model.proofs.Metadata.{sizes-ok, paired-at, unpaired-none, paired-by, valid-means, valid-test}
 use Rattle.model.proofs.Gather.{all-ext, same-test}
 use Rattle.metadata.specs.declared.Examined.{Examined}
-use Rattle.metadata.specs.Scan.{pairFits, slotOf, slotBackup, stateFits, Scanned, ExaminedBy, freeBackup, Choice}
+use Rattle.metadata.specs.Scan.{pairFits, slotOf, entryOf, slotBackup, stateFits, Scanned, ExaminedBy, freeBackup, Choice}
 
 -- ---- the first number
 
@@ -112,15 +112,31 @@ slot-main : (mains p : ℕ) → p < mains → slotOf mains p ≡ p
 unfolding slotOf
 slot-main mains p h = rw (lt-ltb p mains h)
 
-module _ (l : Layout) (pr : ℕ → ℕ) (i : ℕ) (m : l .mains ≤ 64) (b : i < l .mains) where
-  -- the slot of a main segment has its backup segment
-  pub slot-backup : slotBackup pr (l .mains) (l .backups) i ≡ pairedBackup l pr i
-  unfolding slotBackup pairedBackup
-  slot-backup = first-ext (l .backups) _ _ (λ j h. slot-test (l .mains) (pr j) i m b)
+-- the entry of a slot that a backup segment has, and of one that none has
+pub entry-some : (backups first : ℕ) → first < backups → entryOf backups first ≡ first
+unfolding entryOf
+entry-some backups first h = rw (lt-ltb first backups h)
 
-  -- and shows whether it is paired
-  pub slot-paired : isPaired l pr i ≡ ltb (slotBackup pr (l .mains) (l .backups) i) (l .backups)
-  slot-paired = is-paired l pr i ∙ ap (λ (n : ℕ). ltb n (l .backups)) (sym slot-backup)
+entry-none : (backups first : ℕ) → backups ≤ first → entryOf backups first ≡ 255
+unfolding entryOf
+entry-none backups first h = rw (le-ltb first backups h)
+
+-- the entry shows whether some backup segment has the slot
+entry-shows : (backups first : ℕ) → backups ≤ 64 → not (eqb (entryOf backups first) 255) ≡ ltb first backups
+entry-shows backups first m = go (decLt first backups)
+  where
+    go : Dec (first < backups) → not (eqb (entryOf backups first) 255) ≡ ltb first backups
+    go (yes h) = rw (entry-some backups first h, lt-ltb first backups h, ne-eqb first 255 (λ e. omega arith))
+    go (no h) = rw (entry-none backups first (omega arith), le-ltb first backups (omega arith))
+
+-- the slot of a main segment has its backup segment
+slot-backup : (l : Layout) (pr : ℕ → ℕ) (i : ℕ) → l .mains ≤ 64 → i < l .mains → slotBackup pr (l .mains) (l .backups) i ≡ entryOf (l .backups) (pairedBackup l pr i)
+unfolding slotBackup pairedBackup
+slot-backup l pr i m b = ap (entryOf (l .backups)) (first-ext (l .backups) _ _ (λ j h. slot-test (l .mains) (pr j) i m b))
+
+-- and shows whether it is paired
+pub entry-paired : (l : Layout) (pr : ℕ → ℕ) (i n : ℕ) → l .backups ≤ 64 → n ≡ entryOf (l .backups) (pairedBackup l pr i) → not (eqb n 255) ≡ isPaired l pr i
+entry-paired l pr i n m e = ap (λ (x : ℕ). not (eqb x 255)) e ∙ entry-shows (l .backups) (pairedBackup l pr i) m ∙ sym (is-paired l pr i)
 
 -- ---- the pass over the pairs, downward
 
@@ -142,45 +158,47 @@ abbrev pub slotted : (ℕ → ℕ) → ℕ → ℕ → ℕ → ℕ → Bool
 slotted pr mains i j = from j (λ (n : ℕ). eqb (slotOf mains (pr n)) i)
 
 -- no slot has a backup segment yet
-pub slots-none : (pr : ℕ → ℕ) (mains backups i : ℕ) → i ≤ 64 → getD (replicate 65 backups) i 0 ≡ firstB backups (slotted pr mains i backups)
+pub slots-none : (pr : ℕ → ℕ) (mains backups i : ℕ) → i ≤ 64 → getD (replicate 65 255) i 0 ≡ entryOf backups (firstB backups (slotted pr mains i backups))
 slots-none pr mains backups i l =
-    getD-replicate 65 i backups 0 (omega arith) ∙ sym (first-none backups (slotted pr mains i backups) (λ k h. rw (lt-leb backups k h)))
+    let none = first-none backups (slotted pr mains i backups) (λ k h. rw (lt-leb backups k h)) in
+    getD-replicate 65 i 255 0 (omega arith) ∙ sym (entry-none backups _ (omega (arith, none)))
 
 -- the slots after one more pair
 pub slots-more : (slots : List ℕ) (pr : ℕ → ℕ) (mains backups k s : ℕ) → 65 ≤ length slots → k < backups → s ≡ slotOf mains (pr k)
-    → ((i : ℕ) → i ≤ 64 → getD slots i 0 ≡ firstB backups (slotted pr mains i (suc k)))
-    → (i : ℕ) → i ≤ 64 → getD (set slots s k) i 0 ≡ firstB backups (slotted pr mains i k)
+    → ((i : ℕ) → i ≤ 64 → getD slots i 0 ≡ entryOf backups (firstB backups (slotted pr mains i (suc k))))
+    → (i : ℕ) → i ≤ 64 → getD (set slots s k) i 0 ≡ entryOf backups (firstB backups (slotted pr mains i k))
 slots-more slots pr mains backups k s len b e h i l = go (ℕ-discrete i s)
   where
-    go : Dec (i ≡ s) → getD (set slots s k) i 0 ≡ firstB backups (slotted pr mains i k)
+    go : Dec (i ≡ s) → getD (set slots s k) i 0 ≡ entryOf backups (firstB backups (slotted pr mains i k))
     go (yes q) =
+        let found = first-found backups (slotted pr mains i k) k b (λ n h. rw (lt-leb k n h)) (both (le-leb k k (omega arith)) (eq-eqb _ _ (sym (q ∙ e)))) in
         ap (λ (n : ℕ). getD (set slots n k) i 0) (sym q) ∙ getD-set-same slots i k 0 (omega arith)
-        ∙ sym (first-found backups (slotted pr mains i k) k b (λ n h. rw (lt-leb k n h)) (both (le-leb k k (omega arith)) (eq-eqb _ _ (sym (q ∙ e)))))
+        ∙ sym (ap (entryOf backups) found ∙ entry-some backups k b)
     go (no q) =
         getD-set-other slots s i k 0 q ∙ h i l
-        ∙ first-ext backups _ _ (λ n c. from-more k n (λ (n : ℕ). eqb (slotOf mains (pr n)) i) (ne-eqb _ _ (λ x. q (sym x ∙ sym e))))
+        ∙ ap (entryOf backups) (first-ext backups _ _ (λ n c. from-more k n (λ (n : ℕ). eqb (slotOf mains (pr n)) i) (ne-eqb _ _ (λ x. q (sym x ∙ sym e)))))
 
 -- all backup segments are passed
-pub slots-all : (pr : ℕ → ℕ) (mains backups i : ℕ) → firstB backups (slotted pr mains i 0) ≡ slotBackup pr mains backups i
+pub slots-all : (pr : ℕ → ℕ) (mains backups i : ℕ) → entryOf backups (firstB backups (slotted pr mains i 0)) ≡ slotBackup pr mains backups i
 unfolding slotBackup
-slots-all pr mains backups i = first-ext backups _ _ (λ n h. rw (le-leb 0 n (omega arith)))
+slots-all pr mains backups i = ap (entryOf backups) (first-ext backups _ _ (λ n h. rw (le-leb 0 n (omega arith))))
 
 -- the slot of a pair's main segment says whether a later backup segment has it
-pub pair-by-slot : (pr : ℕ → ℕ) (mains backups k later : ℕ) (r : Bool) → mains ≤ 64
-    → later ≡ firstB backups (slotted pr mains (slotOf mains (pr k)) (suc k))
-    → r ≡ ((ltb (pr k) mains || eqb (pr k) 255) && not (ltb (pr k) mains && ltb later backups)) → r ≡ pairFits pr mains backups k
+pub pair-by-slot : (pr : ℕ → ℕ) (mains backups k later : ℕ) (r : Bool) → mains ≤ 64 → backups ≤ 64
+    → later ≡ entryOf backups (firstB backups (slotted pr mains (slotOf mains (pr k)) (suc k)))
+    → r ≡ ((ltb (pr k) mains || eqb (pr k) 255) && not (ltb (pr k) mains && not (eqb later 255))) → r ≡ pairFits pr mains backups k
 unfolding pairFits
-pair-by-slot pr mains backups k later r m h q = q ∙ go (decLt (pr k) mains)
+pair-by-slot pr mains backups k later r m c h q = q ∙ go (decLt (pr k) mains)
   where
-    go : Dec (pr k < mains) → ((ltb (pr k) mains || eqb (pr k) 255) && not (ltb (pr k) mains && ltb later backups))
+    go : Dec (pr k < mains) → ((ltb (pr k) mains || eqb (pr k) 255) && not (ltb (pr k) mains && not (eqb later 255)))
         ≡ ((ltb (pr k) mains || eqb (pr k) 255) && not (ltb (pr k) mains && anyB backups (λ n. ltb k n && eqb (pr n) (pr k))))
     go (yes l) =
-        let e : later ≡ firstB backups (λ n. ltb k n && eqb (pr n) (pr k)) =
-        h ∙ ap (λ (s : ℕ). firstB backups (slotted pr mains s (suc k))) (slot-main mains (pr k) l)
+        let e : firstB backups (slotted pr mains (slotOf mains (pr k)) (suc k)) ≡ firstB backups (λ n. ltb k n && eqb (pr n) (pr k)) =
+        ap (λ (s : ℕ). firstB backups (slotted pr mains s (suc k))) (slot-main mains (pr k) l)
         ∙ first-ext backups _ _ (λ n b. ap (λ (t : Bool). ltb k n && t) (slot-test mains (pr n) (pr k) m l))
         in
         ap (λ (t : Bool). (ltb (pr k) mains || eqb (pr k) 255) && not (ltb (pr k) mains && t))
-        (ap (λ (n : ℕ). ltb n backups) e ∙ sym (any-first backups (λ n. ltb k n && eqb (pr n) (pr k))))
+        (ap (λ (n : ℕ). not (eqb n 255)) h ∙ entry-shows backups _ c ∙ ap (λ (n : ℕ). ltb n backups) e ∙ sym (any-first backups (λ n. ltb k n && eqb (pr n) (pr k))))
     go (no l) = rw (le-ltb (pr k) mains (omega arith))
 
 -- a test of the numbers from j on: none yet, one more, all
@@ -393,20 +411,20 @@ module _ (l : Layout) (st pr : ℕ → ℕ) where
   }
 
 -- validity by what the code finds
-pub valid-by-scan : (l : Layout) (st pr : ℕ → ℕ) (r : Examined) (a b c : Bool) → l .mains ≤ 64
+pub valid-by-scan : (l : Layout) (st pr : ℕ → ℕ) (r : Examined) (a b c : Bool) → l .mains ≤ 64 → l .backups ≤ 64
     → Scanned pr (l .mains) (l .backups) r
     → a ≡ restIs (l .backups) unpaired pr
-    → b ≡ allB (l .mains) (λ (i : ℕ). stateFits (ltb (getD (r .backup) i 0) (l .backups)) (st i))
+    → b ≡ allB (l .mains) (λ (i : ℕ). stateFits (not (eqb (getD (r .backup) i 0) 255)) (st i))
     → c ≡ restIs (l .mains) ssInitial st
     → ((r .valid && a) && (b && c)) ≡ validMetadata l st pr
-valid-by-scan l st pr r a b c m s p q t =
+valid-by-scan l st pr r a b c m n s p q t =
     ap₂ _&&_ (ap₂ _&&_ (s .fits) p) (ap₂ _&&_ (q ∙ all-ext (l .mains) _ _ (λ i h. ap (λ (x : Bool). stateFits x (st i)) (paired i h))) t) ∙ scan-valid l st pr
   where
-    paired : (i : ℕ) → i < l .mains → ltb (getD (r .backup) i 0) (l .backups) ≡ isPaired l pr i
-    paired i h = ap (λ (n : ℕ). ltb n (l .backups)) (s .found i (omega arith)) ∙ sym (slot-paired l pr i m h)
+    paired : (i : ℕ) → i < l .mains → not (eqb (getD (r .backup) i 0) 255) ≡ isPaired l pr i
+    paired i h = entry-paired l pr i _ n (s .found i (omega arith) ∙ slot-backup l pr i m h)
 
 -- the pass over states and pairs found the backup segment of main segment i
-pub found-backup : (l : Layout) (st pr : ℕ → ℕ) (r : Examined) → ExaminedBy l st pr r → l .mains ≤ 64 → (i : ℕ) → i < l .mains → getD (r .backup) i 0 ≡ pairedBackup l pr i
+pub found-backup : (l : Layout) (st pr : ℕ → ℕ) (r : Examined) → ExaminedBy l st pr r → l .mains ≤ 64 → (i : ℕ) → i < l .mains → getD (r .backup) i 0 ≡ entryOf (l .backups) (pairedBackup l pr i)
 found-backup l st pr r x m i b = x .found i (omega arith) ∙ slot-backup l pr i m b
 
 -- ---- where the checkpoint stands

@@ -20,9 +20,13 @@ pairFits pr mains backups j =
 unfoldable pub slotOf : ℕ → ℕ → ℕ
 slotOf mains pair = cond (ltb pair mains) pair most
 
--- the lowest backup segment whose pair byte has slot i, or the number of backup segments
+-- the entry of a slot, by the first backup segment that has it: its number, or `unpaired` where there is none
+unfoldable pub entryOf : ℕ → ℕ → ℕ
+entryOf backups first = cond (ltb first backups) first unpaired
+
+-- the lowest backup segment whose pair byte has slot i, or `unpaired`
 unfoldable pub slotBackup : (ℕ → ℕ) → ℕ → ℕ → ℕ → ℕ
-slotBackup pr mains backups i = firstB backups (λ j. eqb (slotOf mains (pr j)) i)
+slotBackup pr mains backups i = entryOf backups (firstB backups (λ j. eqb (slotOf mains (pr j)) i))
 
 -- a main segment may be in this state: 1 or 2 if it has a backup, else 0 or 1
 unfoldable pub stateFits : Bool → ℕ → Bool

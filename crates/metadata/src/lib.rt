@@ -18,10 +18,11 @@ ghost use Rattle.metadata.specs.Scan.{slotOf, stateFits, Scanned, Examin
 // The slots that the pass over the pairs fills: one for each main segment, and the last for pairs that name none.
 pub const SLOTS: usize = Layout::MOST as usize + 1;
 
-// The most main segments or backup segments, the byte of an unpaired backup segment, and the states, as the code compares them.
-const MOST: usize = Layout::MOST as usize;
+// The byte of an unpaired backup segment, and of a slot that no backup segment has: no backup segment has this number.
+pub const UNPAIRED: u8 = Layout::UNPAIRED as u8;
 
-const UNPAIRED: u8 = Layout::UNPAIRED as u8;
+// The most main segments or backup segments, and the states, as the code compares them.
+const MOST: usize = Layout::MOST as usize;
 
 const SS_INITIAL: u8 = Layout::SS_INITIAL as u8;
 
@@ -109,7 +110,7 @@ pub fn rest_is(image: &[u8], line: usize, n: usize, value: u8) -> bool
 }
 
 // What a pass over metadata finds: whether what it looked at is valid, and for each slot of the pairs the lowest backup
-// segment that has it, or the number of backup segments where none has it.
+// segment that has it, or 255 (UNPAIRED) where none has it.
 pub struct Examined {
     pub valid: bool,
     pub backup: [u8; SLOTS],
@@ -146,10 +147,9 @@ pub fn scan_pairs(image: &[u8], mains: u64, backups: usize) -> Examined
     requires { ⌜ (mains ≤ 64) × (backups ≤ 64) × (320 ≤ length (now image)) ⌝ }
     ensures { λ r. ⌜ Scanned (backupToMain (now (image .entry))) mains backups r ⌝ }
 {
-    let none = backups as u8;
     let mut scan = Examined {
         valid: true,
-        backup: [none; SLOTS],
+        backup: [UNPAIRED; SLOTS],
     };
     let mut j = backups;
     while 0 < j {
@@ -157,7 +157,7 @@ pub fn scan_pairs(image: &[u8], mains: u64, backups: usize) -> Examined
         let pair = image[Layout::PAIRS_AT as usize + j];
         let i = slot_of(pair, mains);
         let later = scan.backup[i];
-        scan.valid = scan.valid & pair_fits(pair, mains, later < none);
+        scan.valid = scan.valid & pair_fits(pair, mains, later != UNPAIRED);
         scan.backup[i] = j as u8;
     }
     scan
@@ -174,21 +174,15 @@ pub fn state_fits(state: u8, paired: bool) -> bool
     }
 }
 
-// Whether the states of main segments fit their pairs, given what the pass over the pairs of so many backup segments found.
-pub fn states_fit(
-    image: &[u8],
-    line: usize,
-    mains: usize,
-    backup: &[u8; SLOTS],
-    backups: u8,
-) -> bool
+// Whether the states of main segments fit their pairs, given what the pass over the pairs found.
+pub fn states_fit(image: &[u8], line: usize, mains: usize, backup: &[u8; SLOTS]) -> bool
     requires { ⌜ (mains ≤ 64) × (line + 64 ≤ length (now image)) ⌝ }
-    ensures { λ r. ⌜ r ≡ allB mains (λ i. stateFits (ltb (getD (now (backup .entry)) i 0) backups) (byteAt (now (image .entry)) (line + i))) ⌝ }
+    ensures { λ r. ⌜ r ≡ allB mains (λ i. stateFits (not (eqb (getD (now (backup .entry)) i 0) 255)) (byteAt (now (image .entry)) (line + i))) ⌝ }
 {
     let mut ok = true;
     let mut i = 0;
     while i < mains {
-        ok = ok & state_fits(image[line + i], backup[i] < backups);
+        ok = ok & state_fits(image[line + i], backup[i] != UNPAIRED);
         i += 1;
     }
     ok
@@ -203,7 +197,7 @@ pub fn examine(image: &[u8], layout: Layout, line: usize) -> Examined
     let backups = layout.backups as usize;
     let mut found = scan_pairs(image, layout.mains, backups);
     let pairs_ok = found.valid & rest_is(image, Layout::PAIRS_AT as usize, backups, UNPAIRED);
-    let states_ok = states_fit(image, line, mains, &found.backup, layout.backups as u8)
+    let states_ok = states_fit(image, line, mains, &found.backup)
         & rest_is(image, line, mains, SS_INITIAL);
     found.valid = pairs_ok & states_ok;
     found

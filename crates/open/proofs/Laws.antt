@@ -6,7 +6,6 @@ use mathlib.Core.Bool.{Bool, true, false, not}
 use mathlib.Core.List.{List, [], _∷_}
 use native.Mathlib.Omega.{arith}
 use native.Mathlib.Nat.{mul-le-mul}
-use lib.Dec.{ltb}
 use lib.ListN.{length, getD}
 use borrow.Author.Tests.{not-false}
 use Rattle.model.specs.declared.Layout.{Layout}
@@ -18,14 +17,14 @@ use Rattle.model.specs.Layout.{most, SizesOk, imageSize}
 use Rattle.model.specs.Status.{firstError, served}
 use Rattle.model.specs.Container.{activeLine, segState, backupToMain, isPaired, validMetadata, pairedBackup, byState, layoutErrors, validErrors}
 use Rattle.model.specs.Ops.{Trace}
-use Rattle.model.specs.Open.{recoveryAction, recoveryOps, openStatus, openOutcome}
+use Rattle.model.specs.Open.{recoveryAction, actionOps, recoverSegment, recoveryOps, openStatus, openOutcome}
 use Rattle.model.specs.Session.{freshSession, zeroSession}
 use Rattle.model.specs.Outcome.{Outcome, outcomeOf, Gives}
 use Rattle.model.proofs.Metadata.{paired-at, valid-means}
 use Rattle.model.proofs.Refusals.{first-holds, first-fails, first-of-none, stage-refused, stage-passed}
 use Rattle.metadata.specs.declared.Examined.{Examined}
-use Rattle.metadata.specs.Scan.{ExaminedBy}
-use Rattle.metadata.proofs.Laws.{is-paired, found-backup}
+use Rattle.metadata.specs.Scan.{entryOf, ExaminedBy}
+use Rattle.metadata.proofs.Laws.{entry-some, found-backup}
 use Rattle.open.specs.Recovery.{Recovers, takesBackup, BackupsOf, recoveryErrors, recoveryOutcome}
 
 -- ---- the table
@@ -49,10 +48,6 @@ unpaired-cell (suc (suc (suc st))) h = let z : ⊥ = omega arith in absurd z
 
 -- ---- one segment
 
--- what the pass over the pairs found shows whether a main segment is paired
-pub shows-paired : (l : Layout) (I : Image) (found : List ℕ) (i : ℕ) → BackupsOf l I found → i < l .mains → ltb (getD found i 0) (l .backups) ≡ isPaired l (backupToMain I) i
-shows-paired l I found i h b = ap (λ (n : ℕ). ltb n (l .backups)) (h i b) ∙ sym (is-paired l (backupToMain I) i)
-
 takes-paired : (st : ℕ) (paired : Bool) → takesBackup (recoveryAction st paired) ≡ true → paired ≡ true
 unfolding recoveryAction byState
 takes-paired st true h = refl
@@ -64,6 +59,26 @@ takes-paired (suc (suc st)) false h = h
 pub takes-there : (l : Layout) (I : Image) (st i : ℕ) (a : Action) → a ≡ recoveryAction st (isPaired l (backupToMain I) i) → takesBackup a ≡ true
     → pairedBackup l (backupToMain I) i < l .backups
 takes-there l I st i a e h = paired-at l (backupToMain I) i (takes-paired st _ (ap takesBackup (sym e) ∙ h)) .0
+
+-- so the entry of the main segment says which
+pub takes-entry : (l : Layout) (I : Image) (st i j : ℕ) (a : Action) → a ≡ recoveryAction st (isPaired l (backupToMain I) i)
+    → j ≡ entryOf (l .backups) (pairedBackup l (backupToMain I) i) → takesBackup a ≡ true → j ≡ pairedBackup l (backupToMain I) i
+takes-entry l I st i j a e k h = k ∙ entry-some (l .backups) _ (takes-there l I st i a e h)
+
+-- the operations of an action are those of the backup segment that it takes
+same-ops : (l : Layout) (I : Image) (i j k : ℕ) (a : Action) → (takesBackup a ≡ true → j ≡ k) → actionOps l I i j a ≡ actionOps l I i k a
+unfolding actionOps
+same-ops l I i j k Nothing h = refl
+same-ops l I i j k ZeroMain h = refl
+same-ops l I i j k CopyToBackup h = rw (h refl)
+same-ops l I i j k CopyToMain h = rw (h refl)
+
+-- the operations of recovery of a main segment, by its entry
+pub entry-ops : (l : Layout) (I : Image) (line i j : ℕ) (a : Action) → a ≡ recoveryAction (segState I line i) (isPaired l (backupToMain I) i)
+    → j ≡ entryOf (l .backups) (pairedBackup l (backupToMain I) i) → actionOps l I i j a ≡ recoverSegment l I line i
+unfolding recoverSegment
+entry-ops l I line i j a e k =
+    same-ops l I i j _ a (takes-entry l I (segState I line i) i j a e k) ∙ ap (actionOps l I i (pairedBackup l (backupToMain I) i)) e
 
 -- ---- the number of operations
 

@@ -15,6 +15,7 @@ use Rattle.model.specs.Session.{freshSession, zeroSession}
 use Rattle.model.specs.Ops.{Trace, traceErrors}
 use Rattle.model.specs.Open.{recoveryOps}
 use Rattle.model.specs.Outcome.{Outcome, outcomeOf}
+use Rattle.metadata.specs.Scan.{entryOf}
 
 -- what recovery goes by: an image of the layout's size, and a line of states that is valid with the pairs
 pub record Recovers (l : Layout) (I : Image) (line : ℕ) : Type 0 where
@@ -23,9 +24,9 @@ pub record Recovers (l : Layout) (I : Image) (line : ℕ) : Type 0 where
   pub inside : line + most ≤ length I
   pub valid : Valid l (segState I line) (backupToMain I)
 
--- the backup segment of each main segment, as the pass over the pairs found it
+-- the backup segment of each main segment, or `unpaired`, as the pass over the pairs found it
 abbrev pub BackupsOf : Layout → Image → List ℕ → Type 0
-BackupsOf l I found = (i : ℕ) → i < l .mains → getD found i 0 ≡ pairedBackup l (backupToMain I) i
+BackupsOf l I found = (i : ℕ) → i < l .mains → getD found i 0 ≡ entryOf (l .backups) (pairedBackup l (backupToMain I) i)
 
 -- an action that reads or writes the backup segment
 abbrev pub takesBackup : Action → Bool

@@ -1,6 +1,7 @@
 // Opening, which recovers (document 01: opening): each main segment is treated by the table of states and pairs, so that its
 // bytes are the checkpoint again. What recovery does is given a line of states; an opening goes by the active one.
 use metadata::SLOTS;
+use metadata::UNPAIRED;
 use model::Action;
 use model::Answer;
 use model::Layout;
@@ -63,7 +64,7 @@ pub fn segment_action(
     requires { ⌜ (i < layout .mains) × Recovers layout (now image) line × BackupsOf layout (now image) (now backup) ⌝ }
     ensures { λ r. ⌜ r ≡ recoveryAction (segState (now (image .entry)) line i) (isPaired layout (backupToMain (now (image .entry))) i) ⌝ }
 {
-    recovery_action(image[line + i], metadata::wide(backup[i]) < layout.backups)
+    recovery_action(image[line + i], backup[i] != UNPAIRED)
 }
 
 // Writes the operations of an action on main segment i and backup segment j.

@@ -11,9 +11,6 @@ scan-pairs-requires c κs = search needs
 rest-is-requires : tie.Need-rest-is-requires
 rest-is-requires c κs = search needs
 
-cast-states-fit : tie.Need-cast-states-fit
-cast-states-fit c = search needs
-
 states-fit-requires : tie.Need-states-fit-requires
 states-fit-requires c κs = search needs
 
@@ -23,14 +20,14 @@ rest-is-requires-2 c κs = search needs
 returns : tie.Need-returns
 returns c =
     let s = c .before in
-    let p = s .before .before .before .before in
+    let p = s .before .before .before in
     let k = p .before in
     let g = k .before .before .args in
     let I = g .image .now in
     record {
-      valid = valid-by-scan (g .layout) (segState I (g .line)) (backupToMain I) _ _ _ _ (omega arith) (k .scan-pairs .ensures) (p .rest-is .ensures) (s .states-fit .ensures) (c .rest-is2 .ensures);
+      valid = valid-by-scan (g .layout) (segState I (g .line)) (backupToMain I) _ _ _ _ (omega arith) (omega arith) (k .scan-pairs .ensures) (p .rest-is .ensures) (s .states-fit .ensures) (c .rest-is2 .ensures);
       found = k .scan-pairs .ensures .found;
     }
 
 pub examine-spec : {M : Type 1} → statement M
-examine-spec = tie.close (tie.spec scan-pairs-requires rest-is-requires cast-states-fit states-fit-requires rest-is-requires-2 returns)
+examine-spec = tie.close (tie.spec scan-pairs-requires rest-is-requires states-fit-requires rest-is-requires-2 returns)

@@ -7,22 +7,19 @@ use lib.Dec.{ltb}
 use borrow.Author.Needs.{needs}
 use Rattle.model.specs.Container.{backupToMain}
 use Rattle.model.specs.Range.{allB, firstB}
-use Rattle.metadata.specs.Scan.{pairFits, slotOf}
+use Rattle.metadata.specs.Scan.{pairFits, slotOf, entryOf}
 use Rattle.metadata.proofs.Laws.{slotted, slots-none, slots-more, slots-all, pair-by-slot, fits-none, fits-more, fits-all}
 use Rattle.metadata.proofs.scan_pairs.Statement.{statement}
 use Rattle.metadata.proofs.scan_pairs.Tie as tie
 
 abbrev Inv-loop : tie.InvT-loop
-Inv-loop image mains backups none scan₀ j₀ scan j =
+Inv-loop image mains backups scan₀ j₀ scan j =
     (j ≤ backups) × (length (scan .backup) ≡ 65)
     × (scan .valid ≡ allB backups (λ k. ltb k j || pairFits (backupToMain image) mains backups k))
-    × ((i : ℕ) → i ≤ 64 → getD (scan .backup) i 0 ≡ firstB backups (slotted (backupToMain image) mains i j))
+    × ((i : ℕ) → i ≤ 64 → getD (scan .backup) i 0 ≡ entryOf backups (firstB backups (slotted (backupToMain image) mains i j)))
 
 abbrev μ-loop : tie.MeasureT-loop
-μ-loop image mains backups none scan₀ j₀ scan j = j
-
-cast-none : tie.Need-cast-none Inv-loop μ-loop
-cast-none c = search needs
+μ-loop image mains backups scan₀ j₀ scan j = j
 
 loop-holds : tie.Need-loop-holds Inv-loop μ-loop
 loop-holds c = (search needs, search needs, fits-none _ _, slots-none _ _ _)
@@ -64,14 +61,14 @@ loop-again c =
     let slots = b .loop .scan .backup in
     let k = b .loop .j - 1 in
     let e : b .loop .j ≡ suc k = omega arith in
-    let found : (i : ℕ) → i ≤ 64 → getD slots i 0 ≡ firstB (g .backups) (slotted pr (g .mains) i (suc k)) =
-    λ i h. b .loop .inv .3 i h ∙ ap (λ (n : ℕ). firstB (g .backups) (slotted pr (g .mains) i n)) e
+    let found : (i : ℕ) → i ≤ 64 → getD slots i 0 ≡ entryOf (g .backups) (firstB (g .backups) (slotted pr (g .mains) i (suc k))) =
+    λ i h. b .loop .inv .3 i h ∙ ap (λ (n : ℕ). entryOf (g .backups) (firstB (g .backups) (slotted pr (g .mains) i n))) e
     in (
       omega arith,
       rw length-set (b .loop .inv .1),
       fits-more (g .backups) k (pairFits pr (g .mains) (g .backups)) _ _ (omega arith)
           (b .loop .inv .2 ∙ ap (λ (n : ℕ). allB (g .backups) (λ k. ltb k n || pairFits pr (g .mains) (g .backups) k)) e)
-          (pair-by-slot pr (g .mains) (g .backups) k _ _ (omega arith) (ap (λ (n : ℕ). getD slots n 0) s ∙ found (slotOf (g .mains) (pr k)) (omega arith)) (c .pair-fits .ensures)),
+          (pair-by-slot pr (g .mains) (g .backups) k _ _ (omega arith) (omega arith) (ap (λ (n : ℕ). getD slots n 0) s ∙ found (slotOf (g .mains) (pr k)) (omega arith)) (c .pair-fits .ensures)),
       slots-more slots pr (g .mains) (g .backups) k _ (omega arith) (omega arith) s found,
     )
 
@@ -82,4 +79,4 @@ returns c =
     record { fits = rw e at (b .loop .inv .2) ∙ fits-all _ _; found = λ i h. rw e at (b .loop .inv .3 i h) ∙ slots-all _ _ _ i }
 
 pub scan-pairs-spec : {M : Type 1} → statement M
-scan-pairs-spec = tie.close (tie.spec Inv-loop μ-loop cast-none loop-holds sub-j add-pair shared-slice-read-pair slot-of-requires element-copy-out-later pair-fits-requires cast-scan element-write-scan loop-less loop-again returns)
+scan-pairs-spec = tie.close (tie.spec Inv-loop μ-loop loop-holds sub-j add-pair shared-slice-read-pair slot-of-requires element-copy-out-later pair-fits-requires cast-scan element-write-scan loop-less loop-again returns)

@@ -1,7 +1,8 @@
 use Prim.Native.Nat.{_+_, _-_, _≤_}
 use mathlib.Core.Path.{_≡_}
+use mathlib.Core.Bool.{not}
 use native.Mathlib.Omega.{arith}
-use lib.Dec.{ltb}
+use lib.Dec.{eqb}
 use lib.ListN.{getD}
 use borrow.Author.Needs.{needs}
 use Rattle.model.proofs.Gather.{all-none, all-more}
@@ -11,11 +12,11 @@ use Rattle.metadata.proofs.states_fit.Statement.{statement}
 use Rattle.metadata.proofs.states_fit.Tie as tie
 
 abbrev Inv-loop : tie.InvT-loop
-Inv-loop image line mains backup backups ok₀ i₀ ok i =
-    (i ≤ mains) × (ok ≡ allB i (λ k. stateFits (ltb (getD backup k 0) backups) (getD image (line + k) 0)))
+Inv-loop image line mains backup ok₀ i₀ ok i =
+    (i ≤ mains) × (ok ≡ allB i (λ k. stateFits (not (eqb (getD backup k 0) 255)) (getD image (line + k) 0)))
 
 abbrev μ-loop : tie.MeasureT-loop
-μ-loop image line mains backup backups ok₀ i₀ ok i = mains - i
+μ-loop image line mains backup ok₀ i₀ ok i = mains - i
 
 loop-holds : tie.Need-loop-holds Inv-loop μ-loop
 loop-holds c = (search needs, all-none _)
