@@ -10,7 +10,7 @@ use Rattle.model.specs.Words.{Image}
 use Rattle.model.specs.Ops.{Ops, Trace, encode, written}
 use Rattle.model.specs.Outcome.{Outcome, Gives}
 use Rattle.model.specs.Replay.{replayOutcome, replayedOps}
-use Rattle.model.specs.History.{Call, Device, answers, outcome, reported, playedOps, calledOps, replayedImage, deviceStep, Permitted}
+use Rattle.model.specs.History.{Call, Device, answers, outcome, reported, playedOps, calledOps, replayedImage, deviceStep}
 use Rattle.model.proofs.TraceLaws.{length-encode}
 use Rattle.driver.specs.Stepped.{Called, reportedPart, playedPart, Stepped}
 
@@ -34,12 +34,8 @@ module _ (o : Outcome) (T : Trace) (r : Answer) (t : Trace) (g : Gives o T r t) 
   unfolding replayedImage
   part-image I p = ap (λ (x : Trace). replayOutcome I x p .image) part-reported
 
--- where a module stands with the image I and the session s, a call that the code makes there is permitted, and plays the
--- operations that are called
+-- a call that the code makes where a module stands plays the operations that are called
 module _ (d : Device) (c : Call) (r : Answer) (t : Trace) (k : Called (d .image) (d .session) c r t) where
-  pub called-permitted : Permitted d c
-  called-permitted = k .0
-
   pub called-played : (p : ℕ) → playedPart (d .image) r t p ≡ calledOps d c p
   called-played p = part-played (outcome d c) (c .trace) r t (k .1) (d .image) p
 

@@ -1,5 +1,5 @@
 -- Programs that open a container and then make call after call, each on the image and the session that the last one left;
--- and demands 2 and 3 said of them (`DrivenSafety`). Where such a program stands is said in terms of the code alone: the images
+-- and demands 2 and 3 said of them (`DrivenSafety`). Where such a program stands is said in terms of the code: the images
 -- that replay left, the sessions that were answered, the operations read from the traces, and a reference model that is fed
 -- whether each call was served by its answer. The call in which power failed, the openings that were cut and the last one are
 -- calls that the code made too. Proved in proofs/Driven.antt. Assumes nothing.

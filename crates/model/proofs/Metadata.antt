@@ -15,7 +15,7 @@ use Rattle.model.specs.Layout.{most, unpaired, ssInitial, ssBackup, InRa
 use Rattle.model.specs.Status.{Errors, firstError}
 use Rattle.model.specs.Container.{activeLine, segState, backupToMain, Valid, isPaired, validMetadata, pairedBackup, Free, isFree, anyFree, HeaderOk, headerOk, containerErrors}
 use Rattle.model.proofs.Range.{or-left, or-right, or-else, all-at, all-from, any-at, any-none, first-some}
-use Rattle.model.proofs.Refusals.{NoneHolds, none-served, after-none, served-parts, served-condition}
+use Rattle.model.proofs.Refusals.{NoneHolds, after-none, served-parts, served-condition}
 
 -- ---- sizes and header
 
@@ -171,9 +171,6 @@ module _ (l : Layout) (I : Image) where
   container-none : ContainerOk l I → NoneHolds (containerErrors l I)
   container-none c =
       (ap not (sizes-ok l .1 (c .sizes)), (ap not (eq-eqb _ _ (c .long)), (ap not (header-ok l I .1 (c .header)), (ap not (valid-test l _ _ (c .valid)), tt))))
-
-  pub container-served : ContainerOk l I → firstError (containerErrors l I) ≡ 0
-  container-served c = none-served (containerErrors l I) (container-none c)
 
   -- the same where a call has more refusals
   pub container-then : (es : Errors) → firstError (containerErrors l I ++ es) ≡ 0 → ContainerOk l I × (firstError es ≡ 0)

@@ -229,10 +229,6 @@ module _ (l : Layout) (line : ℕ) (whole : StatesLine line) (I : Image) (P : Co
   unfolding replay
   crash-alone = crash-alike I [] refl (r .fit .bytes) (λ k d. settled-nil (k / 64))
 
-  -- so what stands recovers to the same contents, by the same line
-  pub recovery-crash : (p : ℕ) (H : Image) → CrashImage I (take p E) H → RecoverableBy l line H P
-  recovery-crash p H c = recoverable-by-alike l line I H P (crash-alone p H c) r
-
   -- the backup of a segment in state 1 shows the contents too
   backup-other : (i j m k : ℕ) (O : Ops) → m < l .mains → m ≢ i → backupToMain I j ≡ i
       → backupAt l j ≤ k → k < backupAt l j + segmentSize l → Treated l line I P m O → Clear k O

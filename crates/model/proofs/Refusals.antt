@@ -1,6 +1,7 @@
 -- Refusals (document 01: "Refusals by number"): which number `firstError` picks from a list, whatever the list; how the list of a
 -- call is judged part by part; and what a number that was given says of the conditions, each found by its number and not by
--- its place. A list may therefore grow anywhere without a law here or above.
+-- its place. A list may therefore grow anywhere, and of the laws
+-- here only the closing remark looks at it.
 use Prim.Native.Nat.{ℕ, suc, _≤_, _<_}
 use mathlib.Core.Path.{_≡_, refl, sym, ap, _∙_}
 use mathlib.Core.Logic.{_↔_, _≢_, _⊎_, inl, inr, ⊎-elim}

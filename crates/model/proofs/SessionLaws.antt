@@ -82,11 +82,6 @@ bit-run-out m f (suc n) g h =
     bit-set-other (setBits m f n) (f + n) g (⊎-elim (λ x. omega arith) (λ x. omega arith) h)
     ∙ bit-run-out m f n g (⊎-elim inl (λ x. inr (omega arith)) h)
 
--- a run of one
-pub set-bits-one : (m f : ℕ) → setBits m f 1 ≡ setBit m f
-unfolding setBits
-set-bits-one m f = ap (setBit m) (omega arith)
-
 no-bits : (m : ℕ) → ((f : ℕ) → bit m f ≡ 0) → m ≡ 0
 unfolding bit
 no-bits =

@@ -1,5 +1,5 @@
 -- Every operation that recovery, a write or a checkpoint writes is well formed: it meets its image, at a whole word or line.
-use Prim.Native.Nat.{ℕ, zero, suc, _+_, _*_, _/_, _%_, _≤_, _<_}
+use Prim.Native.Nat.{ℕ, zero, suc, _+_, _-_, _*_, _/_, _%_, _≤_, _<_}
 use mathlib.Core.Path.{_≡_, refl, sym, subst}
 use mathlib.Core.Bool.{Bool, true, false, cond, _||_, true≢false}
 use mathlib.Core.List.{[], _∷_, _++_}
@@ -157,9 +157,9 @@ module _ (s : Session) (I : Image) where
       go true false true e q = h (rw (e, q) refl)
       go true false false e q = tt
 
-  -- a span inside its block
+  -- a span inside its main segment
   ok-span : (w : WriteArgs) → w .main < s .layout .mains → w .block < s .layout .blocks → 0 < length (w .bytes)
-      → w .offset + length (w .bytes) ≤ blockSize → AllOk size (spanOps (s .layout) I w)
+      → w .offset + length (w .bytes) ≤ blockSize * (s .layout .blocks - w .block) → AllOk size (spanOps (s .layout) I w)
   unfolding spanOps
   ok-span w h k m n =
       let inside = segment-in-image (s .layout) (w .main) (omega arith) in
@@ -167,8 +167,8 @@ module _ (s : Session) (I : Image) where
       ok-stores size _ _ _ (omega arith) (inside-lines (s .layout) _ (omega arith))
 
   pub write-ok : (w : WriteArgs) (j : ℕ) → s .layout .mains ≤ most → s .layout .backups ≤ most → w .main < s .layout .mains
-      → w .block < s .layout .blocks → 0 < length (w .bytes) → w .offset + length (w .bytes) ≤ blockSize
-      → (needsBackup s I (w .main) ≡ true → j < s .layout .backups) → AllOk (imageLines (s .layout)) (writeOps s I w j)
+      → w .block < s .layout .blocks → 0 < length (w .bytes)
+      → w .offset + length (w .bytes) ≤ blockSize * (s .layout .blocks - w .block) → (needsBackup s I (w .main) ≡ true → j < s .layout .backups) → AllOk (imageLines (s .layout)) (writeOps s I w j)
   unfolding writeOps
   write-ok w j m n h k a b c =
       all-ok-append size (copyOnWriteOps (s .layout) I (word (w .main)) (w .main) (copyPlan s I (w .main) j)) _
@@ -233,7 +233,8 @@ write-outcome-ok s I w t j chosen = served-ok (length I / lineSize) (writeStatus
         let r = served-condition (writeErrors s I w j t) (omega arith) h in
         let g = span-good (s .layout) w (r 8) in
         subst (λ (n : ℕ). AllOk (n / lineSize) (writeOps s I w j)) (sym (c .0 .long))
-        (write-ok s I w j (c .0 .sizes .0 .1) (c .0 .sizes .1 .1) (leb-false _ _ (r 6)) (leb-false _ _ (r 7)) (g .0) (g .1) (λ e. chosen h e .0))
+        (write-ok s I w j (c .0 .sizes .0 .1) (c .0 .sizes .1 .1) (leb-false _ _ (r 6)) (leb-false _ _ (r 7)) (g .0)
+        (let b : w .block < s .layout .blocks = leb-false _ _ (r 7) in omega (arith, g .1)) (λ e. chosen h e .0))
 
 pub checkpoint-outcome-ok : (s : Session) (I : Image) (t : Trace) → AllOk (length I / lineSize) (checkpointOutcome s I t .ops)
 unfolding checkpointOutcome outcomeOf checkpointStatus

@@ -41,8 +41,12 @@ unfoldable pub checkpointOps : Session → Image → Ops
 checkpointOps s I =
     flushDirty (s .layout) (s .«dirty_blocks») ++ sfence ∷ statesOps I (s .«dirty_segments») ++ sfence ∷ epochOps I ++ sfence ∷ []
 
+-- the epoch cannot be raised
+abbrev pub epochErrors : Image → Errors
+epochErrors I = (10, eqb (committedEpoch I) (2 ^ 64 - 1)) ∷ []
+
 abbrev pub checkpointErrors : Session → Image → Trace → Errors
-checkpointErrors s I t = contextErrors s I ++ (10, eqb (committedEpoch I) (2 ^ 64 - 1)) ∷ traceErrors (checkpointOps s I) t
+checkpointErrors s I t = contextErrors s I ++ epochErrors I ++ traceErrors (checkpointOps s I) t
 
 unfoldable pub checkpointStatus : Session → Image → Trace → ℕ
 checkpointStatus s I t = firstError (checkpointErrors s I t)

@@ -131,8 +131,11 @@ headerOk l I = eqb (wordAt I mainsAt) (l .mains) && eqb (wordAt I backupsAt) (l 
 abbrev pub sizeErrors : Layout → Image → Errors
 sizeErrors l I = (1, not (sizesOk l)) ∷ (2, not (eqb (length I) (imageSize l))) ∷ []
 
+abbrev pub headerErrors : Layout → Image → Errors
+headerErrors l I = (3, not (headerOk l I)) ∷ []
+
 abbrev pub layoutErrors : Layout → Image → Errors
-layoutErrors l I = sizeErrors l I ++ (3, not (headerOk l I)) ∷ []
+layoutErrors l I = sizeErrors l I ++ headerErrors l I
 
 abbrev pub validErrors : Layout → Image → ℕ → Errors
 validErrors l I line = (4, not (validMetadata l (segState I line) (backupToMain I))) ∷ []

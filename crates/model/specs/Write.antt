@@ -95,11 +95,12 @@ spanWords a n = (a + n - 1) / wordSize - a / wordSize + 1
 abbrev pub spanBlocks : WriteArgs → ℕ
 spanBlocks w = (w .offset + length (w .bytes) - 1) / blockSize + 1
 
--- the words that the span meets, upward, with the bytes laid over what stands there; they are not written back
+-- the words that bytes at a place meet, upward, with the bytes laid over what stands there; they are not written back
+abbrev pub spanStores : Image → ℕ → List ℕ → Ops
+spanStores I a bs = stores (spanWords a (length bs)) (wordPlace a) (λ k. wordOf (overlay (byteAt I) a bs) (wordPlace a + wordSize * k))
+
 unfoldable pub spanOps : Layout → Image → WriteArgs → Ops
-spanOps l I w =
-    stores (spanWords (spanAt l w) (length (w .bytes))) (wordPlace (spanAt l w))
-    (λ k. wordOf (overlay (byteAt I) (spanAt l w) (w .bytes)) (wordPlace (spanAt l w) + wordSize * k))
+spanOps l I w = spanStores I (spanAt l w) (w .bytes)
 
 unfoldable pub writeOps : Session → Image → WriteArgs → ℕ → Ops
 writeOps s I w j =
@@ -116,14 +117,18 @@ writeSession s I w =
 unfoldable pub spanBad : Layout → WriteArgs → Bool
 spanBad l w = eqb (length (w .bytes)) 0 || ltb blockSize (w .offset + length (w .bytes))
 
+abbrev pub spanErrors : Layout → WriteArgs → Errors
+spanErrors l w = (8, spanBad l w) ∷ []
+
+abbrev pub backupErrors : Plan → Errors
+backupErrors p = (9, noneFree p) ∷ []
+
 -- j stands here only through the plan, and neither whether that is `NoneFree` nor the number of operations depends on it
 -- (write-status-chosen)
 abbrev pub writeErrors : Session → Image → WriteArgs → ℕ → Trace → Errors
 writeErrors s I w j t =
-    contextErrors s I ++ mainErrors (s .layout) (w .main) ++ blockErrors (s .layout) (w .block)
-    ++ (8, spanBad (s .layout) w)
-    ∷ (9, noneFree (copyPlan s I (w .main) j))
-    ∷ traceErrors (writeOps s I w j) t
+    contextErrors s I ++ mainErrors (s .layout) (w .main) ++ blockErrors (s .layout) (w .block) ++ spanErrors (s .layout) w
+    ++ backupErrors (copyPlan s I (w .main) j) ++ traceErrors (writeOps s I w j) t
 
 unfoldable pub writeStatus : Session → Image → WriteArgs → ℕ → Trace → ℕ
 writeStatus s I w j t = firstError (writeErrors s I w j t)

@@ -19,7 +19,7 @@ use Rattle.model.specs.Status.{codeOf, firstError, served}
 use Rattle.model.specs.Container.{activeState, backupToMain, isPaired, pairedBackup, anyFree, Free}
 use Rattle.model.specs.Session.{dirtyWord, withDirty}
 use Rattle.model.specs.Ops.{Ops, Trace, traceShort}
-use Rattle.model.specs.Write.{WriteArgs, needsCopy, needsBackup, copies, noneFree, copyPlan, copyOnWriteOps, spanAt, spanWords, spanBlocks, spanOps, writeOps, writeSession, writeStatus, writeOutcome, Chosen}
+use Rattle.model.specs.Write.{WriteArgs, needsCopy, needsBackup, copies, noneFree, copyPlan, copyOnWriteOps, spanAt, spanWords, spanBlocks, spanOps, writeOps, writeSession, writeStatus, writeOutcome, Chosen, spanStores}
 use Rattle.model.proofs.Places.{image-lines, metadata-inside, segment-in-image}
 use Rattle.model.proofs.Refusals.{served-cons, served-condition, after-served, stage-refused}
 use Rattle.model.proofs.Metadata.{container-then}
@@ -30,7 +30,7 @@ use Rattle.trace.proofs.EmitLaws.{fits-as, emitted-as}
 use Rattle.trace.proofs.CallLaws.{gives-refused, gives-served}
 use Rattle.session.proofs.Laws.{words-within}
 use Rattle.metadata.proofs.Laws.{image-bound}
-use Rattle.write.specs.Steps.{Writes, earlyErrors, lateErrors, ReadySpan, CopiesTo, Planned, spanStores}
+use Rattle.write.specs.Steps.{Writes, earlyErrors, lateErrors, ReadySpan, CopiesTo, Planned}
 
 -- ---- refusals 1 to 8
 

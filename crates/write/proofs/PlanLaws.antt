@@ -14,7 +14,7 @@ use Rattle.model.specs.Session.{isDirty, dirtySegment}
 use Rattle.model.specs.Write.{needsCopy, copyPlan}
 use Rattle.model.proofs.Metadata.{any-free}
 use Rattle.session.specs.Parts.{sessionOf}
-use Rattle.metadata.specs.Scan.{Choice}
+use Rattle.metadata.specs.Scan.{Choice, freeBackup}
 use Rattle.metadata.proofs.Laws.{is-paired}
 use Rattle.write.specs.Steps.{Planned}
 
@@ -33,14 +33,14 @@ module _ (l : Layout) (segments : ℕ) (I : Image) (i : ℕ) where
   module _ (line : ℕ) (dirty : Bool) (e : line ≡ activeLine I) (d : dirty ≡ isDirty segments i) where
     pub no-copy : (dirty || not (eqb (byteAt I (line + i)) 1)) ≡ true → Planned l segments I i NoCopy
     unfolding copyPlan
-    no-copy h = record { backup = 0; plan = λ words. rw (copy-test line dirty e d words, h); to = tt }
+    no-copy h = record { backup = freeBackup l (activeState I) (backupToMain I); rule = refl; plan = λ words. rw (copy-test line dirty e d words, h); to = tt }
 
     module _ (h : (dirty || not (eqb (byteAt I (line + i)) 1)) ≡ false) where
       pub own-backup : (j : ℕ) → j ≡ pairedBackup l (backupToMain I) i → j < l .backups → Planned l segments I i (OwnBackup j)
       unfolding copyPlan
       own-backup j p q =
           let x : isPaired l (backupToMain I) i ≡ true = is-paired l (backupToMain I) i ∙ lt-ltb (pairedBackup l (backupToMain I) i) (l .backups) (omega arith) in
-          record { backup = 0; plan = λ words. rw (copy-test line dirty e d words, h, x) (ap OwnBackup p); to = q }
+          record { backup = freeBackup l (activeState I) (backupToMain I); rule = refl; plan = λ words. rw (copy-test line dirty e d words, h, x) (ap OwnBackup p); to = q }
 
       module _ (own : ℕ) (p : own ≡ pairedBackup l (backupToMain I) i) (q : l .backups ≤ own) (j : ℕ) (c : Choice l (activeState I) (backupToMain I) j) where
         unpaired : isPaired l (backupToMain I) i ≡ false
@@ -50,9 +50,9 @@ module _ (l : Layout) (segments : ℕ) (I : Image) (i : ℕ) where
         unfolding copyPlan
         new-backup b =
             let f = c .free b in
-            record { backup = j; plan = λ words. rw (copy-test line dirty e d words, h, unpaired, any-free l (activeState I) (backupToMain I) .1 (j, f)); to = f }
+            record { backup = j; rule = c .chosen; plan = λ words. rw (copy-test line dirty e d words, h, unpaired, any-free l (activeState I) (backupToMain I) .1 (j, f)); to = f }
 
         pub none-free : l .backups ≤ j → Planned l segments I i NoneFree
         unfolding copyPlan
         none-free b =
-            record { backup = j; plan = λ words. rw (copy-test line dirty e d words, h, unpaired, c .none (omega (arith, c .most))); to = tt }
+            record { backup = j; rule = c .chosen; plan = λ words. rw (copy-test line dirty e d words, h, unpaired, c .none (omega (arith, c .most))); to = tt }

@@ -2,21 +2,22 @@
 -- span. That they are model's Write is shown in proofs/. Assumes nothing.
 use Prim.Native.Nat.{ℕ, _+_, _*_, _/_, _%_, _^_, _≤_, _<_}
 use mathlib.Core.Path.{_≡_}
-use mathlib.Core.List.{List, [], _∷_, _++_}
+use mathlib.Core.List.{List, _++_}
 use lib.ListN.{length}
 use Rattle.model.specs.declared.Layout.{Layout}
 use Rattle.model.specs.declared.Session.{Session}
 use Rattle.model.specs.declared.Answer.{Answer}
 use Rattle.model.specs.declared.Plan.{Plan}
 use Rattle.model.specs.declared.Plan.the-variants.{NoCopy, OwnBackup, NewBackup, NoneFree}
-use Rattle.model.specs.Words.{Image, byteAt, wordOf, wordAt, overlay}
+use Rattle.model.specs.Words.{Image, wordAt}
 use Rattle.model.specs.Layout.{most, wordSize, lineSize, blockSize, metadataSize, segmentSize, mainAt}
 use Rattle.model.specs.Status.{Errors, firstError}
 use Rattle.model.specs.Container.{activeState, backupToMain, Valid, Free, mainErrors, blockErrors}
 use Rattle.model.specs.Session.{dirtyWord, contextErrors}
-use Rattle.model.specs.Ops.{Ops, Trace, stores, wordPlace, traceErrors}
+use Rattle.model.specs.Ops.{Ops, Trace, stores, traceErrors}
 use Rattle.model.specs.Outcome.{Gives}
-use Rattle.model.specs.Write.{WriteArgs, copyPlan, noneFree, spanWords, spanBad, writeOutcome, Chosen}
+use Rattle.model.specs.Write.{WriteArgs, copyPlan, spanErrors, backupErrors, writeOutcome, Chosen}
+use Rattle.metadata.specs.Scan.{freeBackup}
 use Rattle.session.specs.Parts.{sessionOf}
 
 -- what a write answers, for some backup segment that it may take
@@ -28,11 +29,11 @@ Writes s I w t a after = (j : ℕ) × Chosen s I w t j × Gives (writeOutcome s 
 -- 1 to 8, which do not depend on the plan of the copy
 abbrev pub earlyErrors : Session → Image → WriteArgs → Errors
 earlyErrors s I w =
-    contextErrors s I ++ mainErrors (s .layout) (w .main) ++ blockErrors (s .layout) (w .block) ++ (8, spanBad (s .layout) w) ∷ []
+    contextErrors s I ++ mainErrors (s .layout) (w .main) ++ blockErrors (s .layout) (w .block) ++ spanErrors (s .layout) w
 
 -- 9 and 11, by the plan and the operations
 abbrev pub lateErrors : Plan → Ops → Trace → Errors
-lateErrors p O t = (9, noneFree p) ∷ traceErrors O t
+lateErrors p O t = backupErrors p ++ traceErrors O t
 
 -- what the first eight leave: of the layout, of the image, and of main segment i
 pub record Ready (l : Layout) (I : Image) (i : ℕ) : Type 0 where
@@ -65,10 +66,12 @@ CopiesTo l I (OwnBackup j) = j < l .backups
 CopiesTo l I (NewBackup j) = Free l (activeState I) (backupToMain I) j
 CopiesTo l I NoneFree = Unit {0}
 
--- the plan of a write to main segment i, with `backup` for the new backup segment, by any session with this layout and this
+-- the plan of a write to main segment i, with `backup` for the new backup segment, which is the lowest unpaired one, else the
+-- lowest free one, by any session with this layout and this
 -- word of dirty segments
 pub record Planned (l : Layout) (segments : ℕ) (I : Image) (i : ℕ) (p : Plan) : Type 0 where
   pub backup : ℕ
+  pub rule : backup ≡ freeBackup l (activeState I) (backupToMain I)
   pub plan : (words : List ℕ) → p ≡ copyPlan (sessionOf l segments words) I i backup
   pub to : CopiesTo l I p
 
@@ -77,7 +80,3 @@ pub record Planned (l : Layout) (segments : ℕ) (I : Image) (i : ℕ) (p : Plan
 -- bytes that are whole words, stored from a place on, upward
 abbrev pub wordStores : ℕ → List ℕ → Ops
 wordStores a bs = stores (length bs / wordSize) a (λ k. wordAt bs (wordSize * k))
-
--- the words that a span of bytes at a place meets
-abbrev pub spanStores : Image → ℕ → List ℕ → Ops
-spanStores I a bs = stores (spanWords a (length bs)) (wordPlace a) (λ k. wordOf (overlay (byteAt I) a bs) (wordPlace a + wordSize * k))

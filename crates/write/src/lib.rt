@@ -17,10 +17,10 @@ ghost use Rattle.model.specs.Status.{codeOf, firstError};
 ghost use Rattle.model.specs.Session.{withDirty};
 ghost use Rattle.model.specs.Ops.{Ops, Trace, sfence, storeByte, wordPlace};
 ghost use Rattle.model.specs.Outcome.{Gives};
-ghost use Rattle.model.specs.Write.{writeArgsOf, copies, noneFree, pairOps, backupOps, stateOps, copyOnWriteOps, spanWords, spanBad, writeOutcome, Chosen};
+ghost use Rattle.model.specs.Write.{writeArgsOf, copies, noneFree, pairOps, backupOps, stateOps, copyOnWriteOps, spanWords, spanBad, writeOutcome, Chosen, spanStores};
 ghost use Rattle.trace.specs.Emit.{Fits, Emitted};
 ghost use Rattle.session.specs.Parts.{sessionOf};
-ghost use Rattle.write.specs.Steps.{earlyErrors, lateErrors, Ready, CopiesTo, Planned, wordStores, spanStores};
+ghost use Rattle.write.specs.Steps.{earlyErrors, lateErrors, Ready, CopiesTo, Planned, wordStores};
 
 // Main segments at most, and bytes of a word, as indexes count them.
 const MOST: usize = Layout::MOST as usize;
