@@ -7,23 +7,22 @@ use mathlib.Core.Bool.{true}
 use mathlib.Core.List.{[], _∷_, _++_}
 use native.Mathlib.Omega.{arith}
 use native.Mathlib.Nat.{add-assoc}
-use lib.Dec.{ltb, eqb}
 use lib.ListN.{length}
 use lib.Pow.{shr-shr}
-use borrow.Author.Tests.{lt-ltb, ltb-true, eqb-true, eqb-false, not-false}
+use borrow.Author.Tests.{eqb-true, eqb-false, not-false}
 use Rattle.model.specs.declared.Session.{Session}
 use Rattle.model.specs.Words.{Image, byteAt, wordOf, wordAt}
-use Rattle.model.specs.Layout.{wordSize, lineWords, most, metadataSize, SizesOk}
+use Rattle.model.specs.Layout.{wordSize, lineWords, metadataSize, SizesOk}
 use Rattle.model.specs.Status.{Errors, firstError, served}
 use Rattle.model.specs.Container.{committedEpoch, activeLine, inactiveLine, segState, activeState}
-use Rattle.model.specs.Session.{bit, dirtyWord, validSession, contextErrors}
+use Rattle.model.specs.Session.{bit, dirtyWord, contextErrors}
 use Rattle.model.specs.Ops.{clwb, stores}
-use Rattle.model.specs.Checkpoint.{nextState, nextStates, statesOps}
-use Rattle.model.proofs.Range.{and-left, and-right, all-at}
+use Rattle.model.specs.Checkpoint.{nextState, nextStates, statesOps, epochErrors}
 use Rattle.model.proofs.Refusals.{served-condition}
 use Rattle.model.proofs.Metadata.{sizes-ok}
 use Rattle.model.proofs.Places.{metadata-inside}
 use Rattle.words.proofs.Joined.{word-joined}
+use Rattle.session.proofs.Laws.{words-within}
 
 -- ---- the next states
 
@@ -68,7 +67,7 @@ states-written I segments from to p q = rw (p, q)
 
 -- the refusals that do not look at the trace: 1 to 5, and 10
 abbrev pub earlyErrors : Session → Image → Errors
-earlyErrors s I = contextErrors s I ++ (10, eqb (committedEpoch I) (2 ^ 64 - 1)) ∷ []
+earlyErrors s I = contextErrors s I ++ epochErrors I
 
 -- 1 to 5 leave a metadata
 pub long-enough : (s : Session) (I : Image) (n : ℕ) → n ≡ firstError (contextErrors s I) → served n ≡ true → metadataSize ≤ length I
@@ -81,13 +80,6 @@ pub record Ready (s : Session) (I : Image) : Type 0 where
   pub long : metadataSize ≤ length I
   pub raises : committedEpoch I ≢ 2 ^ 64 - 1
   pub within : (i : ℕ) → i < s .layout .mains → dirtyWord s i < 2 ^ s .layout .blocks
-
--- the words of a valid session have no bit beyond the blocks
-words-within : (s : Session) (st : ℕ → ℕ) → s .layout .mains ≤ most → validSession s st ≡ true → (i : ℕ) → i < s .layout .mains
-    → dirtyWord s i < 2 ^ s .layout .blocks
-unfolding validSession
-words-within s st m v i h =
-    ltb-true _ _ (rw (lt-ltb i (s .layout .mains) h) at (all-at most _ (and-right (ltb (s .«dirty_segments») (2 ^ s .layout .mains)) _ (and-left _ _ v)) i (omega arith)))
 
 pub ready : (s : Session) (I : Image) (n : ℕ) → n ≡ firstError (earlyErrors s I) → served n ≡ true → Ready s I
 ready s I n e z =

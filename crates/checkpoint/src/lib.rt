@@ -7,9 +7,8 @@ use model::Session;
 use model::Status;
 ghost use mathlib.Core.Path.{_≡_};
 ghost use mathlib.Core.Logic.{_≢_};
-ghost use mathlib.Core.List.{[], _∷_, _++_};
+ghost use mathlib.Core.List.{_++_};
 ghost use Prim.Native.Nat.{_+_, _-_, _*_, _^_, _≤_, _<_};
-ghost use lib.Dec.{eqb};
 ghost use lib.ListN.{length};
 ghost use Rattle.model.specs.Words.{wordOf};
 ghost use Rattle.model.specs.Layout.{wordSize, lineSize, lineWords, most, metadataSize};
@@ -17,7 +16,7 @@ ghost use Rattle.model.specs.Status.{codeOf, firstError};
 ghost use Rattle.model.specs.Container.{committedEpoch, segState};
 ghost use Rattle.model.specs.Session.{contextErrors};
 ghost use Rattle.model.specs.Outcome.{Gives};
-ghost use Rattle.model.specs.Checkpoint.{flushDirty, nextStates, statesOps, epochOps, checkpointOps, checkpointOutcome};
+ghost use Rattle.model.specs.Checkpoint.{flushDirty, nextStates, statesOps, epochOps, checkpointOps, checkpointOutcome, epochErrors};
 ghost use Rattle.trace.specs.Emit.{Fits, Emitted};
 ghost use Rattle.session.specs.Parts.{sessionOf};
 
@@ -152,7 +151,7 @@ pub fn put_checkpoint(
 // The first refusal of a checkpoint that applies, whatever the trace: a bad image or session, or an epoch that cannot be
 // raised.
 pub fn checkpoint_status(image: &[u8], layout: Layout, segments: u64, words: &[u64; MOST]) -> Status
-    ensures { λ r. ⌜ codeOf r ≡ firstError (contextErrors (sessionOf layout segments (now (words .entry))) (now (image .entry)) ++ (10, eqb (committedEpoch (now (image .entry))) (2 ^ 64 - 1)) ∷ []) ⌝ }
+    ensures { λ r. ⌜ codeOf r ≡ firstError (contextErrors (sessionOf layout segments (now (words .entry))) (now (image .entry)) ++ epochErrors (now (image .entry))) ⌝ }
 {
     let status = session::context_status(image, layout, segments, words);
     if !status.is_served() {

@@ -1,11 +1,9 @@
 -- A program that makes call after call runs a permitted history, so demands 2 and 3 hold of the code.
 use Prim.Native.Nat.{ℕ}
-use mathlib.Core.Path.{_≡_, refl, sym, ap, ap₂, _∙_, subst, subst₂}
+use mathlib.Core.Path.{_≡_, refl, sym, ap, _∙_, subst}
 use mathlib.Core.Logic.{_≢_}
-use mathlib.Core.Bool.{Bool}
-use mathlib.Core.List.{List, [], _∷_, _++_, append-nil}
+use mathlib.Core.List.{List, [], _++_, append-nil}
 use native.Mathlib.Omega.{arith}
-use lib.ListN.{length}
 use Rattle.model.specs.declared.Layout.{Layout}
 use Rattle.model.specs.declared.Session.{Session}
 use Rattle.model.specs.declared.Answer.{Answer}
@@ -16,13 +14,13 @@ use Rattle.model.specs.Ops.{Ops, Trace}
 use Rattle.model.specs.Outcome.{outcomeOf}
 use Rattle.model.specs.Open.{openStatus, openOutcome}
 use Rattle.model.specs.Crash.{CrashImage}
-use Rattle.model.specs.Reference.{Page, Model, modelStep}
-use Rattle.model.specs.History.{Call, callOpen, Device, State, outcome, calledOps, deviceStep, step, run, start, openedImage, replayedImage, AllPermitted}
+use Rattle.model.specs.Reference.{Page, modelStep}
+use Rattle.model.specs.History.{Call, callOpen, State, outcome, deviceStep, step, run, start, openedImage, replayedImage, AllPermitted}
 use Rattle.model.specs.CrashSafety.{Moment, PermittedAt, playedAt, CutOpenings, Reads, Recovers}
 use Rattle.model.specs.CrashSafety as model
 use Rattle.model.proofs.Theorem.{crash-safety}
 use Rattle.model.proofs.Sisters.{reads-follow-model, opening-safety}
-use Rattle.driver.specs.Stepped.{Called, playedPart, Stepped}
+use Rattle.driver.specs.Stepped.{Called, Stepped}
 use Rattle.driver.specs.Driven.{savedModel, opened, after, Driven, done, next, Made, rests, makes, CutDriven, none, again, ShowsAfter, DrivenSafety, DrivenOpeningSafety}
 use Rattle.driver.proofs.Laws.{part-image, part-played, called-played, stepped-device}
 

@@ -4,13 +4,12 @@ use mathlib.Core.Path.{_≡_, sym, ap, ap₂, _∙_}
 use mathlib.Core.List.{_++_}
 use native.Mathlib.Omega.{arith}
 use lib.ListN.{length, take, drop, length-append}
-use Rattle.model.specs.declared.Session.{Session}
 use Rattle.model.specs.declared.Answer.{Answer}
 use Rattle.model.specs.Words.{Image}
 use Rattle.model.specs.Ops.{Ops, Trace, encode, written}
 use Rattle.model.specs.Outcome.{Outcome, Gives}
 use Rattle.model.specs.Replay.{replayOutcome, replayedOps}
-use Rattle.model.specs.History.{Call, Device, answers, outcome, reported, playedOps, calledOps, replayedImage, deviceStep}
+use Rattle.model.specs.History.{Call, Device, outcome, reported, playedOps, calledOps, replayedImage, deviceStep}
 use Rattle.model.proofs.TraceLaws.{length-encode}
 use Rattle.driver.specs.Stepped.{Called, reportedPart, playedPart, Stepped}
 

@@ -7,7 +7,7 @@ use mathlib.Core.Bool.{true, false, cond, false≢true}
 use mathlib.Core.List.{List}
 use native.Mathlib.Omega.{arith}
 use native.Mathlib.Nat.{mul-comm}
-use lib.ListN.{length, getD, drop, replicate, length-replicate, length-drop}
+use lib.ListN.{length, getD, drop, length-replicate, length-drop}
 use lib.Seq.{length-take-le, ext-getD}
 use borrow.Author.Tests.{eqb-true, eq-eqb, ne-eqb}
 use Rattle.model.specs.declared.Layout.{Layout}

@@ -7,7 +7,7 @@ use mathlib.Core.Logic.{_≢_, ⊎-elim}
 use mathlib.Core.Bool.{true, not, _&&_, false≢true}
 use mathlib.Core.List.{List, [], _∷_}
 use native.Mathlib.Omega.{arith}
-use borrow.Author.Tests.{eq-eqb, le-leb, lt-leb, leb-true, ltb-true}
+use borrow.Author.Tests.{eq-eqb, leb-true, ltb-true}
 use lib.ListN.{length, drop, length-drop}
 use lib.Seq.{length-take-le}
 use Rattle.model.specs.declared.Layout.{Layout}
@@ -17,7 +17,7 @@ use Rattle.model.specs.Layout.{lineSize, blockSize}
 use Rattle.model.specs.Status.{served}
 use Rattle.model.specs.Container.{activeState, backupToMain, Free, anyFree}
 use Rattle.model.specs.Session.{zeroSession}
-use Rattle.model.specs.Ops.{Ops, Trace}
+use Rattle.model.specs.Ops.{Trace}
 use Rattle.model.specs.Outcome.{outcomeOf}
 use Rattle.model.specs.Replay.{wellFormed}
 use Rattle.model.specs.Open.{openStatus, openOutcome}
@@ -33,7 +33,7 @@ use Rattle.model.proofs.Refusals.{given-condition}
 use Rattle.model.proofs.Metadata.{any-free}
 use Rattle.model.proofs.Choice.{plan-none-free}
 use Rattle.model.proofs.Agreement.{refused-session}
-use Rattle.model.proofs.Counts.{length-checkpoint-ops, window-is}
+use Rattle.model.proofs.Counts.{window-is}
 
 -- ---- the pages that may be shown
 

@@ -27,7 +27,7 @@ use Rattle.model.proofs.Runs.{Puts, puts-clear, puts-as, puts-blocks, e
 use Rattle.model.proofs.Places.{segment-in-image, apart, state-line-high}
 use Rattle.model.proofs.Metadata.{paired-at, unpaired-none}
 use Rattle.model.proofs.SessionLaws.{fresh-segment}
-use Rattle.model.proofs.View.{Contents, RecoverableBy, Recoverable, AlikeBy, Alike, recoverable-by-alike, recoverable-alike, alike-state}
+use Rattle.model.proofs.View.{Contents, RecoverableBy, Recoverable, AlikeBy, Alike, recoverable-alike, alike-state}
 use Rattle.model.proofs.Invariant.{Invariant}
 
 -- ---- a segment copied, and filled with zeros

@@ -25,7 +25,7 @@ use Rattle.model.proofs.Refusals.{first-holds, first-fails, first-of-none, stag
 use Rattle.metadata.specs.declared.Examined.{Examined}
 use Rattle.metadata.specs.Scan.{entryOf, ExaminedBy}
 use Rattle.metadata.proofs.Laws.{entry-some, found-backup}
-use Rattle.open.specs.Recovery.{Recovers, takesBackup, BackupsOf, recoveryErrors, recoveryOutcome}
+use Rattle.open.specs.Recovery.{ValidBy, takesBackup, BackupsOf, recoveryErrors, recoveryOutcome}
 
 -- ---- the table
 
@@ -88,7 +88,7 @@ recovery-bound blocks segments b h = mul-le-mul {n₁ = 36 * blocks} {m₁ = seg
 -- ---- what the pass over states and pairs gives
 
 pub recovers-by : (l : Layout) (I : Image) (line : ℕ) (r : Examined) → SizesOk l → length I ≡ imageSize l → line + most ≤ length I
-    → ExaminedBy l (segState I line) (backupToMain I) r → not (r .valid) ≡ false → Recovers l I line × BackupsOf l I (r .backup)
+    → ExaminedBy l (segState I line) (backupToMain I) r → not (r .valid) ≡ false → ValidBy l I line × BackupsOf l I (r .backup)
 recovers-by l I line r s e k x h = (
   record { sizes = s; long = e; inside = k; valid = valid-means l _ _ (sym (x .valid) ∙ not-false _ h) },
   λ i b. found-backup l (segState I line) (backupToMain I) r x (s .0 .1) i b,

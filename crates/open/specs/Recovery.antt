@@ -18,7 +18,7 @@ use Rattle.model.specs.Outcome.{Outcome, outcomeOf}
 use Rattle.metadata.specs.Scan.{entryOf}
 
 -- what recovery goes by: an image of the layout's size, and a line of states that is valid with the pairs
-pub record Recovers (l : Layout) (I : Image) (line : ℕ) : Type 0 where
+pub record ValidBy (l : Layout) (I : Image) (line : ℕ) : Type 0 where
   pub sizes : SizesOk l
   pub long : length I ≡ imageSize l
   pub inside : line + most ≤ length I

@@ -18,7 +18,7 @@ ghost use Rattle.model.specs.Outcome.{Gives};
 ghost use Rattle.model.specs.Open.{recoveryAction, actionOps, recoverSegment, recoveryOps, openOutcome};
 ghost use Rattle.model.specs.Counts.{acts, treated};
 ghost use Rattle.trace.specs.Emit.{Fits, Emitted};
-ghost use Rattle.open.specs.Recovery.{Recovers, BackupsOf, takesBackup, recoveryOutcome};
+ghost use Rattle.open.specs.Recovery.{ValidBy, BackupsOf, takesBackup, recoveryOutcome};
 
 // The operations that copy or zero a block: its words are stored and its lines written back.
 const BLOCK_OPS: u64 = Layout::BLOCK_WORDS + Layout::BLOCK_LINES;
@@ -61,7 +61,7 @@ pub fn segment_action(
     backup: &[u8; SLOTS],
     i: usize,
 ) -> Action
-    requires { ⌜ (i < layout .mains) × Recovers layout (now image) line × BackupsOf layout (now image) (now backup) ⌝ }
+    requires { ⌜ (i < layout .mains) × ValidBy layout (now image) line × BackupsOf layout (now image) (now backup) ⌝ }
     ensures { λ r. ⌜ r ≡ recoveryAction (segState (now (image .entry)) line i) (isPaired layout (backupToMain (now (image .entry))) i) ⌝ }
 {
     recovery_action(image[line + i], backup[i] != UNPAIRED)
@@ -112,7 +112,7 @@ pub fn put_segment(
     trace: &mut [u64],
     n: usize,
 ) -> usize
-    requires { ⌜ (i < layout .mains) × Recovers layout (now image) line × BackupsOf layout (now image) (now backup) ⌝ }
+    requires { ⌜ (i < layout .mains) × ValidBy layout (now image) line × BackupsOf layout (now image) (now backup) ⌝ }
     requires { ⌜ Fits (now trace) n (recoverSegment layout (now image) line i) ⌝ }
     ensures { λ r. ⌜ Emitted (now (trace .entry)) n (recoverSegment layout (now (image .entry)) line i) (now (trace .exit)) r ⌝ }
 {
@@ -125,7 +125,7 @@ pub fn put_segment(
 
 // How many main segments recovery treats.
 pub fn count_treated(image: &[u8], layout: Layout, line: usize, backup: &[u8; SLOTS]) -> u64
-    requires { ⌜ Recovers layout (now image) line × BackupsOf layout (now image) (now backup) ⌝ }
+    requires { ⌜ ValidBy layout (now image) line × BackupsOf layout (now image) (now backup) ⌝ }
     ensures { λ r. ⌜ (r ≡ treated layout (now (image .entry)) line) × (r ≤ 64) ⌝ }
 {
     let mains = layout.mains as usize;
@@ -140,7 +140,7 @@ pub fn count_treated(image: &[u8], layout: Layout, line: usize, backup: &[u8; SL
 
 // The number of the operations of recovery.
 pub fn recovery_length(image: &[u8], layout: Layout, line: usize, backup: &[u8; SLOTS]) -> u64
-    requires { ⌜ Recovers layout (now image) line × BackupsOf layout (now image) (now backup) ⌝ }
+    requires { ⌜ ValidBy layout (now image) line × BackupsOf layout (now image) (now backup) ⌝ }
     ensures { λ r. ⌜ (r ≡ length (recoveryOps layout (now (image .entry)) line)) × (r < 2 ^ 32) ⌝ }
 {
     BLOCK_OPS * layout.blocks * count_treated(image, layout, line, backup) + 1
@@ -155,7 +155,7 @@ pub fn put_recovery(
     trace: &mut [u64],
     n: usize,
 ) -> usize
-    requires { ⌜ Recovers layout (now image) line × BackupsOf layout (now image) (now backup) ⌝ }
+    requires { ⌜ ValidBy layout (now image) line × BackupsOf layout (now image) (now backup) ⌝ }
     requires { ⌜ Fits (now trace) n (recoveryOps layout (now image) line) ⌝ }
     ensures { λ r. ⌜ Emitted (now (trace .entry)) n (recoveryOps layout (now (image .entry)) line) (now (trace .exit)) r ⌝ }
 {
@@ -178,7 +178,7 @@ pub fn refused(status: Status) -> Answer
     Answer::refused(status, Session::fresh(Layout::new(0, 0, 0)))
 }
 
-// Recovers the checkpoint by a line of states, of an image that has the layout's size, and answers a session in which
+// ValidBy the checkpoint by a line of states, of an image that has the layout's size, and answers a session in which
 // nothing is dirty.
 pub fn recover(image: &[u8], layout: Layout, line: usize, trace: &mut [u64]) -> Answer
     requires { ⌜ SizesOk layout × (length (now image) ≡ imageSize layout) × (line + most ≤ length (now image)) ⌝ }

@@ -292,7 +292,7 @@ pub fn put_backup(
 }
 
 // Copy on write, if the plan copies: the backup, a fence, state 2, a fence.
-pub fn put_copy(
+pub fn put_copy_on_write(
     image: &[u8],
     layout: Layout,
     word: u64,
@@ -411,7 +411,7 @@ pub fn put_write(
     requires { ⌜ Fits (now trace) 0 (copyOnWriteOps layout (now image) word main plan ++ spanStores (now image) at (now bytes)) ⌝ }
     ensures { λ r. ⌜ Emitted (now (trace .entry)) 0 (copyOnWriteOps layout (now (image .entry)) word main plan ++ spanStores (now (image .entry)) at (now (bytes .entry))) (now (trace .exit)) r ⌝ }
 {
-    let next = put_copy(image, layout, word, main, plan, trace, 0);
+    let next = put_copy_on_write(image, layout, word, main, plan, trace, 0);
     put_span(image, at, bytes, trace, next)
 }
 

@@ -3,19 +3,19 @@ use Rattle.trace.proofs.EmitLaws.{emitted-then, fits-first, fits-then}
 use Rattle.write.proofs.put_write.Statement.{statement}
 use Rattle.write.proofs.put_write.Tie as tie
 
-put-copy-requires : tie.Need-put-copy-requires
-put-copy-requires c κs = let b = c .before .before .before .before in (b .pre .0, (b .pre .1 .0, fits-first _ (b .pre .1 .1 .1)))
+put-copy-on-write-requires : tie.Need-put-copy-on-write-requires
+put-copy-on-write-requires c κs = let b = c .before .before .before .before in (b .pre .0, (b .pre .1 .0, fits-first _ (b .pre .1 .1 .1)))
 
 put-span-requires : tie.Need-put-span-requires
 put-span-requires c κs =
     let b = c .before .before .before .before .before .before .before .before in
-    (b .pre .1 .1 .0, ((b .pre .0 .lines, b .pre .0 .size), fits-then (b .pre .1 .1 .1) (c .before .before .before .put-copy .ensures)))
+    (b .pre .1 .1 .0, ((b .pre .0 .lines, b .pre .0 .size), fits-then (b .pre .1 .1 .1) (c .before .before .before .put-copy-on-write .ensures)))
 
 same-length : tie.Need-same-length
 same-length c = search needs
 
 returns : tie.Need-returns
-returns c = emitted-then (c .before .before .before .before .before .before .put-copy .ensures) (c .before .before .put-span .ensures)
+returns c = emitted-then (c .before .before .before .before .before .before .put-copy-on-write .ensures) (c .before .before .put-span .ensures)
 
 pub put-write-spec : {M : Type 1} → statement M
-put-write-spec = tie.close (tie.spec put-copy-requires put-span-requires same-length returns)
+put-write-spec = tie.close (tie.spec put-copy-on-write-requires put-span-requires same-length returns)

@@ -5,8 +5,8 @@ use borrow.Author.Needs.{needs}
 use Rattle.model.specs.Write.{copyOnWriteOps}
 use Rattle.trace.proofs.EmitLaws.{emitted-as, emitted-then, emitted-unless, fits-as, fits-first, fits-then}
 use Rattle.write.proofs.CopyLaws.{copy-ops}
-use Rattle.write.proofs.put_copy.Statement.{statement}
-use Rattle.write.proofs.put_copy.Tie as tie
+use Rattle.write.proofs.put_copy_on_write.Statement.{statement}
+use Rattle.write.proofs.put_copy_on_write.Tie as tie
 
 has-copy-requires : tie.Need-has-copy-requires
 has-copy-requires c κs = search needs
@@ -39,8 +39,8 @@ returns-2 c =
     let ops = copy-ops (a .layout) (a .image .now) (a .word) (a .main) (a .plan) (sym (p .before .before .before .has-copy .ensures) ∙ not-false _ (p .before .before .if1 .left)) in
     emitted-as (emitted-then (p .put-backup .ensures) (c .before .before .put-state .ensures)) ops
 
-pub put-copy-spec : {M : Type 1} → statement M
-put-copy-spec =
+pub put-copy-on-write-spec : {M : Type 1} → statement M
+put-copy-on-write-spec =
     tie.close
     (tie.spec
     has-copy-requires
