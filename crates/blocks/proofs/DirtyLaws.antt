@@ -8,7 +8,7 @@ use borrow.Author.Tests.{eq-eqb, ne-eqb}
 use Rattle.model.specs.Range.{cat}
 use Rattle.model.specs.Session.{bit, isDirty}
 use Rattle.model.specs.Ops.{Ops, Trace, eachDirty}
-use Rattle.model.proofs.SessionLaws.{bit-zero}
+use Rattle.model.proofs.Laws.Session.{bit-zero}
 use Rattle.trace.specs.Emit.{Fits, Emitted}
 use Rattle.trace.proofs.EmitLaws.{emitted-as, emitted-nil, emitted-each, emitted-if, emitted-unless, fits-each, fits-if}
 

@@ -11,7 +11,7 @@ use borrow.Author.Count.{below-more}
 use Rattle.model.specs.Words.{Image, byteAt, littleEndian, wordOf, wordAt}
 use Rattle.model.specs.Layout.{wordSize, blockSize, blockWords, blockLines}
 use Rattle.model.specs.Ops.{store, Ops, stores, clwbs, putBlock, persistCopy, persistZero}
-use Rattle.model.proofs.Range.{cat-ext}
+use Rattle.model.proofs.Laws.Range.{cat-ext}
 
 -- an array filled upward: what holds of each element below i holds below i + 1 once element i is stored
 pub filled-more : (ws : List ℕ) (i v : ℕ) (g : ℕ → ℕ) → i < length ws → v ≡ g i → ((k : ℕ) → k < i → getD ws k 0 ≡ g k)

@@ -23,10 +23,8 @@ const RESULT_WORDS: usize = 2;
 // The number of a call whose session or result has another length.
 const MISUSE: u64 = 255;
 
-// Where the words of dirty blocks start, and how many they are.
+// Where the words of dirty blocks start.
 const DIRTY_BLOCKS_AT: usize = 4;
-
-const MOST: usize = Layout::MOST as usize;
 
 // ---- words
 
@@ -35,9 +33,9 @@ fn session_of(words: &[u64]) -> Session
     requires { ⌜ length (now words) ≡ 68 ⌝ }
     ensures { λ r. ⌜ r ≡ sessionOf (now (words .entry)) ⌝ }
 {
-    let mut blocks = [0u64; MOST];
+    let mut blocks = [0u64; Layout::MOST_LEN];
     let mut i = 0;
-    while i < MOST {
+    while i < Layout::MOST_LEN {
         blocks[i] = words[DIRTY_BLOCKS_AT + i];
         i += 1;
     }
@@ -58,7 +56,7 @@ fn put_session(words: &mut [u64], session: Session)
     words[2] = session.layout.blocks;
     words[3] = session.dirty_segments;
     let mut i = 0;
-    while i < MOST {
+    while i < Layout::MOST_LEN {
         words[DIRTY_BLOCKS_AT + i] = session.dirty_blocks[i];
         i += 1;
     }

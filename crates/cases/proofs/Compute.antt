@@ -6,7 +6,7 @@ use mathlib.Core.Bool.{Bool, true, false, _&&_}
 use mathlib.Core.List.{List, [], _∷_}
 use lib.Dec.{eqb, ltb, lit<}
 use borrow.Author.Tests.{eqb-true, ltb-true}
-use Rattle.model.proofs.Range.{and-left, and-right}
+use Rattle.model.proofs.Laws.Range.{and-left, and-right}
 use Rattle.model.specs.Range.{cat, allB, anyB, orNext, firstB}
 use Rattle.model.specs.Words.{Bytes, littleEndian, wordOf, bytesOf, storeWord, overlay}
 use Rattle.model.specs.Layout.{inRange, sizesOk, imageSize, stateLine}

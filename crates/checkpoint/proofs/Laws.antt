@@ -18,9 +18,9 @@ use Rattle.model.specs.Container.{committedEpoch, activeLine, inactiveLine, seg
 use Rattle.model.specs.Session.{bit, dirtyWord, contextErrors}
 use Rattle.model.specs.Ops.{clwb, stores}
 use Rattle.model.specs.Checkpoint.{nextState, nextStates, statesOps, epochErrors}
-use Rattle.model.proofs.Refusals.{served-condition}
-use Rattle.model.proofs.Metadata.{sizes-ok}
-use Rattle.model.proofs.Places.{metadata-inside}
+use Rattle.model.proofs.Laws.Status.{served-condition}
+use Rattle.model.proofs.Laws.Container.{sizes-ok}
+use Rattle.model.proofs.Laws.Layout.{metadata-inside}
 use Rattle.words.proofs.Joined.{word-joined}
 use Rattle.session.proofs.Laws.{words-within}
 

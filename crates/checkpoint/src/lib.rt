@@ -27,13 +27,8 @@ const LINE_WORDS: usize = Layout::LINE_WORDS as usize;
 
 const EPOCH_AT: usize = Layout::EPOCH_AT as usize;
 
-const MOST: usize = Layout::MOST as usize;
-
 // The epoch that cannot be raised.
 const LAST_EPOCH: u64 = 18446744073709551615;
-
-// The state of a main segment that holds its checkpoint itself.
-const SS_MAIN: u8 = Layout::SS_MAIN as u8;
 
 // Operations of a checkpoint besides the write-backs of dirty blocks: 9 for the states, 2 for the epoch, 3 fences.
 const FIXED_OPS: u64 = 14;
@@ -41,7 +36,12 @@ const FIXED_OPS: u64 = 14;
 // ---- the dirty blocks
 
 // Writes back every dirty block of every main segment, upward.
-pub fn put_flushes(layout: Layout, words: &[u64; MOST], trace: &mut [u64], n: usize) -> usize
+pub fn put_flushes(
+    layout: Layout,
+    words: &[u64; Layout::MOST_LEN],
+    trace: &mut [u64],
+    n: usize,
+) -> usize
     requires { ⌜ (layout .mains ≤ most) × (layout .blocks ≤ most) ⌝ }
     requires { ⌜ Fits (now trace) n (flushDirty layout (now words)) ⌝ }
     ensures { λ r. ⌜ Emitted (now (trace .entry)) n (flushDirty layout (now (words .entry))) (now (trace .exit)) r ⌝ }
@@ -67,7 +67,7 @@ pub fn next_state(image: &[u8], line: usize, segments: u64, i: usize) -> u8
 {
     let state = image[line + i];
     if session::is_dirty(segments, i as u64) {
-        return SS_MAIN;
+        return Layout::SS_MAIN;
     }
     state
 }
@@ -131,7 +131,7 @@ pub fn put_checkpoint(
     image: &[u8],
     layout: Layout,
     segments: u64,
-    words: &[u64; MOST],
+    words: &[u64; Layout::MOST_LEN],
     trace: &mut [u64],
     n: usize,
 ) -> usize
@@ -150,7 +150,12 @@ pub fn put_checkpoint(
 
 // The first refusal of a checkpoint that applies, whatever the trace: a bad image or session, or an epoch that cannot be
 // raised.
-pub fn checkpoint_status(image: &[u8], layout: Layout, segments: u64, words: &[u64; MOST]) -> Status
+pub fn checkpoint_status(
+    image: &[u8],
+    layout: Layout,
+    segments: u64,
+    words: &[u64; Layout::MOST_LEN],
+) -> Status
     ensures { λ r. ⌜ codeOf r ≡ firstError (contextErrors (sessionOf layout segments (now (words .entry))) (now (image .entry)) ++ epochErrors (now (image .entry))) ⌝ }
 {
     let status = session::context_status(image, layout, segments, words);

@@ -18,7 +18,7 @@ use Rattle.model.specs.Reference.{Page, modelStep}
 use Rattle.model.specs.History.{Call, callOpen, State, outcome, deviceStep, step, run, start, openedImage, replayedImage, AllPermitted}
 use Rattle.model.specs.CrashSafety.{Moment, PermittedAt, playedAt, CutOpenings, Reads, Recovers}
 use Rattle.model.specs.CrashSafety as model
-use Rattle.model.proofs.Theorem.{crash-safety}
+use Rattle.model.proofs.CrashSafety.{crash-safety}
 use Rattle.model.proofs.Sisters.{reads-follow-model, opening-safety}
 use Rattle.driver.specs.Stepped.{Called, Stepped}
 use Rattle.driver.specs.Driven.{savedModel, opened, after, Driven, done, next, Made, rests, makes, CutDriven, none, again, ShowsAfter, DrivenSafety, DrivenOpeningSafety}

@@ -10,7 +10,7 @@ use Rattle.model.specs.Ops.{Ops, Trace, encode, written}
 use Rattle.model.specs.Outcome.{Outcome, Gives}
 use Rattle.model.specs.Replay.{replayOutcome, replayedOps}
 use Rattle.model.specs.History.{Call, Device, outcome, reported, playedOps, calledOps, replayedImage, deviceStep}
-use Rattle.model.proofs.TraceLaws.{length-encode}
+use Rattle.model.proofs.Laws.Ops.{length-encode}
 use Rattle.driver.specs.Stepped.{Called, reportedPart, playedPart, Stepped}
 
 module _ (o : Outcome) (T : Trace) (r : Answer) (t : Trace) (g : Gives o T r t) where

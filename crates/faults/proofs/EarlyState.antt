@@ -17,11 +17,11 @@ use Rattle.model.specs.Session.{freshSession}
 use Rattle.model.specs.Reference.{Page}
 use Rattle.model.specs.History.{State, start}
 use Rattle.model.specs.Crash.{Durable, CrashImage, Stage}
-use Rattle.model.proofs.Range.{and-left, and-right}
-use Rattle.model.proofs.Persist.{Misses, length-apply, length-replay, replay-clear, replay-append, apply-cong}
-use Rattle.model.proofs.Settled.{Off}
-use Rattle.model.proofs.Floor.{hasFence, durable-all}
-use Rattle.model.proofs.CrashExact.{unfenced-lost}
+use Rattle.model.proofs.Laws.Range.{and-left, and-right}
+use Rattle.model.proofs.Argument.Persist.{Misses, length-apply, length-replay, replay-clear, replay-append, apply-cong}
+use Rattle.model.proofs.Argument.Settled.{Off}
+use Rattle.model.proofs.Laws.Floor.{hasFence, durable-all}
+use Rattle.model.proofs.Laws.Crash.{unfenced-lost}
 use Rattle.cases.specs.Table.{room, writes, aWord}
 use Rattle.cases.proofs.Compute.{model-rules, same, same-equal, small, small-bytes}
 use Rattle.cases.proofs.Starts.{standing, started}

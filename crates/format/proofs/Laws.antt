@@ -13,7 +13,7 @@ use Rattle.model.specs.Layout.{segmentSize, imageSize}
 use Rattle.model.specs.Status.{firstError}
 use Rattle.model.specs.Container.{sizeErrors}
 use Rattle.model.specs.Format.{container, formatted, formatOutcome}
-use Rattle.model.proofs.Refusals.{served-condition}
+use Rattle.model.proofs.Laws.Status.{served-condition}
 
 -- ---- filling
 

@@ -24,12 +24,12 @@ pub fn write_formatted(image: &mut [u8], layout: Layout)
     ensures { λ _. ⌜ now (image .exit) ≡ formatted layout ⌝ }
 {
     let pairs = Layout::PAIRS_AT as usize;
-    let end = pairs + Layout::MOST as usize;
+    let end = pairs + Layout::MOST_LEN;
     fill(image, 0);
     words::store_word(image, Layout::MAINS_AT as usize, layout.mains);
     words::store_word(image, Layout::BACKUPS_AT as usize, layout.backups);
     words::store_word(image, Layout::BLOCKS_AT as usize, layout.blocks);
-    fill(&mut image[pairs..end], Layout::UNPAIRED as u8);
+    fill(&mut image[pairs..end], Layout::UNPAIRED);
 }
 
 // Formats an image with these sizes. A refusal changes nothing.

@@ -16,19 +16,10 @@ ghost use Rattle.model.specs.Container.{activeLine, inactiveLine, activeState, 
 ghost use Rattle.metadata.specs.Scan.{slotOf, stateFits, Scanned, ExaminedBy, Choice};
 
 // The slots that the pass over the pairs fills: one for each main segment, and the last for pairs that name none.
-pub const SLOTS: usize = Layout::MOST as usize + 1;
+pub const SLOTS: usize = Layout::MOST_LEN + 1;
 
-// The byte of an unpaired backup segment, and of a slot that no backup segment has: no backup segment has this number.
-pub const UNPAIRED: u8 = Layout::UNPAIRED as u8;
-
-// The most main segments or backup segments, and the states, as the code compares them.
-const MOST: usize = Layout::MOST as usize;
-
-const SS_INITIAL: u8 = Layout::SS_INITIAL as u8;
-
-const SS_MAIN: u8 = Layout::SS_MAIN as u8;
-
-const SS_BACKUP: u8 = Layout::SS_BACKUP as u8;
+// The pair byte of an unpaired backup segment, as a search asks for it.
+const NO_MAIN: u64 = Layout::UNPAIRED as u64;
 
 // ---- places
 
@@ -102,7 +93,7 @@ pub fn rest_is(image: &[u8], line: usize, n: usize, value: u8) -> bool
 {
     let mut ok = true;
     let mut i = n;
-    while i < MOST {
+    while i < Layout::MOST_LEN {
         ok = ok & (image[line + i] == value);
         i += 1;
     }
@@ -110,7 +101,7 @@ pub fn rest_is(image: &[u8], line: usize, n: usize, value: u8) -> bool
 }
 
 // What a pass over metadata finds: whether what it looked at is valid, and for each slot of the pairs the lowest backup
-// segment that has it, or 255 (UNPAIRED) where none has it.
+// segment that has it, or 255 (Layout::UNPAIRED, which is the number of no backup segment) where none has it.
 pub struct Examined {
     pub valid: bool,
     pub backup: [u8; SLOTS],
@@ -127,7 +118,7 @@ pub fn wide(byte: u8) -> u64
 pub fn pair_fits(pair: u8, mains: u64, taken: bool) -> bool
     ensures { λ r. ⌜ r ≡ ((ltb pair mains || eqb pair 255) && not (ltb pair mains && taken)) ⌝ }
 {
-    ((wide(pair) < mains) | (pair == UNPAIRED)) & !((wide(pair) < mains) & taken)
+    ((wide(pair) < mains) | (pair == Layout::UNPAIRED)) & !((wide(pair) < mains) & taken)
 }
 
 // The slot of a pair byte: the main segment that it names, or the last.
@@ -138,7 +129,7 @@ pub fn slot_of(pair: u8, mains: u64) -> usize
     if wide(pair) < mains {
         pair as usize
     } else {
-        MOST
+        Layout::MOST_LEN
     }
 }
 
@@ -149,7 +140,7 @@ pub fn scan_pairs(image: &[u8], mains: u64, backups: usize) -> Examined
 {
     let mut scan = Examined {
         valid: true,
-        backup: [UNPAIRED; SLOTS],
+        backup: [Layout::UNPAIRED; SLOTS],
     };
     let mut j = backups;
     while 0 < j {
@@ -157,7 +148,7 @@ pub fn scan_pairs(image: &[u8], mains: u64, backups: usize) -> Examined
         let pair = image[Layout::PAIRS_AT as usize + j];
         let i = slot_of(pair, mains);
         let later = scan.backup[i];
-        scan.valid = scan.valid & pair_fits(pair, mains, later != UNPAIRED);
+        scan.valid = scan.valid & pair_fits(pair, mains, later != Layout::UNPAIRED);
         scan.backup[i] = j as u8;
     }
     scan
@@ -168,9 +159,9 @@ pub fn state_fits(state: u8, paired: bool) -> bool
     ensures { λ r. ⌜ r ≡ stateFits paired state ⌝ }
 {
     if paired {
-        (SS_INITIAL < state) & (state <= SS_BACKUP)
+        (Layout::SS_INITIAL < state) & (state <= Layout::SS_BACKUP)
     } else {
-        state <= SS_MAIN
+        state <= Layout::SS_MAIN
     }
 }
 
@@ -182,7 +173,7 @@ pub fn states_fit(image: &[u8], line: usize, mains: usize, backup: &[u8; SLOTS])
     let mut ok = true;
     let mut i = 0;
     while i < mains {
-        ok = ok & state_fits(image[line + i], backup[i] != UNPAIRED);
+        ok = ok & state_fits(image[line + i], backup[i] != Layout::UNPAIRED);
         i += 1;
     }
     ok
@@ -196,9 +187,10 @@ pub fn examine(image: &[u8], layout: Layout, line: usize) -> Examined
     let mains = layout.mains as usize;
     let backups = layout.backups as usize;
     let mut found = scan_pairs(image, layout.mains, backups);
-    let pairs_ok = found.valid & rest_is(image, Layout::PAIRS_AT as usize, backups, UNPAIRED);
+    let pairs_ok = found.valid
+        & rest_is(image, Layout::PAIRS_AT as usize, backups, Layout::UNPAIRED);
     let states_ok = states_fit(image, line, mains, &found.backup)
-        & rest_is(image, line, mains, SS_INITIAL);
+        & rest_is(image, line, mains, Layout::SS_INITIAL);
     found.valid = pairs_ok & states_ok;
     found
 }
@@ -297,10 +289,10 @@ pub fn checkpoint_located(image: &[u8], layout: Layout, line: usize, main: u64) 
     ensures { λ r. ⌜ r ≡ checkpointLocated layout (now (image .entry)) line main ⌝ }
 {
     let state = image[line + main as usize];
-    if state == SS_INITIAL {
+    if state == Layout::SS_INITIAL {
         return Located::Nowhere;
     }
-    if state == SS_MAIN {
+    if state == Layout::SS_MAIN {
         return Located::At(main_at(layout, main) as u64);
     }
     let backup = find_paired_backup(image, layout, main);
@@ -326,7 +318,7 @@ pub fn find_unused_backup(image: &[u8], layout: Layout, line: usize) -> u64
     let backups = layout.backups;
     let mut j = 0;
     while j < backups {
-        if paired_state(image, line, image[(Layout::PAIRS_AT + j) as usize]) != SS_BACKUP {
+        if paired_state(image, line, image[(Layout::PAIRS_AT + j) as usize]) != Layout::SS_BACKUP {
             return j;
         }
         j += 1;
@@ -341,7 +333,7 @@ pub fn find_free_backup(image: &[u8], layout: Layout) -> u64
     requires { ⌜ Valid layout (activeState (now image)) (backupToMain (now image)) ⌝ }
     ensures { λ r. ⌜ Choice layout (activeState (now (image .entry))) (backupToMain (now (image .entry))) r ⌝ }
 {
-    let alone = find_paired_backup(image, layout, Layout::UNPAIRED);
+    let alone = find_paired_backup(image, layout, NO_MAIN);
     if alone < layout.backups {
         return alone;
     }

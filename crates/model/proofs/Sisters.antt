@@ -11,13 +11,13 @@ use Rattle.model.specs.Open.{recoveryOps, openOutcome}
 use Rattle.model.specs.Crash.{CrashImage}
 use Rattle.model.specs.History.{Call, State, step, run, openedImage, start, AllPermitted}
 use Rattle.model.specs.CrashSafety.{Reads, ReadsFollowModel, OpeningSettles, OpeningSafety, checkpoints, EpochCounts}
-use Rattle.model.proofs.Settled.{settled-off}
-use Rattle.model.proofs.CrashExact.{newest, settled-only}
-use Rattle.model.proofs.Recovery.{meta, open-clear, recovery-keeps}
-use Rattle.model.proofs.Pages.{contentsOf, reads}
-use Rattle.model.proofs.Stands.{Stands, low-epoch}
-use Rattle.model.proofs.Openings.{open-served, opened-is, openings-keep, recovers, starting, starting-whole, start-stands}
-use Rattle.model.proofs.Theorem.{argument, history-stands}
+use Rattle.model.proofs.Argument.Settled.{settled-off}
+use Rattle.model.proofs.Laws.Crash.{newest, settled-only}
+use Rattle.model.proofs.Argument.Recovery.{meta, open-clear, recovery-keeps}
+use Rattle.model.proofs.Argument.Pages.{contentsOf, reads}
+use Rattle.model.proofs.Argument.Stands.{Stands, low-epoch}
+use Rattle.model.proofs.Argument.Openings.{open-served, opened-is, openings-keep, recovers, starting, starting-whole, start-stands}
+use Rattle.model.proofs.CrashSafety.{argument, history-stands}
 
 pub reads-follow-model : ReadsFollowModel
 reads-follow-model l I t b h cs permitted =

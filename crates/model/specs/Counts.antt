@@ -1,5 +1,5 @@
 -- What document 01 counts: main segments that opening treats, dirty blocks (m). That the operations of a call number what the
--- document says in these terms is proved in proofs/Counts.antt; no outcome is defined by them. Assumes nothing.
+-- document says in these terms is proved in proofs/Laws/Counts.antt; no outcome is defined by them. Assumes nothing.
 use Prim.Native.Nat.{ℕ}
 use mathlib.Core.List.{List}
 use lib.ListN.{getD}

@@ -1,4 +1,4 @@
--- Demand 3, as one statement over a whole history (`CrashSafety`), and its sisters. Proved in proofs/Theorem.antt and,
+-- Demand 3, as one statement over a whole history (`CrashSafety`), and its sisters. Proved in proofs/CrashSafety.antt and,
 -- the sisters, in Sisters.antt, WellFormed.antt and Suffices.antt.
 use Prim.Native.Nat.{ℕ, _+_, _*_, _%_, _≤_, _<_}
 use mathlib.Core.Path.{_≡_}
@@ -10,9 +10,9 @@ use Rattle.model.specs.declared.Layout.{Layout}
 use Rattle.model.specs.declared.Session.{Session}
 use Rattle.model.specs.Range.{oneIf}
 use Rattle.model.specs.Words.{Image, Bytes}
-use Rattle.model.specs.Layout.{lineSize, blockSize, blockWords, epochAt, ssInitial}
+use Rattle.model.specs.Layout.{lineSize, blockSize, blockWords, epochAt, ssInitial, blockOps, blockLines}
 use Rattle.model.specs.Container.{activeState, activeLine, checkpointBytes, committedEpoch}
-use Rattle.model.specs.Ops.{Ops, Trace, store}
+use Rattle.model.specs.Ops.{opNumbers, Ops, Trace, store}
 use Rattle.model.specs.Status.{served}
 use Rattle.model.specs.Replay.{replayOutcome}
 use Rattle.model.specs.Open.{openStatus, openOutcome}
@@ -147,16 +147,16 @@ OpeningSafety =
 
 -- traces that suffice for every opening, every write and every checkpoint
 abbrev pub TraceSuffices : Type 0
-TraceSuffices = (l : Layout) (I : Image) (t : Trace) → 3 * (36 * l .blocks * l .mains + 1) ≤ length t → openStatus l I t ≢ 11
+TraceSuffices = (l : Layout) (I : Image) (t : Trace) → opNumbers * (blockOps * l .blocks * l .mains + 1) ≤ length t → openStatus l I t ≢ 11
 
 abbrev pub WriteTraceSuffices : Type 0
 WriteTraceSuffices =
-    (s : Session) (I : Image) (w : WriteArgs) (j : ℕ) (t : Trace) → 3 * (36 * s .layout .blocks + 6 + blockWords) ≤ length t
+    (s : Session) (I : Image) (w : WriteArgs) (j : ℕ) (t : Trace) → opNumbers * (blockOps * s .layout .blocks + 6 + blockWords) ≤ length t
     → writeStatus s I w j t ≢ 11
 
 abbrev pub CheckpointTraceSuffices : Type 0
 CheckpointTraceSuffices =
-    (s : Session) (I : Image) (t : Trace) → 3 * (4 * s .layout .blocks * s .layout .mains + 14) ≤ length t → checkpointStatus s I t ≢ 11
+    (s : Session) (I : Image) (t : Trace) → opNumbers * (blockLines * s .layout .blocks * s .layout .mains + 14) ≤ length t → checkpointStatus s I t ≢ 11
 
 -- whether a call is a checkpoint
 abbrev pub isCheckpoint : CallArgs → Bool

@@ -9,7 +9,7 @@ use Rattle.model.specs.declared.Session.{Session}
 use Rattle.model.specs.Words.{Image, Bytes}
 use Rattle.model.specs.Status.{served}
 use Rattle.model.specs.Container.{activeLine, checkpointBytes}
-use Rattle.model.specs.Ops.{Ops, Trace, written}
+use Rattle.model.specs.Ops.{opNumbers, Ops, Trace, written}
 use Rattle.model.specs.Outcome.{Outcome}
 use Rattle.model.specs.Replay.{replayOutcome, replayedOps}
 use Rattle.model.specs.Open.{openOutcome}
@@ -61,7 +61,7 @@ outcome d c = answers (d .session) (d .image) (c .args) (c .trace) (c .choice)
 
 -- the part of the trace t that holds the reported operations O
 unfoldable pub reported : Ops → Trace → Trace
-reported O t = take (3 * length O) (written O t)
+reported O t = take (opNumbers * length O) (written O t)
 
 -- what replay plays of it on the image I where it is stopped after the first p operations
 unfoldable pub playedOps : Image → Ops → Trace → ℕ → Ops

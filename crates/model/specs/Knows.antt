@@ -1,4 +1,4 @@
--- Which numbers each call knows (document 01: "Refusals by number"), as one table. Proved in proofs/Knows.antt.
+-- Which numbers each call knows (document 01: "Refusals by number"), as one table. Proved in proofs/Laws/Knows.antt.
 use Prim.Native.Nat.{ℕ}
 use mathlib.Core.Path.{_≡_}
 use mathlib.Core.List.{List, [], _∷_}

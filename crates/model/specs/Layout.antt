@@ -28,9 +28,21 @@ blockLines = 4
 abbrev pub lineWords : ℕ
 lineWords = 8
 
+-- operations that copy a block: its words stored, its lines written back
+abbrev pub blockOps : ℕ
+blockOps = 36
+
 -- the most main segments, backup segments or blocks
 abbrev pub most : ℕ
 most = 64
+
+-- the most segments, main and backup
+abbrev pub mostSegments : ℕ
+mostSegments = 128
+
+-- bytes of the largest image: 64 main segments and 64 backup segments of 64 blocks
+abbrev pub largestImage : ℕ
+largestImage = 2097664
 
 -- where the metadata stands: the epoch, the three sizes, the two lines of states, the pairs
 abbrev pub epochAt : ℕ
@@ -50,6 +62,16 @@ statesAt = 128
 
 abbrev pub pairsAt : ℕ
 pairsAt = 256
+
+-- where the line of states for odd epochs stands, where the sizes end, and where the pairs end
+abbrev pub oddStatesAt : ℕ
+oddStatesAt = 192
+
+abbrev pub headerEnd : ℕ
+headerEnd = 88
+
+abbrev pub pairsEnd : ℕ
+pairsEnd = 320
 
 -- the pair byte of a backup segment that has no main segment
 abbrev pub unpaired : ℕ

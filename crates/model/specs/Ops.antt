@@ -26,6 +26,9 @@ Trace = List ℕ
 
 -- ---- an operation as three numbers, and back
 
+abbrev pub opNumbers : ℕ
+opNumbers = 3
+
 -- the three kinds
 abbrev pub opStore : ℕ
 opStore = 1
@@ -57,11 +60,11 @@ decode (k ∷ p ∷ w ∷ t) = opOf k p w ∷ decode t
 
 -- the trace after a call that wrote the operations O: they stand at its start, later numbers keep their contents
 unfoldable pub written : Ops → Trace → Trace
-written O t = encode O ++ drop (3 * length O) t
+written O t = encode O ++ drop (opNumbers * length O) t
 
 -- refusal 11: the trace is too short for the operations
 unfoldable pub traceShort : Ops → Trace → Bool
-traceShort O t = ltb (length t) (3 * length O)
+traceShort O t = ltb (length t) (opNumbers * length O)
 
 abbrev pub traceErrors : Ops → Trace → Errors
 traceErrors O t = (11, traceShort O t) ∷ []

@@ -8,7 +8,7 @@ use Rattle.model.specs.Range.{allB}
 use Rattle.model.specs.Words.{Image}
 use Rattle.model.specs.Layout.{wordSize, lineSize}
 use Rattle.model.specs.Status.{Errors, firstError, served}
-use Rattle.model.specs.Ops.{Ops, Trace, opStore, opClwb, opSfence, decode, replay}
+use Rattle.model.specs.Ops.{opNumbers, Ops, Trace, opStore, opClwb, opSfence, decode, replay}
 
 -- three numbers are an operation on an image of so many lines
 unfoldable pub wellFormed : ℕ → ℕ → ℕ → ℕ → Bool
@@ -20,16 +20,16 @@ wellFormed lines kind p w =
 
 -- the first n operations of a trace are well formed
 unfoldable pub allWellFormed : ℕ → Trace → ℕ → Bool
-allWellFormed lines t n = allB n (λ k. wellFormed lines (getD t (3 * k) 0) (getD t (3 * k + 1) 0) (getD t (3 * k + 2) 0))
+allWellFormed lines t n = allB n (λ k. wellFormed lines (getD t (opNumbers * k) 0) (getD t (opNumbers * k + 1) 0) (getD t (opNumbers * k + 2) 0))
 
 -- how many operations are to be replayed: n, or all if there are fewer
 unfoldable pub replayCount : Trace → ℕ → ℕ
-replayCount t n = min n (length t / 3)
+replayCount t n = min n (length t / opNumbers)
 
 abbrev pub replayErrors : Image → Trace → ℕ → Errors
 replayErrors I t n =
     (2, not (eqb (length I % lineSize) 0))
-    ∷ (12, not (eqb (length t % 3) 0) || not (allWellFormed (length I / lineSize) t (replayCount t n))) ∷ []
+    ∷ (12, not (eqb (length t % opNumbers) 0) || not (allWellFormed (length I / lineSize) t (replayCount t n))) ∷ []
 
 pub record Replayed : Type 0 where
   pub status : ℕ
@@ -38,7 +38,7 @@ pub record Replayed : Type 0 where
 
 -- the operations that replay plays
 unfoldable pub replayedOps : Trace → ℕ → Ops
-replayedOps t k = decode (take (3 * k) t)
+replayedOps t k = decode (take (opNumbers * k) t)
 
 unfoldable pub replayStatus : Image → Trace → ℕ → ℕ
 replayStatus I t n = firstError (replayErrors I t n)

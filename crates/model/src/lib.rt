@@ -29,10 +29,14 @@ impl Layout {
     pub const BLOCK_LINES: u64 = 4;
 
     pub const LINE_WORDS: u64 = 8;
+    // Operations that copy a block: its words stored, its lines written back.
+    pub const BLOCK_OPS: u64 = Layout::BLOCK_WORDS + Layout::BLOCK_LINES;
 
     pub const METADATA_SIZE: u64 = 512;
     // The most main segments, backup segments or blocks.
     pub const MOST: u64 = 64;
+    // The same as the length of an array.
+    pub const MOST_LEN: usize = Layout::MOST as usize;
 
     pub const EPOCH_AT: u64 = 0;
 
@@ -46,13 +50,13 @@ impl Layout {
 
     pub const PAIRS_AT: u64 = 256;
     // The pair byte of a backup segment that has no main segment.
-    pub const UNPAIRED: u64 = 255;
+    pub const UNPAIRED: u8 = 255;
     // The three states of a main segment: its checkpoint is all zero, stands in itself, stands in its backup.
-    pub const SS_INITIAL: u64 = 0;
+    pub const SS_INITIAL: u8 = 0;
 
-    pub const SS_MAIN: u64 = 1;
+    pub const SS_MAIN: u8 = 1;
 
-    pub const SS_BACKUP: u64 = 2;
+    pub const SS_BACKUP: u8 = 2;
 
     // The layout of these sizes, whatever they are.
     pub fn new(mains: u64, backups: u64, blocks: u64) -> Layout
@@ -72,7 +76,7 @@ pub struct Session {
     // One bit for each main segment written since the last checkpoint (document 01: touched).
     pub dirty_segments: u64,
     // For each main segment one word, with one bit for each dirty block (document 01: marked).
-    pub dirty_blocks: [u64; Layout::MOST as usize],
+    pub dirty_blocks: [u64; Layout::MOST_LEN],
 }
 
 impl Session {
@@ -83,7 +87,7 @@ impl Session {
         Session {
             layout: layout,
             dirty_segments: 0,
-            dirty_blocks: [0; Layout::MOST as usize],
+            dirty_blocks: [0; Layout::MOST_LEN],
         }
     }
 }

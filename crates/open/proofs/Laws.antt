@@ -20,8 +20,8 @@ use Rattle.model.specs.Ops.{Trace}
 use Rattle.model.specs.Open.{recoveryAction, actionOps, recoverSegment, recoveryOps, openStatus, openOutcome}
 use Rattle.model.specs.Session.{freshSession, zeroSession}
 use Rattle.model.specs.Outcome.{Outcome, outcomeOf, Gives}
-use Rattle.model.proofs.Metadata.{paired-at, valid-means}
-use Rattle.model.proofs.Refusals.{first-holds, first-fails, first-of-none, stage-refused, stage-passed}
+use Rattle.model.proofs.Laws.Container.{paired-at, valid-means}
+use Rattle.model.proofs.Laws.Status.{first-holds, first-fails, first-of-none, stage-refused, stage-passed}
 use Rattle.metadata.specs.declared.Examined.{Examined}
 use Rattle.metadata.specs.Scan.{entryOf, ExaminedBy}
 use Rattle.metadata.proofs.Laws.{entry-some, found-backup}

@@ -1,7 +1,6 @@
 // Opening, which recovers (document 01: opening): each main segment is treated by the table of states and pairs, so that its
 // bytes are the checkpoint again. What recovery does is given a line of states; an opening goes by the active one.
 use metadata::SLOTS;
-use metadata::UNPAIRED;
 use model::Action;
 use model::Answer;
 use model::Layout;
@@ -19,9 +18,6 @@ ghost use Rattle.model.specs.Open.{recoveryAction, actionOps, recoverSegment, r
 ghost use Rattle.model.specs.Counts.{acts, treated};
 ghost use Rattle.trace.specs.Emit.{Fits, Emitted};
 ghost use Rattle.open.specs.Recovery.{ValidBy, BackupsOf, takesBackup, recoveryOutcome};
-
-// The operations that copy or zero a block: its words are stored and its lines written back.
-const BLOCK_OPS: u64 = Layout::BLOCK_WORDS + Layout::BLOCK_LINES;
 
 // What recovery does, by the state of a main segment and whether it is paired; the two cells that cannot be do nothing.
 const RECOVERY_ACTION: [[Action; 2]; 3] = [
@@ -64,7 +60,7 @@ pub fn segment_action(
     requires { ⌜ (i < layout .mains) × ValidBy layout (now image) line × BackupsOf layout (now image) (now backup) ⌝ }
     ensures { λ r. ⌜ r ≡ recoveryAction (segState (now (image .entry)) line i) (isPaired layout (backupToMain (now (image .entry))) i) ⌝ }
 {
-    recovery_action(image[line + i], backup[i] != UNPAIRED)
+    recovery_action(image[line + i], backup[i] != Layout::UNPAIRED)
 }
 
 // Writes the operations of an action on main segment i and backup segment j.
@@ -143,7 +139,7 @@ pub fn recovery_length(image: &[u8], layout: Layout, line: usize, backup: &[u8; 
     requires { ⌜ ValidBy layout (now image) line × BackupsOf layout (now image) (now backup) ⌝ }
     ensures { λ r. ⌜ (r ≡ length (recoveryOps layout (now (image .entry)) line)) × (r < 2 ^ 32) ⌝ }
 {
-    BLOCK_OPS * layout.blocks * count_treated(image, layout, line, backup) + 1
+    Layout::BLOCK_OPS * layout.blocks * count_treated(image, layout, line, backup) + 1
 }
 
 // Writes the operations of recovery: the main segments upward, then one fence.

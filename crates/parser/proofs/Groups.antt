@@ -10,7 +10,7 @@ use lib.Dec.{leb, eqb}
 use lib.ListN.{length, getD, drop, length-drop}
 use borrow.Author.Tests.{leb-true, eqb-true}
 use Rattle.model.specs.Range.{cat}
-use Rattle.model.proofs.Range.{and-left, and-right}
+use Rattle.model.proofs.Laws.Range.{and-left, and-right}
 use Rattle.parser.specs.Text.{text, startsWith, Line, linesOf, numberOf, hexPairs}
 use Rattle.parser.specs.Script.{isSize, isBytes, key, groupKey, groupLines, named, valueOf, goodLine, keyFor, following, firstBad}
 use Rattle.parser.specs.Script.{lineAt, groupOf, firstGroups, groupsOf, defaultBackups, blocksLine, sizesOf}

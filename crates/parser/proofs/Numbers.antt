@@ -10,7 +10,7 @@ use lib.Dec.{leb, eqb}
 use lib.ListN.{length, getD, take, drop, set}
 use lib.Seq.{drop-cons, drop-length, drop-drop, drop-set-lt, take-all, take-suc, take-suc-set}
 use borrow.Author.Tests.{le-leb, lt-leb, leb-true, not-true, not-false}
-use Rattle.model.proofs.Range.{and-left, and-right}
+use Rattle.model.proofs.Laws.Range.{and-left, and-right}
 use Rattle.parser.specs.Text.{isDigit, digitOf, noNumber, numberOf, isHexDigit, hexDigitOf, hexPairs, hexBytes}
 use Rattle.parser.specs.Read.{Decodes}
 

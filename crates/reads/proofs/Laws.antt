@@ -15,9 +15,9 @@ use Rattle.model.specs.Layout.{SizesOk, segmentSize, imageSize, mainAt}
 use Rattle.model.specs.Status.{Errors, firstError, served}
 use Rattle.model.specs.Container.{activeLine, checkpointLocated, containerErrors, mainErrors, blockErrors}
 use Rattle.model.specs.Reads.{readStatus, partOf, nowhere, blockPart, locatedPart, workingPart, checkpointPart}
-use Rattle.model.proofs.Refusals.{stage-refused, stage-passed, served-condition}
-use Rattle.model.proofs.Metadata.{ContainerOk, container-then}
-use Rattle.model.proofs.Places.{metadata-inside, segment-in-image}
+use Rattle.model.proofs.Laws.Status.{stage-refused, stage-passed, served-condition}
+use Rattle.model.proofs.Laws.Container.{ContainerOk, container-then}
+use Rattle.model.proofs.Laws.Layout.{metadata-inside, segment-in-image}
 use Rattle.metadata.proofs.Laws.{image-bound, Inside, located-inside}
 use Rattle.model.specs.Reads as model
 use Rattle.reads.specs.declared.Part.{Part}

@@ -15,9 +15,9 @@ use Rattle.model.specs.Words.{Image, storeWord}
 use Rattle.model.specs.Status.{firstError}
 use Rattle.model.specs.Ops.{Op, clwb, sfence, Ops, Trace, opOf, decode, apply, replay}
 use Rattle.model.specs.Replay.{wellFormed, allWellFormed, replayCount, replayErrors, replayedOps, replayStatus, replayOutcome}
-use Rattle.model.proofs.Range.{and-left, and-right, all-at}
-use Rattle.model.proofs.Persist.{replay-append}
-use Rattle.model.proofs.Refusals.{served-condition}
+use Rattle.model.proofs.Laws.Range.{and-left, and-right, all-at}
+use Rattle.model.proofs.Argument.Persist.{replay-append}
+use Rattle.model.proofs.Laws.Status.{served-condition}
 
 -- operation k of a trace, and whether it is well formed
 abbrev pub opAt : Trace → ℕ → Op

@@ -18,12 +18,12 @@ use Rattle.model.specs.Layout.{SizesOk, segmentSize}
 use Rattle.model.specs.Status.{firstError, served}
 use Rattle.model.specs.Container.{activeLine, segState, backupToMain, Valid, checkpointLocated, checkpointSegment, checkpointBytes, containerErrors}
 use Rattle.model.specs.Same.{sameBytes, sameCheckpoint, sameStatus, sameOutcome}
-use Rattle.model.proofs.Range.{all-from}
-use Rattle.model.proofs.Gather.{all-ext}
-use Rattle.model.proofs.Places.{metadata-inside}
-use Rattle.model.proofs.Refusals.{served-parts}
-use Rattle.model.proofs.Metadata.{container-ok}
-use Rattle.model.proofs.Pages.{checkpoint-at}
+use Rattle.model.proofs.Laws.Range.{all-from}
+use Rattle.model.proofs.Laws.Gather.{all-ext}
+use Rattle.model.proofs.Laws.Layout.{metadata-inside}
+use Rattle.model.proofs.Laws.Status.{served-parts}
+use Rattle.model.proofs.Laws.Container.{container-ok}
+use Rattle.model.proofs.Argument.Pages.{checkpoint-at}
 use Rattle.metadata.proofs.Laws.{Inside, located-inside}
 
 -- ---- tests in runs of c

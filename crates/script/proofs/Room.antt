@@ -5,8 +5,8 @@ use native.Mathlib.Omega.{arith}
 use native.Mathlib.Nat.{mul-le-mul}
 use lib.ListN.{length, length-replicate}
 use Rattle.model.specs.declared.Layout.{Layout}
-use Rattle.model.proofs.FormatLaws.{formatted-accepted}
-use Rattle.model.proofs.Suffices.{write-trace-suffices, checkpoint-trace-suffices}
+use Rattle.model.proofs.Laws.Format.{formatted-accepted}
+use Rattle.model.proofs.Laws.TraceLength.{write-trace-suffices, checkpoint-trace-suffices}
 use Rattle.script.specs.Prints.{room, blank}
 use Rattle.script.specs.Room.{SheetSizes, RoomSuffices}
 

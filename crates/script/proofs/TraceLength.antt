@@ -16,7 +16,7 @@ use Rattle.model.specs.Write.{WriteArgs, writeOps, writeStatus, writeOutcome}
 use Rattle.model.specs.Checkpoint.{checkpointOps, checkpointStatus, checkpointOutcome}
 use Rattle.model.specs.Reference.{CallArgs, openArgs, writeArgs, checkpointArgs}
 use Rattle.model.specs.History.{Call, Device, answers, outcome, playedOps, replayedImage, deviceStep, PermittedOn, Permitted}
-use Rattle.model.proofs.TraceLaws.{reported-is}
+use Rattle.model.proofs.Laws.Ops.{reported-is}
 use Rattle.script.specs.Prints.{room, blank}
 
 short-same : (O : Ops) (t u : Trace) → length t ≡ length u → traceShort O t ≡ traceShort O u

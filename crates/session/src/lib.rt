@@ -15,13 +15,8 @@ ghost use Rattle.model.specs.Session.{isDirty, setBits, withDirty, withCheckpoi
 ghost use Rattle.model.specs.Counts.{dirtyTotal};
 ghost use Rattle.session.specs.Parts.{sessionOf};
 
-// The words of dirty blocks, the bytes of a line, and the state of a main segment that holds its checkpoint itself, as the
-// code counts and compares them.
-const MOST: usize = Layout::MOST as usize;
-
+// Bytes of a line, as indexes count them.
 const LINE_SIZE: usize = Layout::LINE_SIZE as usize;
-
-const SS_MAIN: u8 = Layout::SS_MAIN as u8;
 
 // A word with all bits set.
 const ALL: u64 = 18446744073709551615;
@@ -80,7 +75,7 @@ pub fn within(word: u64, n: u64) -> bool
 }
 
 // Whether each of the first `mains` words has no bit set from bit `blocks` on.
-pub fn blocks_within(words: &[u64; MOST], mains: usize, blocks: u64) -> bool
+pub fn blocks_within(words: &[u64; Layout::MOST_LEN], mains: usize, blocks: u64) -> bool
     requires { ⌜ (mains ≤ 64) × (1 ≤ blocks) × (blocks ≤ 64) ⌝ }
     ensures { λ r. ⌜ r ≡ allB mains (λ i. ltb (getD (now (words .entry)) i 0) (2 ^ blocks)) ⌝ }
 {
@@ -94,13 +89,13 @@ pub fn blocks_within(words: &[u64; MOST], mains: usize, blocks: u64) -> bool
 }
 
 // Whether the words from `mains` on are 0.
-pub fn rest_clear(words: &[u64; MOST], mains: usize) -> bool
+pub fn rest_clear(words: &[u64; Layout::MOST_LEN], mains: usize) -> bool
     requires { ⌜ mains ≤ 64 ⌝ }
     ensures { λ r. ⌜ r ≡ allB 64 (λ i. ltb i mains || eqb (getD (now (words .entry)) i 0) 0) ⌝ }
 {
     let mut seen: u64 = 0;
     let mut i = mains;
-    while i < MOST {
+    while i < Layout::MOST_LEN {
         seen |= words[i];
         i += 1;
     }
@@ -112,7 +107,7 @@ pub fn may_stand(segments: u64, i: u64, state: u8) -> bool
     requires { ⌜ i < 64 ⌝ }
     ensures { λ r. ⌜ r ≡ not (isDirty segments i && eqb state 1) ⌝ }
 {
-    !(is_dirty(segments, i) & (state == SS_MAIN))
+    !(is_dirty(segments, i) & (state == Layout::SS_MAIN))
 }
 
 // Whether no dirty segment is in state 1.
@@ -130,7 +125,12 @@ pub fn none_in_main(segments: u64, states: &[u8], mains: u64) -> bool
 }
 
 // Whether the session of these parts is valid, by the states of main segments.
-pub fn session_valid(layout: Layout, segments: u64, words: &[u64; MOST], states: &[u8]) -> bool
+pub fn session_valid(
+    layout: Layout,
+    segments: u64,
+    words: &[u64; Layout::MOST_LEN],
+    states: &[u8],
+) -> bool
     requires { ⌜ (1 ≤ layout .mains) × (layout .mains ≤ 64) × (1 ≤ layout .blocks) × (layout .blocks ≤ 64) ⌝ }
     requires { ⌜ 64 ≤ length (now states) ⌝ }
     ensures { λ r. ⌜ r ≡ validSession (sessionOf layout segments (now (words .entry))) (λ i. getD (now (states .entry)) i 0) ⌝ }
@@ -142,7 +142,12 @@ pub fn session_valid(layout: Layout, segments: u64, words: &[u64; MOST], states:
 }
 
 // The first of refusals 1 to 5 that applies to an image and the session of these parts.
-pub fn context_status(image: &[u8], layout: Layout, segments: u64, words: &[u64; MOST]) -> Status
+pub fn context_status(
+    image: &[u8],
+    layout: Layout,
+    segments: u64,
+    words: &[u64; Layout::MOST_LEN],
+) -> Status
     ensures { λ r. ⌜ codeOf r ≡ firstError (contextErrors (sessionOf layout segments (now (words .entry))) (now (image .entry))) ⌝ }
 {
     let container = metadata::container_status(image, layout);
@@ -164,7 +169,7 @@ pub fn dirty_count(word: u64) -> u64
 }
 
 // How many blocks of all main segments are dirty, by their words.
-pub fn dirty_total(layout: Layout, words: &[u64; MOST]) -> u64
+pub fn dirty_total(layout: Layout, words: &[u64; Layout::MOST_LEN]) -> u64
     requires { ⌜ layout .mains ≤ 64 ⌝ }
     requires { ⌜ ((i : ℕ) → i < layout .mains → getD (now words) i 0 < 2 ^ layout .blocks) ⌝ }
     ensures { λ r. ⌜ (r ≡ dirtyTotal layout (now (words .entry))) × (r ≤ 4096) ⌝ }

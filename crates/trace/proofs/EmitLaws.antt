@@ -12,7 +12,7 @@ use lib.ListN.{length, set, drop, length-append}
 use lib.Seq.{sets, sets-eq, length-sets}
 use Rattle.model.specs.Range.{cat}
 use Rattle.model.specs.Ops.{Ops, Trace, encode, written}
-use Rattle.model.proofs.TraceLaws.{length-encode, encode-append}
+use Rattle.model.proofs.Laws.Ops.{length-encode, encode-append}
 use Rattle.trace.specs.Emit.{emit, Fits, Emitted}
 
 -- ---- the trace alone

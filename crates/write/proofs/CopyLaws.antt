@@ -13,7 +13,7 @@ use Rattle.model.specs.Words.{Image}
 use Rattle.model.specs.Layout.{blockSize, mainAt, backupAt}
 use Rattle.model.specs.Ops.{sfence, persistCopy, copySegment, eachDirty}
 use Rattle.model.specs.Write.{copies, pairOps, copyDirty, backupOps, stateOps, copyOnWriteOps}
-use Rattle.model.proofs.Counts.{length-put-block, length-copy-segment, length-dirty, dirty-ones}
+use Rattle.model.proofs.Laws.Counts.{length-put-block, length-copy-segment, length-dirty, dirty-ones}
 
 module _ (l : Layout) (I : Image) (word i : ℕ) where
   -- the backup's, from and to the places that the code found: to its own backup segment, and to a new one

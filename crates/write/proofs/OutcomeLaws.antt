@@ -20,11 +20,11 @@ use Rattle.model.specs.Container.{activeState, backupToMain, isPaired, pairedBa
 use Rattle.model.specs.Session.{dirtyWord, withDirty}
 use Rattle.model.specs.Ops.{Ops, Trace, traceShort}
 use Rattle.model.specs.Write.{WriteArgs, needsCopy, needsBackup, copies, noneFree, copyPlan, copyOnWriteOps, spanAt, spanWords, spanBlocks, spanOps, writeOps, writeSession, writeStatus, writeOutcome, Chosen, spanStores}
-use Rattle.model.proofs.Places.{image-lines, metadata-inside, segment-in-image}
-use Rattle.model.proofs.Refusals.{served-cons, served-condition, after-served, stage-refused}
-use Rattle.model.proofs.Metadata.{container-then}
-use Rattle.model.proofs.WellFormed.{span-good}
-use Rattle.model.proofs.Counts.{length-stores}
+use Rattle.model.proofs.Laws.Layout.{image-lines, metadata-inside, segment-in-image}
+use Rattle.model.proofs.Laws.Status.{served-cons, served-condition, after-served, stage-refused}
+use Rattle.model.proofs.Laws.Container.{container-then}
+use Rattle.model.proofs.Laws.Replay.{span-good}
+use Rattle.model.proofs.Laws.Counts.{length-stores}
 use Rattle.trace.specs.Emit.{Fits, Emitted}
 use Rattle.trace.proofs.EmitLaws.{fits-as, emitted-as}
 use Rattle.trace.proofs.CallLaws.{gives-refused, gives-served}

@@ -12,7 +12,7 @@ use Rattle.model.specs.Words.{Image, byteAt}
 use Rattle.model.specs.Container.{activeLine, activeState, backupToMain, isPaired, pairedBackup}
 use Rattle.model.specs.Session.{isDirty, dirtySegment}
 use Rattle.model.specs.Write.{needsCopy, copyPlan}
-use Rattle.model.proofs.Metadata.{any-free}
+use Rattle.model.proofs.Laws.Container.{any-free}
 use Rattle.session.specs.Parts.{sessionOf}
 use Rattle.metadata.specs.Scan.{Choice, freeBackup}
 use Rattle.metadata.proofs.Laws.{is-paired}

@@ -11,8 +11,8 @@ use borrow.Author.Tests.{lt-ltb, le-ltb}
 use Rattle.model.specs.Words.{Image, byteAt, littleEndian, wordOf, wordAt, overlay}
 use Rattle.model.specs.Ops.{store, stores, wordPlace}
 use Rattle.model.specs.Write.{spanWords, spanStores}
-use Rattle.model.proofs.Range.{cat-ext}
-use Rattle.model.proofs.WordLaws.{overlay-in}
+use Rattle.model.proofs.Laws.Range.{cat-ext}
+use Rattle.model.proofs.Laws.Words.{overlay-in}
 use Rattle.write.specs.Steps.{wordStores}
 
 -- an element that is there does not depend on the default

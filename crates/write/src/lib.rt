@@ -22,18 +22,8 @@ ghost use Rattle.trace.specs.Emit.{Fits, Emitted};
 ghost use Rattle.session.specs.Parts.{sessionOf};
 ghost use Rattle.write.specs.Steps.{earlyErrors, lateErrors, Ready, CopiesTo, Planned, wordStores};
 
-// Main segments at most, and bytes of a word, as indexes count them.
-const MOST: usize = Layout::MOST as usize;
-
+// Bytes of a word, as indexes count them.
 const WORD_SIZE: usize = Layout::WORD_SIZE as usize;
-
-// States as bytes.
-const SS_MAIN: u8 = Layout::SS_MAIN as u8;
-
-const SS_BACKUP: u8 = Layout::SS_BACKUP as u8;
-
-// Operations that copy a block.
-const BLOCK_OPS: u64 = Layout::BLOCK_WORDS + Layout::BLOCK_LINES;
 
 // Operations that give a backup segment its main segment, and that turn a state with the fences around it.
 const PAIR_OPS: u64 = 2;
@@ -181,7 +171,7 @@ pub fn plan_copy(image: &[u8], layout: Layout, segments: u64, main: u64) -> Plan
     let active = metadata::active_at(image);
     let dirty = session::is_dirty(segments, main);
     let state = image[active + main as usize];
-    if dirty | (state != SS_MAIN) {
+    if dirty | (state != Layout::SS_MAIN) {
         return Plan::NoCopy;
     }
     let own = metadata::find_paired_backup(image, layout, main);
@@ -226,8 +216,8 @@ pub fn copy_count(plan: Plan, layout: Layout, word: u64) -> u64
 {
     match plan {
         Plan::NoCopy => 0,
-        Plan::OwnBackup(_) => BLOCK_OPS * session::dirty_count(word) + STATE_OPS,
-        Plan::NewBackup(_) => BLOCK_OPS * layout.blocks + (PAIR_OPS + STATE_OPS),
+        Plan::OwnBackup(_) => Layout::BLOCK_OPS * session::dirty_count(word) + STATE_OPS,
+        Plan::NewBackup(_) => Layout::BLOCK_OPS * layout.blocks + (PAIR_OPS + STATE_OPS),
         Plan::NoneFree => 0,
     }
 }
@@ -254,7 +244,7 @@ pub fn put_state(image: &[u8], main: u64, trace: &mut [u64], n: usize) -> usize
     let active = metadata::active_at(image);
     let state = active + main as usize;
     let store = trace::put_sfence(trace, n);
-    let clwb = put_byte(image, state, SS_BACKUP, trace, store);
+    let clwb = put_byte(image, state, Layout::SS_BACKUP, trace, store);
     let fence = trace::put_clwb(trace, clwb, active as u64);
     trace::put_sfence(trace, fence)
 }
@@ -333,7 +323,7 @@ pub fn early_status(
     image: &[u8],
     layout: Layout,
     segments: u64,
-    words: &[u64; MOST],
+    words: &[u64; Layout::MOST_LEN],
     main: u64,
     block: u64,
     offset: u64,

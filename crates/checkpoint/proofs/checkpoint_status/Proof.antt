@@ -1,6 +1,6 @@
 use Rattle.checkpoint.proofs.Laws.{long-enough}
 use Rattle.session.specs.Parts.{sessionOf}
-use Rattle.model.proofs.Refusals.{first-holds, first-fails, first-of-none, stage-refused, stage-passed}
+use Rattle.model.proofs.Laws.Status.{first-holds, first-fails, first-of-none, stage-refused, stage-passed}
 use borrow.Author.Tests.{eq-eqb, ne-eqb, not-true, not-false}
 use native.Mathlib.Omega.{arith}
 use mathlib.Core.Path.{sym, _∙_}

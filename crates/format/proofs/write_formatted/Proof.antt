@@ -32,9 +32,6 @@ part-fill-end : tie.Need-part-fill-end
 unfolding imageSize
 part-fill-end c = search needs
 
-cast-fill : tie.Need-cast-fill
-cast-fill c = search needs
-
 fill-requires-2 : tie.Need-fill-requires-2
 fill-requires-2 c κs = search needs
 
@@ -63,7 +60,6 @@ write-formatted-spec =
     sub-fill
     part-fill-start
     part-fill-end
-    cast-fill
     fill-requires-2
     same-length
     returns)

@@ -6,8 +6,8 @@ use native.Mathlib.Omega.{arith}
 use borrow.Author.Tests.{eqb-true, not-true, not-false}
 use borrow.Author.Needs.{needs}
 use Rattle.model.specs.Container.{activeLine, segState, backupToMain, validMetadata, headerOk, layoutErrors, validErrors}
-use Rattle.model.proofs.Places.{metadata-inside}
-use Rattle.model.proofs.Refusals.{first-holds, first-fails, first-of-none, stage-refused, stage-passed}
+use Rattle.model.proofs.Laws.Layout.{metadata-inside}
+use Rattle.model.proofs.Laws.Status.{first-holds, first-fails, first-of-none, stage-refused, stage-passed}
 use Rattle.metadata.proofs.Laws.{sized}
 use Rattle.metadata.proofs.container_status.Statement.{statement}
 use Rattle.metadata.proofs.container_status.Tie as tie

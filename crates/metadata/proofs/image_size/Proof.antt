@@ -2,7 +2,7 @@ use mathlib.Core.Path.{_∙_, sym}
 use native.Mathlib.Omega.{arith}
 use borrow.Author.Tests.{not-true, not-false}
 use borrow.Author.Needs.{needs}
-use Rattle.model.proofs.Metadata.{sizes-ok}
+use Rattle.model.proofs.Laws.Container.{sizes-ok}
 use Rattle.metadata.proofs.image_size.Statement.{statement}
 use Rattle.metadata.proofs.image_size.Tie as tie
 

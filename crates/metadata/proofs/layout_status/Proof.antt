@@ -5,8 +5,8 @@ use native.Mathlib.Omega.{arith}
 use borrow.Author.Tests.{eqb-true, not-true, not-false}
 use borrow.Author.Needs.{needs}
 use Rattle.model.specs.Container.{headerOk, sizeErrors}
-use Rattle.model.proofs.Places.{metadata-inside}
-use Rattle.model.proofs.Refusals.{first-holds, first-fails, first-of-none, stage-refused, stage-passed}
+use Rattle.model.proofs.Laws.Layout.{metadata-inside}
+use Rattle.model.proofs.Laws.Status.{first-holds, first-fails, first-of-none, stage-refused, stage-passed}
 use Rattle.metadata.proofs.Laws.{sized}
 use Rattle.metadata.proofs.layout_status.Statement.{statement}
 use Rattle.metadata.proofs.layout_status.Tie as tie

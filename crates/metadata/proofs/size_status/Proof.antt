@@ -3,8 +3,8 @@ use mathlib.Core.Path.{_∙_, sym, ap}
 use native.Mathlib.Omega.{arith}
 use borrow.Author.Tests.{eq-eqb, ne-eqb, not-false}
 use borrow.Author.Needs.{needs}
-use Rattle.model.proofs.Metadata.{sizes-ok}
-use Rattle.model.proofs.Refusals.{first-holds, first-fails, first-of-none}
+use Rattle.model.proofs.Laws.Container.{sizes-ok}
+use Rattle.model.proofs.Laws.Status.{first-holds, first-fails, first-of-none}
 use Rattle.metadata.proofs.size_status.Statement.{statement}
 use Rattle.metadata.proofs.size_status.Tie as tie
 

@@ -9,7 +9,7 @@ use Rattle.model.specs.Container.{activeLine, headerOk}
 use Rattle.model.specs.Session.{freshSession, zeroSession}
 use Rattle.model.specs.Outcome.{Gives}
 use Rattle.model.specs.Open.{recoveryOps, openStatus, openOutcome}
-use Rattle.model.proofs.Places.{metadata-inside}
+use Rattle.model.proofs.Laws.Layout.{metadata-inside}
 use Rattle.trace.proofs.CallLaws.{gives-refused}
 use Rattle.metadata.proofs.Laws.{sized}
 use Rattle.open.proofs.Laws.{open-refused, open-gives}

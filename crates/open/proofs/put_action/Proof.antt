@@ -4,7 +4,7 @@ use native.Mathlib.Omega.{arith}
 use borrow.Author.Needs.{needs}
 use Rattle.model.specs.Ops.{copySegment, zeroSegment}
 use Rattle.model.specs.Open.{actionOps}
-use Rattle.model.proofs.Places.{segment-in-image}
+use Rattle.model.proofs.Laws.Layout.{segment-in-image}
 use Rattle.trace.proofs.EmitLaws.{fits-as, emitted-as, emitted-nil, emitted-length}
 use Rattle.open.specs.Recovery.{takesBackup}
 use Rattle.open.proofs.put_action.Statement.{statement}

@@ -4,7 +4,7 @@ use borrow.Author.Needs.{needs}
 use Rattle.model.specs.Container.{validErrors}
 use Rattle.model.specs.Session.{freshSession, zeroSession}
 use Rattle.model.specs.Open.{recoveryOps}
-use Rattle.model.proofs.Places.{metadata-inside}
+use Rattle.model.proofs.Laws.Layout.{metadata-inside}
 use Rattle.trace.proofs.EmitLaws.{emitted-length}
 use Rattle.trace.proofs.CallLaws.{refused-short, served-long, fits-whole, gives-refused, gives-served}
 use Rattle.open.specs.Recovery.{recoveryOutcome}

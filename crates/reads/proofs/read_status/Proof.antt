@@ -1,7 +1,7 @@
 use mathlib.Core.Path.{_∙_, sym}
 use borrow.Author.Tests.{le-leb, lt-leb, not-true, not-false}
 use borrow.Author.Needs.{needs}
-use Rattle.model.proofs.Refusals.{first-holds, first-fails, first-of-none}
+use Rattle.model.proofs.Laws.Status.{first-holds, first-fails, first-of-none}
 use Rattle.reads.proofs.Laws.{read-refused, read-then}
 use Rattle.reads.proofs.read_status.Statement.{statement}
 use Rattle.reads.proofs.read_status.Tie as tie

@@ -3,7 +3,7 @@ use native.Mathlib.Omega.{arith}
 use borrow.Author.Tests.{not-true, not-false}
 use borrow.Author.Needs.{needs}
 use Rattle.model.specs.Container.{containerErrors}
-use Rattle.model.proofs.Refusals.{stage-refused, stage-passed}
+use Rattle.model.proofs.Laws.Status.{stage-refused, stage-passed}
 use Rattle.same.proofs.same_status.Statement.{statement}
 use Rattle.same.proofs.same_status.Tie as tie
 

@@ -3,7 +3,7 @@ use mathlib.Core.Path.{sym, ap, _∙_}
 use native.Mathlib.Omega.{arith}
 use borrow.Author.Tests.{not-true, not-false}
 use borrow.Author.Needs.{needs}
-use Rattle.model.proofs.Refusals.{stage-refused}
+use Rattle.model.proofs.Laws.Status.{stage-refused}
 use Rattle.session.specs.Parts.{sessionOf}
 use Rattle.session.proofs.Laws.{container-left, session-judged}
 use Rattle.session.proofs.context_status.Statement.{statement}

@@ -6,7 +6,7 @@ use lib.Dec.{eqb, ltb}
 use lib.ListN.{getD}
 use borrow.Author.Tests.{lt-ltb}
 use borrow.Author.Needs.{needs}
-use Rattle.model.proofs.Range.{all-from, or-left}
+use Rattle.model.proofs.Laws.Range.{all-from, or-left}
 use Rattle.model.specs.Range.{allB}
 use Rattle.session.proofs.Overlaid.{clear-more}
 use Rattle.session.proofs.rest_clear.Statement.{statement}

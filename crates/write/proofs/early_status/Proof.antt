@@ -3,7 +3,7 @@ use native.Mathlib.Omega.{arith}
 use borrow.Author.Tests.{le-leb, lt-leb, not-true, not-false}
 use borrow.Author.Needs.{needs}
 use Rattle.model.specs.Session.{contextErrors}
-use Rattle.model.proofs.Refusals.{first-holds, first-fails, first-of-none, stage-refused, stage-passed}
+use Rattle.model.proofs.Laws.Status.{first-holds, first-fails, first-of-none, stage-refused, stage-passed}
 use Rattle.session.specs.Parts.{sessionOf}
 use Rattle.write.proofs.early_status.Statement.{statement}
 use Rattle.write.proofs.early_status.Tie as tie

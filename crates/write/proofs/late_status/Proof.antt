@@ -5,7 +5,7 @@ use lib.ListN.{length}
 use borrow.Author.Tests.{lt-ltb, le-ltb}
 use borrow.Author.Needs.{needs}
 use Rattle.model.specs.Ops.{traceShort}
-use Rattle.model.proofs.Refusals.{first-holds, first-fails, first-of-none}
+use Rattle.model.proofs.Laws.Status.{first-holds, first-fails, first-of-none}
 use Rattle.write.proofs.late_status.Statement.{statement}
 use Rattle.write.proofs.late_status.Tie as tie
 

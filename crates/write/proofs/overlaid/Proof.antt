@@ -2,7 +2,7 @@ use mathlib.Core.Path.{sym}
 use native.Mathlib.Omega.{arith}
 use borrow.Author.Needs.{needs}
 use Rattle.model.specs.Words.{byteAt}
-use Rattle.model.proofs.WordLaws.{overlay-before, overlay-after}
+use Rattle.model.proofs.Laws.Words.{overlay-before, overlay-after}
 use Rattle.write.proofs.SpanLaws.{byte-inside}
 use Rattle.write.proofs.overlaid.Statement.{statement}
 use Rattle.write.proofs.overlaid.Tie as tie

@@ -8,7 +8,7 @@ use borrow.Author.Needs.{needs}
 use Rattle.model.specs.Words.{byteAt, wordOf, overlay}
 use Rattle.model.specs.Ops.{stores, wordPlace}
 use Rattle.model.specs.Write.{spanWords}
-use Rattle.model.proofs.Range.{and-left, and-right}
+use Rattle.model.proofs.Laws.Range.{and-left, and-right}
 use Rattle.trace.specs.Emit.{Emitted}
 use Rattle.trace.proofs.EmitLaws.{emitted-length, emitted-as, emitted-none, fits-as, fits-each, emitted-each}
 use Rattle.write.proofs.SpanLaws.{whole-words}

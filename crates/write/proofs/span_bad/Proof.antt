@@ -5,7 +5,7 @@ use lib.Dec.{eqb}
 use lib.ListN.{length}
 use borrow.Author.Tests.{lt-ltb, eq-eqb, ne-eqb}
 use Rattle.model.specs.Write.{spanBad}
-use Rattle.model.proofs.Range.{or-left, or-right}
+use Rattle.model.proofs.Laws.Range.{or-left, or-right}
 use Rattle.write.proofs.SpanLaws.{span-over}
 use Rattle.write.proofs.span_bad.Statement.{statement}
 use Rattle.write.proofs.span_bad.Tie as tie

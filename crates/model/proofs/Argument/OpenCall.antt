@@ -1,0 +1,84 @@
+-- An opening in a history: it is recovery by the active line, with the history's sizes or refused.
+use Prim.Native.Nat.{ℕ}
+use mathlib.Core.Path.{_≡_, refl, sym, ap, _∙_, subst}
+use mathlib.Core.Logic.{inl, inr}
+use mathlib.Core.Bool.{Bool, true}
+use native.Mathlib.Omega.{arith}
+use lib.ListN.{length}
+use Rattle.model.specs.declared.Layout.{Layout}
+use Rattle.model.specs.Words.{Image}
+use Rattle.model.specs.Container.{activeLine, HeaderOk}
+use Rattle.model.specs.Session.{freshSession, zeroSession}
+use Rattle.model.specs.Ops.{Ops, Trace}
+use Rattle.model.specs.Open.{recoveryOps, openStatus, openOutcome}
+use Rattle.model.specs.Reference.{Model, modelStep, openArgs}
+use Rattle.model.specs.History.{Call, Device, State, outcome}
+use Rattle.model.proofs.Laws.Container.{ContainerOk, container-then}
+use Rattle.model.proofs.Laws.Replay.{open-ok}
+use Rattle.model.proofs.Argument.Invariant.{Invariant}
+use Rattle.model.proofs.Argument.Recovery.{meta, open-clear, reopen-crash, reopen-done}
+use Rattle.model.proofs.Laws.Outcome.{Answered}
+use Rattle.model.proofs.Argument.Stands.{imageOf, checkpointOf, workingOf, Stands, Argument, low-epoch, Appends, inv-at, by-status}
+
+-- an image that an opening serves
+pub accepted : (l : Layout) (I : Image) (t : Trace) → openStatus l I t ≡ 0 → ContainerOk l I
+unfolding openStatus
+accepted l I t h = container-then l I _ h .0
+
+-- a served opening throws the working page away, and the session is new
+model-open : (l k : Layout) (m : Model) → modelStep l (openArgs k) true m ≡ record { working = m .checkpoint; checkpoint = m .checkpoint }
+unfolding modelStep
+model-open l k m = refl
+
+pub fresh-sized : (l : Layout) → (freshSession l .layout ≡ l) × (length (freshSession l .«dirty_blocks») ≡ 64)
+unfolding freshSession
+fresh-sized l = (refl, refl)
+
+layout-path : (k l : Layout) → k .mains ≡ l .mains → k .backups ≡ l .backups → k .blocks ≡ l .blocks → k ≡ l
+layout-path k l p q r = λ i. record { mains = p i; backups = q i; blocks = r i }
+
+module _ (s : State) (st : Stands s) (k : Layout) (t : Trace) (j : ℕ) where
+  abbrev d : Device
+  d = s .device
+
+  abbrev I : Image
+  I = imageOf (s .device)
+
+  abbrev c : Call
+  c = record { args = openArgs k; trace = t; choice = j }
+
+  abbrev E : Ops
+  E = recoveryOps k I (activeLine I)
+
+  -- the sizes of an opening that is served are the history's
+  sizes-fixed : openStatus k (d .image) t ≡ 0 → k ≡ d .layout
+  sizes-fixed h =
+      let a = accepted k (d .image) t h .header in
+      let b = subst (λ (J : Image). HeaderOk (d .layout) J) (sym (st .image)) (st .inv .recovers .fit .header) in
+      layout-path k (d .layout) (sym (a .0) ∙ b .0) (sym (a .1) ∙ b .1) (sym (a .2) ∙ b .2)
+
+  appends : openStatus k (d .image) t ≡ 0 → Answered (outcome d c) true (freshSession k) (recoveryOps k (d .image) (activeLine (d .image))) → Appends s c
+  appends h a =
+      let e : k ≡ d .layout = sizes-fixed h in
+      let inv : Invariant k (d .played) I (st .session) (checkpointOf s) (workingOf s) = inv-at s st k e in
+      record {
+        ops = E;
+        opsAre = a .ops ∙ ap (λ (J : Image). recoveryOps k J (activeLine J)) (st .image);
+        model = record { working = s .model .checkpoint; checkpoint = s .model .checkpoint };
+        modelIs = ap (λ (b : Bool). modelStep (d .layout) (openArgs k) b (s .model)) (a .status) ∙ model-open (d .layout) k (s .model);
+        layout = k;
+        layoutIs = e;
+        session = freshSession k;
+        sized = fresh-sized k .0;
+        wide = fresh-sized k .1;
+        known = inl (a .session);
+        wholeWorking = st .wholeCheckpoint;
+        wholeCheckpoint = st .wholeCheckpoint;
+        inv = reopen-done k (d .played) (d .durable) (st .session) _ _ (st .bytes) inv;
+        epoch = low-epoch (d .durable) (d .played) E (λ n q. open-clear k I _ (inv .recovers) n (meta (omega arith))) ∙ omega arith;
+        crash = λ p H x. inl (reopen-crash k (d .played) (d .durable) (st .session) _ _ (st .bytes) inv p H x);
+      }
+
+  pub open-argument : Argument s (record { args = openArgs k; trace = t; choice = j })
+  unfolding openOutcome modelStep
+  open-argument = by-status s st c (open-ok k (d .image) t) (openStatus k (d .image) t) zeroSession (freshSession k) (recoveryOps k (d .image) (activeLine (d .image))) refl (inr refl) refl appends

@@ -1,0 +1,116 @@
+-- Openings outside a history: the one that it starts with, and those after a crash, of which any number may be cut before
+-- one finishes and shows the page.
+use Prim.Native.Nat.{ℕ, _%_}
+use mathlib.Core.Path.{_≡_, refl, sym, ap, _∙_, subst}
+use mathlib.Core.Logic.{_≢_, inl}
+use mathlib.Core.Bool.{Bool, true, false}
+use mathlib.Core.List.{[]}
+use native.Mathlib.Omega.{arith}
+use lib.ListN.{length, take}
+use lib.Seq.{take-length}
+use Rattle.model.specs.declared.Layout.{Layout}
+use Rattle.model.specs.Words.{Image, Bytes}
+use Rattle.model.specs.Layout.{lineSize}
+use Rattle.model.specs.Status.{firstError}
+use Rattle.model.specs.Container.{activeLine, checkpointBytes}
+use Rattle.model.specs.Session.{freshSession, zeroSession}
+use Rattle.model.specs.Ops.{Ops, Trace, traceShort, traceErrors, replay}
+use Rattle.model.specs.Open.{recoveryOps, openStatus, openOutcome}
+use Rattle.model.specs.Crash.{CrashImage}
+use Rattle.model.specs.Reference.{Page}
+use Rattle.model.specs.History.{playedOps, openedImage, start}
+use Rattle.model.specs.CrashSafety.{Reads, Recovers, CutOpenings, none, again}
+use Rattle.model.proofs.Laws.Container.{container-passes}
+use Rattle.model.proofs.Laws.Layout.{image-lines}
+use Rattle.model.proofs.Laws.Same.{length-checkpoint}
+use Rattle.model.proofs.Laws.Ops.{played-ops, replayed-image}
+use Rattle.model.proofs.Laws.Replay.{open-ok}
+use Rattle.model.proofs.Argument.Persist.{replay-small}
+use Rattle.model.proofs.Argument.View.{Contents, Recoverable}
+use Rattle.model.proofs.Argument.Invariant.{Invariant}
+use Rattle.model.proofs.Argument.Recovery.{open-crash, opened-durable}
+use Rattle.model.proofs.Argument.Pages.{contentsOf, Whole, container-of, checkpoint-holds, checkpoint-is, reads}
+use Rattle.model.proofs.Laws.Outcome.{Answered, outcome-served}
+use Rattle.model.proofs.Argument.Stands.{Stands}
+use Rattle.model.proofs.Argument.OpenCall.{accepted, fresh-sized}
+
+-- a recoverable image is accepted, with any trace that 11 does not refuse
+accepts : (l : Layout) (H : Image) (P : Contents) (t : Trace) → Recoverable l H P → openStatus l H t ≢ 11 → openStatus l H t ≡ 0
+unfolding openStatus firstError
+accepts l H P t r h = go (traceShort O t) refl
+  where
+    O : Ops
+    O = recoveryOps l H (activeLine H)
+
+    passes : openStatus l H t ≡ firstError (traceErrors O t)
+    passes = container-passes l H (traceErrors O t) (container-of l H P r)
+
+    go : (b : Bool) → traceShort O t ≡ b → openStatus l H t ≡ 0
+    go true e = absurd (h (passes ∙ rw e))
+    go false e = passes ∙ rw e
+
+-- ---- what a served opening plays and leaves
+
+pub open-served : (l : Layout) (I : Image) (t : Trace) → openStatus l I t ≡ 0 → Answered (openOutcome l I t) true (freshSession l) (recoveryOps l I (activeLine I))
+unfolding openOutcome
+open-served l I t h = outcome-served (openStatus l I t) zeroSession (freshSession l) (recoveryOps l I (activeLine I)) h
+
+module _ (l : Layout) (I : Image) (t : Trace) (h : openStatus l I t ≡ 0) where
+  whole-lines : length I % lineSize ≡ 0
+  whole-lines = omega (arith, accepted l I t h .long, image-lines l)
+
+  open-played : (p : ℕ) → playedOps I (openOutcome l I t .ops) t p ≡ take p (recoveryOps l I (activeLine I))
+  open-played p = played-ops I (openOutcome l I t .ops) t p whole-lines (open-ok l I t) ∙ ap (take p) (open-served l I t h .ops)
+
+  pub opened-is : openedImage l I t ≡ replay (recoveryOps l I (activeLine I)) I
+  unfolding openedImage
+  opened-is = replayed-image I (openOutcome l I t .ops) t (length (openOutcome l I t .ops)) whole-lines (open-ok l I t)
+      ∙ ap (λ (X : Ops). replay X I) (take-length (openOutcome l I t .ops) ∙ open-served l I t h .ops)
+
+-- openings that are cut keep what stands recoverable
+pub openings-keep : {l : Layout} {H H′ : Image} (P : Contents) → Recoverable l H P → CutOpenings CrashImage l H H′ → Recoverable l H′ P
+openings-keep P r none = r
+openings-keep {l} P r (again {H = H} {H′ = H₁} t p ne c rest) =
+    openings-keep P (open-crash l H P r p H₁ (subst (λ (X : Ops). CrashImage H X H₁) (open-played l H t (accepts l H P t r ne) p) c)) rest
+
+-- the one that finishes shows the page
+pub recovers : (l : Layout) (H : Image) (t : Trace) (Q : Page) → Whole l Q → Recoverable l H (contentsOf l Q) → openStatus l H t ≢ 11 → Recovers l H t Q
+recovers l H t Q whole r ne =
+    let h : openStatus l H t ≡ 0 = accepts l H (contentsOf l Q) t r ne in
+    let inv = opened-durable l H (contentsOf l Q) r in
+    record {
+      accepted = h;
+      shows = subst (λ (K : Image). Reads l K Q Q) (sym (opened-is l H t h)) (reads l _ Q Q whole whole (inv .recovers) (inv .working));
+      begins = checkpoint-is l H (container-of l H (contentsOf l Q) r) Q whole (r .holds);
+    }
+
+-- ---- the start of a history
+
+module _ (l : Layout) (I : Image) (t : Trace) (b : Bytes I) (h : openStatus l I t ≡ 0) where
+  abbrev P : Page
+  P = checkpointBytes l I (activeLine I)
+
+  -- the image that it is handed recovers to its checkpoint
+  pub starting : Recoverable l I (contentsOf l (checkpointBytes l I (activeLine I)))
+  starting =
+      let c = accepted l I t h in
+      record { fit = record { sizes = c .sizes; long = c .long; bytes = b; header = c .header }; holds = checkpoint-holds l I c }
+
+  pub starting-whole : Whole l (checkpointBytes l I (activeLine I))
+  starting-whole = length-checkpoint l I (accepted l I t h)
+
+  pub start-stands : Stands (start l I t)
+  unfolding start replay
+  start-stands =
+      let e : openedImage l I t ≡ replay (recoveryOps l I (activeLine I)) I = opened-is l I t h in
+      record {
+        bytes = subst Bytes (sym e) (replay-small (recoveryOps l I (activeLine I)) I b);
+        image = refl;
+        session = freshSession l;
+        sized = fresh-sized l .0;
+        wide = fresh-sized l .1;
+        known = inl (open-served l I t h .session);
+        wholeWorking = starting-whole;
+        wholeCheckpoint = starting-whole;
+        inv = subst (λ (K : Image). Invariant l [] K (freshSession l) (contentsOf l P) (contentsOf l P)) (sym e) (opened-durable l I (contentsOf l P) starting);
+      }

@@ -1,0 +1,21 @@
+-- Laws of the definitions, a file for each file of specs/ that has laws, by the same name.
+pub mod Range
+pub mod Gather
+pub mod Status
+pub mod Container
+pub mod Session
+pub mod Layout
+pub mod Same
+pub mod Ops
+pub mod Words
+pub mod Replay
+pub mod Counts
+pub mod TraceLength
+pub mod Format
+pub mod Floor
+pub mod Write
+pub mod CrashSafety
+pub mod Crash
+pub mod Outcome
+pub mod Unread
+pub mod Knows

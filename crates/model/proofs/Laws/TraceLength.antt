@@ -1,0 +1,78 @@
+-- Lengths of a trace that always suffice: 11 is then never given.
+use Prim.Native.Nat.{ℕ, _+_, _*_, _≤_}
+use mathlib.Core.Path.{_≡_, sym, _∙_}
+use mathlib.Core.Logic.{_≢_}
+use mathlib.Core.Bool.{Bool, true, false, true≢false}
+use mathlib.Core.List.{List}
+use native.Mathlib.Omega.{arith}
+use lib.ListN.{length, getD}
+use borrow.Author.Tests.{le-ltb}
+use Rattle.model.specs.declared.Layout.{Layout}
+use Rattle.model.specs.declared.Session.{Session}
+use Rattle.model.specs.declared.Plan.{Plan}
+use Rattle.model.specs.declared.Plan.the-variants.{NoCopy, OwnBackup, NewBackup, NoneFree}
+use Rattle.model.specs.Range.{oneIf}
+use Rattle.model.specs.Layout.{blockWords}
+use Rattle.model.specs.Words.{Image}
+use Rattle.model.specs.Container.{activeLine}
+use Rattle.model.specs.Session.{isDirty, dirtyWord}
+use Rattle.model.specs.Ops.{Ops, Trace, traceShort}
+use Rattle.model.specs.Open.{recoveryOps, openErrors, openStatus}
+use Rattle.model.specs.Write.{WriteArgs, copyPlan, spanBad, writeOps, writeErrors, writeStatus}
+use Rattle.model.specs.Checkpoint.{checkpointOps, checkpointErrors, checkpointStatus}
+use Rattle.model.specs.Counts.{dirtyCount, dirtyTotal}
+use Rattle.model.specs.CrashSafety.{TraceSuffices, WriteTraceSuffices, CheckpointTraceSuffices}
+use Rattle.model.proofs.Laws.Status.{given-condition, given-earlier}
+use Rattle.model.proofs.Laws.Counts.{sum-most, recovery-most, spanCount, planCount, length-write, length-checkpoint-ops}
+use Rattle.model.proofs.Laws.Replay.{span-good}
+
+long-enough : (O : Ops) (t : Trace) → 3 * length O ≤ length t → traceShort O t ≢ true
+unfolding traceShort
+long-enough O t h e = true≢false (sym e ∙ le-ltb (length t) (3 * length O) h)
+
+pub trace-suffices : TraceSuffices
+unfolding openStatus
+trace-suffices l I t h e =
+    long-enough (recoveryOps l I (activeLine I)) t (omega (arith, recovery-most l I (activeLine I))) (given-condition 11 (openErrors l I t) (omega arith) e)
+
+-- ---- write
+
+one-most : (b : Bool) → oneIf b ≤ 1
+one-most true = omega arith
+one-most false = omega arith
+
+pub dirty-most : (word n : ℕ) → dirtyCount word n ≤ n
+unfolding dirtyCount
+dirty-most word n = omega (arith, sum-most n 1 (λ b. oneIf (isDirty word b)) (λ b h. one-most (isDirty word b)))
+
+-- a span within a block meets at most its words: a block starts at a word
+span-most : (l : Layout) (w : WriteArgs) → spanBad l w ≡ false → spanCount l w ≤ blockWords
+span-most l w h = let g = span-good l w h in omega (arith, g .0, g .1)
+
+plan-most : (s : Session) (I : Image) (w : WriteArgs) (p : Plan) → planCount s I w p ≤ 36 * s .layout .blocks + 6
+plan-most s I w NoCopy = omega arith
+plan-most s I w (OwnBackup j) = omega (arith, dirty-most (dirtyWord s (w .main)) (s .layout .blocks))
+plan-most s I w (NewBackup j) = omega arith
+plan-most s I w NoneFree = omega arith
+
+write-most : (s : Session) (I : Image) (w : WriteArgs) (j : ℕ) → spanBad (s .layout) w ≡ false
+    → length (writeOps s I w j) ≤ 36 * s .layout .blocks + 6 + blockWords
+write-most s I w j h = omega (arith, span-most (s .layout) w h, length-write s I w j, plan-most s I w (copyPlan s I (w .main) j))
+
+pub write-trace-suffices : WriteTraceSuffices
+unfolding writeStatus
+write-trace-suffices s I w j t h e =
+    long-enough (writeOps s I w j) t (omega (arith, write-most s I w j (given-earlier 11 (writeErrors s I w j t) (omega arith) e 8)))
+    (given-condition 11 (writeErrors s I w j t) (omega arith) e)
+
+-- ---- checkpoint
+
+total-most : (l : Layout) (words : List ℕ) → dirtyTotal l words ≤ l .blocks * l .mains
+unfolding dirtyTotal
+total-most l words = sum-most (l .mains) (l .blocks) _ (λ i h. dirty-most (getD words i 0) (l .blocks))
+
+pub checkpoint-trace-suffices : CheckpointTraceSuffices
+unfolding checkpointStatus
+checkpoint-trace-suffices s I t h e =
+    long-enough (checkpointOps s I) t (omega (arith, length-checkpoint-ops s I, total-most (s .layout) (s .«dirty_blocks»)))
+    (given-condition 11 (checkpointErrors s I t) (omega arith) e)
