@@ -4,15 +4,15 @@ use Prim.Native.Nat.{ℕ, _+_, _*_, _≤_}
 use mathlib.Core.Path.{_≡_}
 use lib.ListN.{length}
 use lib.Seq.{sets}
-use Rattle.model.specs.Ops.{Ops, Trace, encode}
+use Rattle.model.specs.Ops.{Ops, Trace, opNumbers, encode}
 
 -- the trace t with the operations O written from operation number n on
 unfoldable pub emit : Trace → ℕ → Ops → Trace
-emit t n O = sets t (3 * n) (encode O)
+emit t n O = sets t (opNumbers * n) (encode O)
 
 -- asked: the trace t has room for the operations O from operation number n on
 pub record Fits (t : Trace) (n : ℕ) (O : Ops) : Type 0 where
-  pub room : 3 * (n + length O) ≤ length t
+  pub room : opNumbers * (n + length O) ≤ length t
 
 -- promised: they stand on the trace, which is then t′, and r is the number of the operation that comes next
 pub record Emitted (t : Trace) (n : ℕ) (O : Ops) (t′ : Trace) (r : ℕ) : Type 0 where

@@ -1,11 +1,16 @@
 // The trace of a call (document 01: tape): three numbers an operation, its kind, its place and its word.
 ghost use mathlib.Core.Path.{_≡_};
 ghost use mathlib.Core.List.{[], _∷_};
-ghost use Prim.Native.Nat.{_+_, _*_, _≤_};
+ghost use Prim.Native.Nat.{_+_, _*_, _^_, _≤_};
 ghost use lib.ListN.{length};
 ghost use lib.Seq.{sets};
-ghost use Rattle.model.specs.Ops.{store, clwb, sfence};
+ghost use Rattle.model.specs.Status.{codeOf, firstError};
+ghost use Rattle.model.specs.Ops.{store, clwb, sfence, Ops, Trace, opNumbers, traceErrors};
 ghost use Rattle.trace.specs.Emit.{Fits, Emitted};
+use model::Status;
+
+// The numbers that an operation takes on a trace.
+pub const OP_NUMBERS: usize = 3;
 
 // The kinds of operations (document 01: store, flush, fence).
 pub const OP_STORE: u64 = 1;
@@ -16,10 +21,10 @@ pub const OP_SFENCE: u64 = 3;
 
 // Writes the three numbers of operation n. The number of the next operation.
 fn put_op(trace: &mut [u64], n: usize, kind: u64, place: u64, word: u64) -> usize
-    requires { ⌜ 3 * (n + 1) ≤ length (now trace) ⌝ }
-    ensures { λ r. ⌜ (now (trace .exit) ≡ sets (now (trace .entry)) (3 * n) (kind ∷ place ∷ word ∷ [])) × (r ≡ n + 1) ⌝ }
+    requires { ⌜ opNumbers * (n + 1) ≤ length (now trace) ⌝ }
+    ensures { λ r. ⌜ (now (trace .exit) ≡ sets (now (trace .entry)) (opNumbers * n) (kind ∷ place ∷ word ∷ [])) × (r ≡ n + 1) ⌝ }
 {
-    let at = 3 * n;
+    let at = OP_NUMBERS * n;
     trace[at] = kind;
     trace[at + 1] = place;
     trace[at + 2] = word;
@@ -48,4 +53,15 @@ pub fn put_sfence(trace: &mut [u64], n: usize) -> usize
     ensures { λ r. ⌜ Emitted (now (trace .entry)) n (sfence ∷ []) (now (trace .exit)) r ⌝ }
 {
     put_op(trace, n, OP_SFENCE, 0, 0)
+}
+
+// Refusal 11, of a trace that has room for so many numbers, by the number of operations.
+pub fn trace_status(room: usize, ops: u64) -> Status
+    requires { ⌜ ops ≤ 2 ^ 33 ⌝ }
+    ensures { λ r. ⌜ ((O : Ops) (t : Trace) → length O ≡ ops → length t ≡ room → codeOf r ≡ firstError (traceErrors O t)) ⌝ }
+{
+    if (room as u64) < OP_NUMBERS as u64 * ops {
+        return Status::TraceShort;
+    }
+    Status::Served
 }
