@@ -18,4 +18,4 @@ pub mod CrashSafety
 pub mod Crash
 pub mod Outcome
 pub mod Unread
-pub mod Knows
+pub mod Refusals

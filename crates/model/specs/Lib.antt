@@ -14,7 +14,7 @@ pub mod Write
 pub mod Checkpoint
 pub mod Reads
 pub mod Same
-pub mod Knows
+pub mod Refusals
 pub mod Crash
 pub mod Reference
 pub mod History

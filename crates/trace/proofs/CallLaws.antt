@@ -14,7 +14,8 @@ use Rattle.model.specs.declared.Answer.{Answer}
 use Rattle.model.specs.Status.{Errors, codeOf, firstError, served}
 use Rattle.model.specs.Ops.{Ops, Trace, encode, written, traceShort, traceErrors}
 use Rattle.model.specs.Outcome.{outcomeOf, Gives}
-use Rattle.model.proofs.Laws.Status.{Numbered, first-holds, first-fails, first-of-none, stage-refused, stage-passed}
+use Rattle.model.proofs.Laws.Status.{first-holds, first-fails, first-of-none, stage-refused, stage-passed}
+use Rattle.model.specs.Refusals.{Numbered}
 use Rattle.trace.specs.Emit.{Fits, Emitted}
 use Rattle.trace.proofs.EmitLaws.{emit-whole}
 

@@ -1,45 +1,21 @@
--- Refusals (document 01: "Refusals by number"): which number `firstError` picks from a list, whatever the list; how the list of a
--- call is judged part by part; and what a number that was given says of the conditions, each found by its number and not by
--- its place. A list may therefore grow anywhere, and of the laws
--- here only the closing remark looks at it.
-use Prim.Native.Nat.{ℕ, suc, _≤_, _<_}
-use mathlib.Core.Path.{_≡_, refl, sym, ap, _∙_}
-use mathlib.Core.Logic.{_↔_, _≢_, _⊎_, inl, inr, ⊎-elim}
-use mathlib.Core.Bool.{Bool, true, false, cond, _||_, false≢true}
+-- Which number `firstError` picks from a list of refusals, whatever the list: how the list of a call is judged part by part, and
+-- what a number that was given says of the conditions, each found by its number and not by its place. A list may therefore grow
+-- anywhere.
+use Prim.Native.Nat.{ℕ, suc}
+use mathlib.Core.Path.{_≡_, refl, sym, _∙_}
+use mathlib.Core.Logic.{_≢_}
+use mathlib.Core.Bool.{Bool, true, false, cond, _||_}
 use mathlib.Core.List.{[], _∷_, _++_}
 use native.Mathlib.Omega.{arith}
 use native.Mathlib.Decide.{ℕ-discrete}
 use native.Mathlib.Nat.{suc-ne-zero}
 use lib.Dec.{eqb}
 use borrow.Author.Tests.{eqb-true, eqb-false, eq-eqb}
-use Rattle.model.specs.declared.Layout.{Layout}
-use Rattle.model.specs.declared.Session.{Session}
-use Rattle.model.specs.Words.{Image}
 use Rattle.model.specs.Status.{Errors, firstError, served}
-use Rattle.model.specs.Container.{sizeErrors}
-use Rattle.model.specs.Ops.{Trace}
-use Rattle.model.specs.Replay.{replayErrors}
-use Rattle.model.specs.Open.{openErrors}
-use Rattle.model.specs.Write.{WriteArgs, writeErrors}
-use Rattle.model.specs.Checkpoint.{checkpointErrors}
-use Rattle.model.specs.Reads.{readErrors}
+use Rattle.model.specs.Refusals.{NoneHolds, Numbered}
 use Rattle.model.proofs.Laws.Range.{or-left, or-right}
 
--- ---- what is said of a list of refusals
-
--- no condition holds
-abbrev pub NoneHolds : Errors → Type 0
-NoneHolds [] = Unit {0}
-NoneHolds (e ∷ es) = (e .1 ≡ false) × NoneHolds es
-
--- no number is 0
-abbrev pub Numbered : Errors → Type 0
-Numbered [] = Unit {0}
-Numbered (e ∷ es) = (0 < e .0) × Numbered es
-
--- n stands in the list with a condition that holds, and no condition before it holds
-abbrev pub First : ℕ → Errors → Type 0
-First n es = (A : Errors) × (B : Errors) × (es ≡ A ++ (n, true) ∷ B) × NoneHolds A
+-- ---- what is said of a condition
 
 -- the condition of number n, or false where the list does not have it; in a list that is written out this computes to the
 -- condition itself
@@ -130,24 +106,6 @@ stage-refused n es fs e r = e ∙ sym (before-refused es fs (λ z. eqb-false n 0
 pub stage-passed : (n : ℕ) (es fs : Errors) → Numbered es → n ≡ firstError es → served n ≡ true → firstError (es ++ fs) ≡ firstError fs
 stage-passed n es fs k e r = after-served es fs k (sym e ∙ eqb-true n 0 r)
 
--- ---- which number is given
-
--- a number is given exactly if its condition holds and no earlier one does
-pub given-first : (n : ℕ) (es : Errors) → n ≢ 0 → (firstError es ≡ n) ↔ First n es
-unfolding firstError
-given-first n es k = (given es, holds)
-  where
-    given : (fs : Errors) → firstError fs ≡ n → First n fs
-    given [] h = absurd (k (sym h))
-    given (e ∷ fs) h = go (e .1) h (given fs)
-      where
-        go : (b : Bool) → cond b (e .0) (firstError fs) ≡ n → (firstError fs ≡ n → First n fs) → First n ((e .0, b) ∷ fs)
-        go true h ih = ([], fs, ap (λ (m : ℕ). (m, true) ∷ fs) h, tt)
-        go false h ih = let f = ih h in ((e .0, false) ∷ f .0, f .1, ap (λ (gs : Errors). (e .0, false) ∷ gs) (f .2), (refl, f .3))
-
-    holds : First n es → firstError es ≡ n
-    holds f = ap firstError (f .2) ∙ after-none (f .0) ((n, true) ∷ f .1) (f .3)
-
 -- ---- what a number says of the conditions
 
 none-condition : (n : ℕ) (es : Errors) → NoneHolds es → condition n es ≡ false
@@ -190,35 +148,3 @@ given-earlier n es k h m = none-condition m (before n es) (none es h)
         go true p b q h ih = tt
         go false p true q h ih = absurd (eqb-false (e .0) n p h)
         go false p false q h ih = (q, ih h)
-
--- ---- a closing remark, on which nothing rests: today's lists ascend but that of `same`, which is one list twice, so that the
--- number given is the lowest that applies (document 01)
-
--- the numbers are above k and ascend
-abbrev pub Ascending : ℕ → Errors → Type 0
-Ascending k [] = Unit {0}
-Ascending k (e ∷ es) = (k < e .0) × Ascending (e .0) es
-
--- n stands in the list with a condition that holds
-abbrev pub Applies : ℕ → Errors → Type 0
-Applies n [] = ⊥
-Applies n (e ∷ es) = ((e .0 ≡ n) × (e .1 ≡ true)) ⊎ Applies n es
-
-pub lowest-given : (k : ℕ) (es : Errors) → Ascending k es → (n : ℕ) → Applies n es → Applies (firstError es) es × (firstError es ≤ n)
-unfolding firstError
-lowest-given k [] a n p = absurd p
-lowest-given k (e ∷ es) a n p = go (e .1) p (lowest-given (e .0) es (a .1) n)
-  where
-    above : (m : ℕ) (fs : Errors) → Ascending m fs → Applies n fs → m < n
-    above m [] b q = absurd q
-    above m (f ∷ fs) b q = ⊎-elim (λ x. omega (arith, b .0, x .0)) (λ x. omega (arith, b .0, above (f .0) fs (b .1) x)) q
-
-    go : (b : Bool) → ((e .0 ≡ n) × (b ≡ true)) ⊎ Applies n es → (Applies n es → Applies (firstError es) es × (firstError es ≤ n))
-        → Applies (cond b (e .0) (firstError es)) ((e .0, b) ∷ es) × (cond b (e .0) (firstError es) ≤ n)
-    go true p ih = (inl (refl, refl), ⊎-elim (λ x. omega (arith, x .0)) (λ x. omega (arith, above (e .0) es (a .1) x)) p)
-    go false p ih = ⊎-elim (λ x. absurd (false≢true (x .1))) (λ x. (inr (ih x .0), ih x .1)) p
-
-pub all-ascend : (l : Layout) (s : Session) (I : Image) (w : WriteArgs) (i b j n : ℕ) (t : Trace)
-    → Ascending 0 (sizeErrors l I) × Ascending 0 (openErrors l I t) × Ascending 0 (readErrors l I i b) × Ascending 0 (writeErrors s I w j t)
-    × Ascending 0 (checkpointErrors s I t) × Ascending 0 (replayErrors I t n)
-all-ascend l s I w i b j n t = (omega arith, omega arith, omega arith, omega arith, omega arith, omega arith)
