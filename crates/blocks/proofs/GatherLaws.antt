@@ -10,7 +10,7 @@ use lib.Dec.{eqb}
 use lib.ListN.{getD}
 use borrow.Author.Tests.{eq-eqb, ne-eqb}
 use Rattle.model.specs.Range.{allB}
-use Rattle.model.proofs.Laws.Gather.{all-more}
+use Rattle.model.proofs.Laws.Range.{all-more}
 
 or-zero : (a b : ℕ) → eqb (bitOr a b) 0 ≡ (eqb a 0 && eqb b 0)
 or-zero a b = go (ℕ-discrete a 0) (ℕ-discrete b 0)

@@ -21,11 +21,10 @@ use Rattle.model.specs.Layout.{unpaired, ssInitial, ssMain, ssBackup, stateLine
 use Rattle.model.specs.Words.{Image}
 use Rattle.model.specs.Status.{Errors, firstError}
 use Rattle.model.specs.Container.{segState, backupToMain, Valid, isPaired, validMetadata, pairedBackup, Free, isFree, anyFree, byState, checkpointLocated, sizeErrors}
-use Rattle.model.proofs.Laws.Range.{both, and-left, and-right, or-left, or-right, or-else, all-at, all-from, any-at, any-none, first-none, first-some}
+use Rattle.model.proofs.Laws.Range.{both, and-left, and-right, or-left, or-right, or-else, all-at, all-from, any-at, any-none, first-none, first-some, all-ext, same-test}
 use Rattle.model.proofs.Laws.Status.{served-parts, served-condition}
 use Rattle.model.proofs.Laws.Layout.{segment-in-image}
 use Rattle.model.proofs.Laws.Container.{sizes-ok, paired-at, unpaired-none, paired-by, valid-means, valid-test}
-use Rattle.model.proofs.Laws.Gather.{all-ext, same-test}
 use Rattle.metadata.specs.declared.Examined.{Examined}
 use Rattle.metadata.specs.Scan.{pairFits, slotOf, entryOf, slotBackup, stateFits, Scanned, ExaminedBy, freeBackup, Choice}
 

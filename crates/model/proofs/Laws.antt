@@ -1,6 +1,5 @@
 -- Laws of the definitions, a file for each file of specs/ that has laws, by the same name.
 pub mod Range
-pub mod Gather
 pub mod Status
 pub mod Container
 pub mod Session

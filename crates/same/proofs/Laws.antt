@@ -18,8 +18,7 @@ use Rattle.model.specs.Layout.{SizesOk, segmentSize}
 use Rattle.model.specs.Status.{firstError, served}
 use Rattle.model.specs.Container.{activeLine, segState, backupToMain, Valid, checkpointLocated, checkpointSegment, checkpointBytes, containerErrors}
 use Rattle.model.specs.Same.{sameBytes, sameCheckpoint, sameStatus, sameOutcome}
-use Rattle.model.proofs.Laws.Range.{all-from}
-use Rattle.model.proofs.Laws.Gather.{all-ext}
+use Rattle.model.proofs.Laws.Range.{all-from, all-ext}
 use Rattle.model.proofs.Laws.Layout.{metadata-inside}
 use Rattle.model.proofs.Laws.Status.{served-parts}
 use Rattle.model.proofs.Laws.Container.{container-ok}

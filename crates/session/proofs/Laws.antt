@@ -21,8 +21,7 @@ use Rattle.model.specs.Layout.{most, SizesOk, metadataSize}
 use Rattle.model.specs.Status.{firstError, served}
 use Rattle.model.specs.Container.{segState, activeLine, activeState, containerErrors}
 use Rattle.model.specs.Session.{bit, isDirty, setBit, setBits, dirtyWord, dirtySegment, validSession, sessionErrors, contextErrors}
-use Rattle.model.proofs.Laws.Range.{both, and-left, and-right, all-at, all-from}
-use Rattle.model.proofs.Laws.Gather.{all-ext, same-test}
+use Rattle.model.proofs.Laws.Range.{both, and-left, and-right, all-at, all-from, all-ext, same-test}
 use Rattle.model.proofs.Laws.Layout.{metadata-inside}
 use Rattle.model.proofs.Laws.Status.{stage-passed}
 use Rattle.model.proofs.Laws.Container.{container-ok}

@@ -10,7 +10,7 @@ use lib.Dec.{eqb, ltb}
 use lib.ListN.{getD}
 use borrow.Author.Tests.{eq-eqb, ne-eqb, lt-ltb, le-ltb}
 use Rattle.model.specs.Range.{allB}
-use Rattle.model.proofs.Laws.Gather.{all-more}
+use Rattle.model.proofs.Laws.Range.{all-more}
 
 -- nothing is seen exactly if each word is 0
 or-zero : (a b : ℕ) → eqb (bitOr a b) 0 ≡ (eqb a 0 && eqb b 0)

@@ -6,8 +6,7 @@ use lib.ListN.{getD}
 use lib.Dec.{eqb, ltb}
 use borrow.Author.Tests.{lt-ltb, le-ltb}
 use borrow.Author.Needs.{needs}
-use Rattle.model.proofs.Laws.Range.{all-from, or-left}
-use Rattle.model.proofs.Laws.Gather.{all-more}
+use Rattle.model.proofs.Laws.Range.{all-from, or-left, all-more}
 use Rattle.model.specs.Range.{allB}
 use Rattle.metadata.proofs.rest_is.Statement.{statement}
 use Rattle.metadata.proofs.rest_is.Tie as tie

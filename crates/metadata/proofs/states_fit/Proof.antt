@@ -5,7 +5,7 @@ use native.Mathlib.Omega.{arith}
 use lib.Dec.{eqb}
 use lib.ListN.{getD}
 use borrow.Author.Needs.{needs}
-use Rattle.model.proofs.Laws.Gather.{all-none, all-more}
+use Rattle.model.proofs.Laws.Range.{all-none, all-more}
 use Rattle.model.specs.Range.{allB}
 use Rattle.metadata.specs.Scan.{stateFits}
 use Rattle.metadata.proofs.states_fit.Statement.{statement}

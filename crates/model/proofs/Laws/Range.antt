@@ -8,7 +8,8 @@ use native.Mathlib.Decide.{decLt}
 use native.Mathlib.Nat.{zero-mul, suc-mul}
 use lib.ListN.{length, length-append}
 use borrow.Author.Tests.{lt-ltb, le-ltb}
-use Rattle.model.specs.Range.{cat, allB, anyB, orNext, firstB}
+use native.Mathlib.Numerals.{add-one}
+use Rattle.model.specs.Range.{sumTo, cat, allB, anyB, orNext, firstB}
 
 -- ---- tests in a row
 
@@ -35,6 +36,12 @@ pub or-else : (a b : Bool) → (a || b) ≡ true → a ≡ false → b ≡ true
 or-else true b e f = cc
 or-else false b e f = e
 
+-- two tests are the same if each follows from the other
+pub same-test : (a b : Bool) → (a ≡ true → b ≡ true) → (b ≡ true → a ≡ true) → a ≡ b
+same-test true b f g = sym (f refl)
+same-test false true f g = g refl
+same-test false false f g = refl
+
 -- ---- joined lists
 
 module _ {A : Type 0} where
@@ -50,7 +57,15 @@ module _ {A : Type 0} where
   length-cat (suc n) k f h =
       length-append (cat n f) (f n) ∙ ap₂ _+_ (length-cat n k f (λ i l. h i (omega arith))) (h n (omega arith)) ∙ sym (suc-mul n k)
 
--- ---- tests of every number
+-- ---- tests of every number; a loop gathers them upward and without an exit: nothing yet, one more
+
+pub all-none : (P : ℕ → Bool) → true ≡ allB 0 P
+unfolding allB
+all-none P = refl
+
+pub all-more : (n : ℕ) (P : ℕ → Bool) {a b : Bool} → a ≡ allB n P → b ≡ P n → (a && b) ≡ allB (n + 1) P
+unfolding allB
+all-more n P p q = rw add-one (ap₂ (λ (x y : Bool). x && y) p q)
 
 pub all-at : (n : ℕ) (P : ℕ → Bool) → allB n P ≡ true → (i : ℕ) → i < n → P i ≡ true
 unfolding allB
@@ -82,6 +97,16 @@ any-none n P h i l = go (P i) refl
     go false e = e
     go true e = let w : anyB n P ≡ true = any-at n P i l e in cc
 
+pub all-ext : (n : ℕ) (P Q : ℕ → Bool) → ((i : ℕ) → i < n → P i ≡ Q i) → allB n P ≡ allB n Q
+unfolding allB
+all-ext zero P Q h = refl
+all-ext (suc n) P Q h = ap₂ (λ (x y : Bool). x && y) (all-ext n P Q (λ i l. h i (omega arith))) (h n (omega arith))
+
+pub any-ext : (n : ℕ) (P Q : ℕ → Bool) → ((i : ℕ) → i < n → P i ≡ Q i) → anyB n P ≡ anyB n Q
+unfolding anyB
+any-ext zero P Q h = refl
+any-ext (suc n) P Q h = ap₂ _||_ (any-ext n P Q (λ i l. h i (omega arith))) (h n (omega arith))
+
 -- ---- the first number
 
 pub first-none : (n : ℕ) (P : ℕ → Bool) → ((k : ℕ) → k < n → P k ≡ false) → firstB n P ≡ n
@@ -104,3 +129,18 @@ first-some (suc n) P h = go (anyB n P) (P n) refl refl (first-some n P)
         let f : firstB n P ≡ n = first-none n P (λ k l. any-none n P e k l) in
         rw (f, le-ltb n n (omega arith), q) (omega arith, q)
     go false false e q ih = absurd (true≢false (sym h ∙ ap₂ (λ (x y : Bool). x || y) e q))
+
+pub first-ext : (n : ℕ) (P Q : ℕ → Bool) → ((i : ℕ) → i < n → P i ≡ Q i) → firstB n P ≡ firstB n Q
+unfolding firstB
+first-ext zero P Q h = refl
+first-ext (suc n) P Q h = ap₂ (λ (f : ℕ) (b : Bool). orNext f n b) (first-ext n P Q (λ i l. h i (omega arith))) (h n (omega arith))
+
+-- ---- sums
+
+pub sum-none : (f : ℕ → ℕ) → 0 ≡ sumTo 0 f
+unfolding sumTo
+sum-none f = refl
+
+pub sum-more : (n : ℕ) (f : ℕ → ℕ) → sumTo (n + 1) f ≡ sumTo n f + f n
+unfolding sumTo
+sum-more n f = rw add-one

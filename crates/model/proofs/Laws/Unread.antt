@@ -18,7 +18,6 @@ use Rattle.model.specs.declared.Located.{Located}
 use Rattle.model.specs.declared.Located.the-variants.{Nowhere, At}
 use Rattle.model.specs.declared.Plan.{Plan}
 use Rattle.model.specs.declared.Plan.the-variants.{NoCopy, OwnBackup, NewBackup, NoneFree}
-use Rattle.model.specs.Range.{allB, anyB, orNext, firstB}
 use Rattle.model.specs.Words.{Image, byteAt, wordOf, wordAt, overlay}
 use Rattle.model.specs.Layout.{wordSize, lineSize, blockSize, metadataSize, lineWords, blockLines, most, epochAt, mainsAt, backupsAt, blocksAt, pairsAt, unpaired, ssInitial, ssMain, ssBackup, SizesOk, imageSize, segmentSize, mainAt, backupAt, stateLine}
 use Rattle.model.specs.Status.{Errors, firstError, served}
@@ -30,7 +29,7 @@ use Rattle.model.specs.Write.{WriteArgs, needsCopy, needsBackup, copyPla
 use Rattle.model.specs.Checkpoint.{flushDirty, nextState, nextStates, statesOps, epochOps, checkpointOps, checkpointStatus, checkpointOutcome}
 use Rattle.model.specs.Reads.{readErrors, readStatus, Part, partOf, nowhere, blockPart, locatedPart, workingPart, checkpointPart, workingBlock, checkpointBlock}
 use Rattle.model.specs.Same.{sameBytes, sameCheckpoint, sameOutcome}
-use Rattle.model.proofs.Laws.Range.{cat-ext}
+use Rattle.model.proofs.Laws.Range.{cat-ext, all-ext, any-ext, first-ext}
 use Rattle.model.proofs.Laws.Words.{word-cong, overlay-cong}
 use Rattle.model.proofs.Laws.Status.{served-condition}
 use Rattle.model.proofs.Laws.Container.{ContainerOk, sizes-ok, valid-means, container-then}
@@ -53,21 +52,6 @@ pub record AgreeNamed (I J : Image) : Type 0 where
 cond-cong : {A : Type 0} {x y u v : A} (a b : Bool) → a ≡ b → (a ≡ true → x ≡ u) → (a ≡ false → y ≡ v) → cond a x y ≡ cond b u v
 cond-cong {u = u} {v = v} true b e p q = p refl ∙ ap (λ (c : Bool). cond c u v) e
 cond-cong {u = u} {v = v} false b e p q = q refl ∙ ap (λ (c : Bool). cond c u v) e
-
-all-ext : (n : ℕ) (P Q : ℕ → Bool) → ((i : ℕ) → i < n → P i ≡ Q i) → allB n P ≡ allB n Q
-unfolding allB
-all-ext zero P Q h = refl
-all-ext (suc n) P Q h = ap₂ _&&_ (all-ext n P Q (λ i l. h i (omega arith))) (h n (omega arith))
-
-any-ext : (n : ℕ) (P Q : ℕ → Bool) → ((i : ℕ) → i < n → P i ≡ Q i) → anyB n P ≡ anyB n Q
-unfolding anyB
-any-ext zero P Q h = refl
-any-ext (suc n) P Q h = ap₂ _||_ (any-ext n P Q (λ i l. h i (omega arith))) (h n (omega arith))
-
-first-ext : (n : ℕ) (P Q : ℕ → Bool) → ((i : ℕ) → i < n → P i ≡ Q i) → firstB n P ≡ firstB n Q
-unfolding firstB
-first-ext zero P Q h = refl
-first-ext (suc n) P Q h = ap₂ (λ (f : ℕ) (b : Bool). orNext f n b) (first-ext n P Q (λ i l. h i (omega arith))) (h n (omega arith))
 
 stores-ext : (n a : ℕ) (v w : ℕ → ℕ) → ((k : ℕ) → k < n → v k ≡ w k) → stores n a v ≡ stores n a w
 unfolding stores

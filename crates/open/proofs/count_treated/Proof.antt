@@ -8,7 +8,7 @@ use Rattle.model.specs.Container.{segState, backupToMain, isPaired}
 use Rattle.model.specs.Open.{recoveryAction}
 use Rattle.model.specs.Range.{sumTo}
 use Rattle.model.specs.Counts.{acts, treated}
-use Rattle.model.proofs.Laws.Gather.{sum-none, sum-more}
+use Rattle.model.proofs.Laws.Range.{sum-none, sum-more}
 use Rattle.open.proofs.count_treated.Statement.{statement}
 use Rattle.open.proofs.count_treated.Tie as tie
 

@@ -7,7 +7,7 @@ use lib.Pow.{pow-pos}
 use borrow.Author.Tests.{lt-ltb}
 use borrow.Author.Needs.{needs}
 use Rattle.model.specs.Range.{allB}
-use Rattle.model.proofs.Laws.Gather.{all-none}
+use Rattle.model.proofs.Laws.Range.{all-none}
 use Rattle.session.proofs.Overlaid.{within-more}
 use Rattle.session.proofs.blocks_within.Statement.{statement}
 use Rattle.session.proofs.blocks_within.Tie as tie

@@ -7,7 +7,7 @@ use borrow.Author.Needs.{needs}
 use Rattle.model.specs.Range.{sumTo}
 use Rattle.model.specs.Counts.{dirtyTotal}
 use Rattle.model.proofs.Laws.Counts.{sum-ext, dirty-ones}
-use Rattle.model.proofs.Laws.Gather.{sum-none, sum-more}
+use Rattle.model.proofs.Laws.Range.{sum-none, sum-more}
 use Rattle.session.proofs.dirty_total.Statement.{statement}
 use Rattle.session.proofs.dirty_total.Tie as tie
 

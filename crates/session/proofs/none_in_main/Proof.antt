@@ -7,7 +7,7 @@ use lib.ListN.{getD}
 use borrow.Author.Needs.{needs}
 use Rattle.model.specs.Session.{isDirty}
 use Rattle.model.specs.Range.{allB}
-use Rattle.model.proofs.Laws.Gather.{all-none, all-more}
+use Rattle.model.proofs.Laws.Range.{all-none, all-more}
 use Rattle.session.proofs.none_in_main.Statement.{statement}
 use Rattle.session.proofs.none_in_main.Tie as tie
 
