@@ -3,9 +3,7 @@
 //! Everything here is written from document 01 alone (and the recorded
 //! decisions on its silent spots), not from the library; only `fast`, with
 //! which the library's speed is compared, takes a shape from it. The words are
-//! document 01's own: level (main segment), spare (backup segment), frame
-//! (block), card (session), tape (trace), save (checkpoint), cut (crash),
-//! book (reference model), player (replay), likeness (same checkpoint).
+//! document 01's own, those on the left of the table of words in README.md.
 //! Only the C interface in `ffi` uses the library's names.
 
 pub mod arbitrary;
