@@ -1,8 +1,9 @@
 -- The corner sheets, computed.
 use mathlib.Core.Path.{refl}
 use Rattle.model.specs.Range.{cat}
-use Rattle.parser.specs.Text.{text, startsWith, linesOf, numberOf, hexPairs, hexBytes}
-use Rattle.parser.specs.Script.{key, named, valueOf, goodLine, firstBad, groupOf, firstGroups, groupsOf, defaultBackups, blocksLine, sizesOf, parse}
+use Rattle.text.specs.Text.{text, startsWith, linesOf, numberOf, hexPairs, hexBytes}
+use Rattle.lines.specs.Line.{key, named, valueOf, goodLine}
+use Rattle.parser.specs.Script.{firstBad, groupOf, firstGroups, groupsOf, defaultBackups, blocksLine, sizesOf, parse}
 use Rattle.parser.specs.Corners.{allGiven, Corners}
 
 pub corners : Corners

@@ -1,7 +1,5 @@
-pub mod Lines
-pub mod Keys
-pub mod Numbers
-pub mod Bad
-pub mod Reading
-pub mod Groups
+pub mod BadLaws
+pub mod SizeLaws
+pub mod GroupLaws
+pub mod ReadLaws
 pub mod Corners

@@ -9,8 +9,9 @@ use mathlib.Core.List.{List, [], _∷_}
 use lib.Dec.{eqb}
 use lib.ListN.{replicate}
 use Rattle.model.specs.Layout.{layoutOf}
-use Rattle.parser.specs.Text.{text, lineEnd, linesOf}
-use Rattle.parser.specs.Script.{mainsKey, isBytes, firstBad, Group, bad, good, parse}
+use Rattle.text.specs.Text.{text, lineEnd, linesOf}
+use Rattle.lines.specs.Line.{mainsKey, isBytes}
+use Rattle.parser.specs.Script.{firstBad, Group, bad, good, parse}
 
 pub record Corner : Type 0 where
   pub sheet : String

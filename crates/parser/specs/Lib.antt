@@ -1,4 +1,3 @@
-pub mod Text
 pub mod Script
 pub mod Read
 pub mod Corners

@@ -1,19 +1,14 @@
--- What the contracts of the reading functions say of an input: where a value stands, the sizes, one group, the bytes of a value.
+-- What the contracts of the reading functions say of an input: the sizes, and one group.
 -- Assumes nothing.
-use Prim.Native.Nat.{ℕ, suc, _+_, _-_, _≤_, min}
+use Prim.Native.Nat.{ℕ, suc, _-_, _≤_}
 use mathlib.Core.Path.{_≡_}
 use mathlib.Core.List.{List}
 use lib.ListN.{length, take, drop}
-use Rattle.parser.specs.Text.{lineStart, linesOf, hexBytes}
-use Rattle.parser.specs.Script.{key, bytesKey, valueOf, groupLines, lineAt, groupOf, blocksLine, sizesOf}
-use Rattle.parser.specs.declared.ValueAt.{ValueAt}
+use Rattle.text.specs.Text.{lineStart, linesOf}
+use Rattle.lines.specs.Line.{bytesKey, valueOf, ReadsValue}
+use Rattle.parser.specs.Script.{groupLines, lineAt, groupOf, blocksLine, sizesOf}
 use Rattle.parser.specs.declared.HeaderAt.{HeaderAt}
 use Rattle.parser.specs.declared.GroupAt.{GroupAt}
-
--- where the value for key k stands in a line: behind the key, and before the last byte
-pub record ReadsValue (k «at» end : ℕ) (r : ValueAt) : Type 0 where
-  pub start : r .start ≡ min («at» + length (key k .name)) end
-  pub size : r .end ≡ r .start + (end - «at» - 1 - length (key k .name))
 
 -- the sizes, and where the lines of the groups start
 pub record ReadsHeader (input : List ℕ) (r : HeaderAt) : Type 0 where
@@ -32,11 +27,3 @@ pub record ReadsGroup (input : List ℕ) («at» : ℕ) (r : GroupAt) : Type 0 w
   pub ordered : (r .digits ≤ r .«digits_end») × (r .«digits_end» ≤ r .next)
   pub inside : r .next ≤ length input
   pub rest : linesOf (drop (r .next) input) ≡ drop groupLines (linesOf (drop «at» input))
-
--- the bytes of a value put at the start of a list that is long enough, of which nothing else changes
-pub record Decodes (digits before after : List ℕ) (r : ℕ) : Type 0 where
-  pub count : r ≡ length (hexBytes digits)
-  pub inside : r ≤ length before
-  pub bytes : take r after ≡ hexBytes digits
-  pub rest : drop r after ≡ drop r before
-  pub long : length after ≡ length before

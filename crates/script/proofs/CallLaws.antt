@@ -14,7 +14,7 @@ use Rattle.model.specs.Outcome.{Outcome}
 use Rattle.model.specs.History.{Call, Device, outcome}
 use Rattle.driver.specs.Stepped.{Stepped}
 use Rattle.driver.proofs.Laws.{stepped-device}
-use Rattle.parser.specs.Text.{text}
+use Rattle.text.specs.Text.{text}
 use Rattle.printer.specs.Decimal.{decimal, Appended}
 use Rattle.printer.proofs.Laws.{appended-as}
 use Rattle.script.specs.declared.Ran.{Ran}

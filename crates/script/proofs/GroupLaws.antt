@@ -6,7 +6,7 @@ use Rattle.model.specs.declared.Session.{Session}
 use Rattle.model.specs.Words.{Image}
 use Rattle.model.specs.Container.{committedEpoch}
 use Rattle.model.specs.History.{Device, outcome, deviceStep}
-use Rattle.parser.specs.Text.{text}
+use Rattle.text.specs.Text.{text}
 use Rattle.parser.specs.Script.{Group}
 use Rattle.printer.specs.Decimal.{decimal, Appended}
 use Rattle.printer.proofs.Laws.{appended-then, appended-as}

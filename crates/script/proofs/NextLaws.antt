@@ -6,11 +6,11 @@ use mathlib.Core.List.{List, _∷_}
 use lib.ListN.{length, take, drop}
 use Rattle.model.specs.declared.Session.{Session}
 use Rattle.model.specs.Words.{Image}
-use Rattle.parser.specs.Text.{linesOf, hexPairs, hexBytes}
+use Rattle.text.specs.Text.{linesOf, hexPairs, hexBytes}
 use Rattle.parser.specs.Script.{Group, groupOf, groupsOf}
 use Rattle.parser.specs.declared.GroupAt.{GroupAt}
 use Rattle.parser.specs.Read.{ReadsGroup}
-use Rattle.parser.proofs.Groups.{GoodGroup, group-here, group-next, group-rest}
+use Rattle.parser.proofs.GroupLaws.{GoodGroup, group-here, group-next, group-rest}
 use Rattle.script.specs.declared.Next.{Next}
 use Rattle.script.specs.Ran.{GoodFrom, groupOfParts, GroupRan, NextRan}
 

@@ -12,7 +12,7 @@ use Rattle.model.specs.Layout.{sizesOk, imageSize}
 use Rattle.model.specs.Status.{firstError}
 use Rattle.model.specs.Format.{formatted, formatOutcome}
 use Rattle.model.specs.History.{Device, callOpen, openedImage, deviceStep, start}
-use Rattle.parser.specs.Text.{text}
+use Rattle.text.specs.Text.{text}
 use Rattle.printer.specs.Decimal.{Appended}
 use Rattle.printer.proofs.Laws.{appended-then}
 use Rattle.script.specs.declared.Ran.{Ran}

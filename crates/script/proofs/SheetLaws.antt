@@ -10,11 +10,11 @@ use lib.ListN.{length, take, drop, length-take, take-append-drop}
 use Rattle.io.specs.Counts.{Counts}
 use Rattle.model.specs.declared.Layout.{Layout}
 use Rattle.model.specs.Layout.{sizesOk, inRange, imageSize}
-use Rattle.parser.specs.Text.{text, linesOf}
+use Rattle.text.specs.Text.{text, linesOf}
 use Rattle.parser.specs.Script.{Script, bad, good, Group, firstBad, groupsOf, blocksLine, judged, parse}
 use Rattle.parser.specs.declared.HeaderAt.{HeaderAt}
 use Rattle.parser.specs.Read.{ReadsHeader}
-use Rattle.parser.proofs.Groups.{GoodSizes, good-sizes}
+use Rattle.parser.proofs.SizeLaws.{GoodSizes, good-sizes}
 use Rattle.printer.specs.Decimal.{Appended}
 use Rattle.script.specs.Prints.{Prints, refused}
 use Rattle.script.specs.Room.{SheetSizes}

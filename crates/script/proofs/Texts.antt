@@ -2,7 +2,7 @@
 use mathlib.Core.Path.{_≡_, refl}
 use mathlib.Core.List.{[], _∷_}
 use Rattle.model.specs.Range.{cat}
-use Rattle.parser.specs.Text.{text}
+use Rattle.text.specs.Text.{text}
 
 pub orders-text : 32 ∷ 111 ∷ 114 ∷ 100 ∷ 101 ∷ 114 ∷ 115 ∷ 61 ∷ [] ≡ text " orders="
 unfolding text cat

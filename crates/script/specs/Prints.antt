@@ -14,7 +14,7 @@ use Rattle.model.specs.Outcome.{Outcome}
 use Rattle.model.specs.Open.{openOutcome}
 use Rattle.model.specs.Write.{writeArgsOf}
 use Rattle.model.specs.History.{Device, Call, callWrite, callCheckpoint, outcome, deviceStep, start, Permitted}
-use Rattle.parser.specs.Text.{text}
+use Rattle.text.specs.Text.{text}
 use Rattle.parser.specs.Script.{Script, bad, good, Group}
 use Rattle.printer.specs.Decimal.{decimal}
 

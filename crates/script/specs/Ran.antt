@@ -11,7 +11,7 @@ use Rattle.model.specs.declared.Session.{Session}
 use Rattle.model.specs.Words.{Image}
 use Rattle.model.specs.Format.{formatted}
 use Rattle.model.specs.History.{Device, Call, outcome, deviceStep, start, Permitted}
-use Rattle.parser.specs.Text.{text, linesOf}
+use Rattle.text.specs.Text.{text, linesOf}
 use Rattle.parser.specs.Script.{Script, Group, groupKey, firstBad, groupsOf}
 use Rattle.printer.specs.Decimal.{Appended}
 use Rattle.script.specs.declared.Ran.{Ran}

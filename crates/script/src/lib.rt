@@ -10,7 +10,7 @@ ghost use Rattle.model.specs.Layout.{sizesOk, imageSize};
 ghost use Rattle.model.specs.History.{callWrite};
 ghost use Rattle.model.specs.Write.{writeArgsOf};
 ghost use Rattle.printer.specs.Decimal.{decimal, Appended};
-ghost use Rattle.parser.specs.Text.{text, linesOf};
+ghost use Rattle.text.specs.Text.{text, linesOf};
 ghost use Rattle.parser.specs.Script.{good, judged, firstBad, parse};
 ghost use Rattle.io.specs.Counts.{Counts};
 ghost use Rattle.script.specs.Prints.{room, blank, Prints};
@@ -225,7 +225,7 @@ fn run_next(
     let digits = group.digits;
     let end = group.digits_end;
     let mut bytes = [0u8; SPAN_SIZE];
-    let count = parser::decode_bytes(&input[digits..end], &mut bytes);
+    let count = text::decode_bytes(&input[digits..end], &mut bytes);
     let ran = run_group(
         image,
         session,

@@ -1,7 +1,7 @@
-use Rattle.parser.proofs.Bad.{key-for-most, bad-end, good-end, bad-line, good-line}
-use Rattle.parser.proofs.Lines.{next-after, next-lines, lines-none}
+use Rattle.parser.proofs.BadLaws.{key-for-most, bad-end, good-end, bad-line, good-line}
+use Rattle.text.proofs.LineLaws.{next-after, next-lines, lines-none}
 use Rattle.parser.specs.Script.{firstBad}
-use Rattle.parser.specs.Text.{linesOf}
+use Rattle.text.specs.Text.{linesOf}
 use lib.ListN.{length, drop}
 use native.Mathlib.Omega.{arith}
 use mathlib.Core.Path.{_≡_, refl, sym, _∙_}

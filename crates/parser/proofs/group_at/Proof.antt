@@ -1,4 +1,4 @@
-use Rattle.parser.proofs.Reading.{group-read}
+use Rattle.parser.proofs.ReadLaws.{group-read}
 use borrow.Author.Needs.{needs}
 use Rattle.parser.proofs.group_at.Statement.{statement}
 use Rattle.parser.proofs.group_at.Tie as tie

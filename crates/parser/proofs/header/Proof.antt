@@ -1,4 +1,4 @@
-use Rattle.parser.proofs.Reading.{header-short, header-long}
+use Rattle.parser.proofs.ReadLaws.{header-short, header-long}
 use borrow.Author.Needs.{needs}
 use Rattle.parser.proofs.header.Statement.{statement}
 use Rattle.parser.proofs.header.Tie as tie

@@ -1,4 +1,4 @@
-use Rattle.parser.proofs.Keys.{after-last, after-other}
+use Rattle.parser.proofs.BadLaws.{after-last, after-other}
 use native.Mathlib.Omega.{arith}
 use borrow.Author.Needs.{needs}
 use Rattle.parser.proofs.key_after.Statement.{statement}

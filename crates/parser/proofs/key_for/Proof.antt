@@ -1,4 +1,4 @@
-use Rattle.parser.proofs.Keys.{for-other, for-named, for-unnamed}
+use Rattle.parser.proofs.BadLaws.{for-other, for-named, for-unnamed}
 use borrow.Author.Needs.{needs}
 use Rattle.parser.proofs.key_for.Statement.{statement}
 use Rattle.parser.proofs.key_for.Tie as tie

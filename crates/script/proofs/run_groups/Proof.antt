@@ -4,7 +4,7 @@ use native.Mathlib.Omega.{arith}
 use native.Mathlib.Numerals.{add-one}
 use lib.ListN.{length}
 use borrow.Author.Needs.{needs}
-use Rattle.parser.proofs.Groups.{groups-end}
+use Rattle.parser.proofs.GroupLaws.{groups-end}
 use Rattle.script.specs.Ran.{GoodFrom, groupsFrom}
 use Rattle.script.proofs.Story.{Story, story-none, story-more, story-end}
 use Rattle.script.proofs.run_groups.Statement.{statement}

@@ -1,6 +1,6 @@
 use mathlib.Core.Path.{sym, _∙_}
 use borrow.Author.Needs.{needs}
-use Rattle.parser.specs.Text.{linesOf}
+use Rattle.text.specs.Text.{linesOf}
 use Rattle.parser.specs.Script.{bad, judged}
 use Rattle.printer.proofs.Laws.{appended-as}
 use Rattle.script.proofs.Texts.{sheet-text, line-end-text}

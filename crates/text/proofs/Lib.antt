@@ -1,0 +1,3 @@
+pub mod LineLaws
+pub mod NameLaws
+pub mod NumberLaws
