@@ -15,6 +15,7 @@ pub mod Checkpoint
 pub mod Reads
 pub mod Same
 pub mod Refusals
+pub mod Unread
 pub mod Crash
 pub mod Reference
 pub mod History
