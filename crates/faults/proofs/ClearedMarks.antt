@@ -14,7 +14,7 @@ use Rattle.model.specs.Session.{freshSession}
 use Rattle.model.specs.Reference.{Page}
 use Rattle.model.specs.History.{State, start, run, calledOps, openedImage}
 use Rattle.model.specs.Crash.{CrashImage}
-use Rattle.model.proofs.Laws.Crash.{newest}
+use Rattle.model.proofs.Laws.Crash.Images.{newest}
 use Rattle.cases.specs.Table.{room, write, aWord}
 use Rattle.cases.proofs.Compute.{model-rules, same, same-equal, small, small-bytes}
 use Rattle.faults.specs.Faults.{l111, one, CalledShowsOther, twoCalls, marksCleared, ClearedMarks}

@@ -16,12 +16,13 @@ use Rattle.model.specs.Ops.{Ops, store, clwb, sfence, apply, replay}
 use Rattle.model.specs.Session.{freshSession}
 use Rattle.model.specs.Reference.{Page}
 use Rattle.model.specs.History.{State, start}
-use Rattle.model.specs.Crash.{Durable, CrashImage, Stage}
+use Rattle.model.specs.Crash.{KeepsDurable, CrashImage, Stage}
 use Rattle.model.proofs.Laws.Range.{and-left, and-right}
 use Rattle.model.proofs.Argument.Persist.{Misses, length-apply, length-replay, replay-clear, replay-append, apply-cong}
 use Rattle.model.proofs.Argument.Settled.{Off}
-use Rattle.model.proofs.Laws.Floor.{hasFence, durable-all}
-use Rattle.model.proofs.Laws.Crash.{unfenced-lost}
+use Rattle.model.proofs.Laws.Crash.Floor.{durable-all}
+use Rattle.model.specs.CrashExact.{hasFence}
+use Rattle.model.proofs.Laws.Crash.Images.{unfenced-lost}
 use Rattle.cases.specs.Table.{room, writes, aWord}
 use Rattle.cases.proofs.Compute.{model-rules, same, same-equal, small, small-bytes}
 use Rattle.cases.proofs.Starts.{standing, started}
@@ -81,7 +82,7 @@ last-alone I A p w unfenced a whole = record { long = length-apply (store p w) I
     }
 
 -- what came before may stand whole
-durable-after : (ℓ k : ℕ) (O E : Ops) → Durable ℓ E k → Durable ℓ (O ++ E) (length O + k)
+durable-after : (ℓ k : ℕ) (O E : Ops) → KeepsDurable ℓ E k → KeepsDurable ℓ (O ++ E) (length O + k)
 durable-after ℓ k [] E h A C D p l e = omega (arith, h A C D p l e)
 durable-after ℓ k (o ∷ O) E h [] C D p l e = omega arith
 durable-after ℓ k (o ∷ O) E h (a ∷ A) C D p l e = omega (arith, durable-after ℓ k O E h A C D p l (ap (drop 1) e))

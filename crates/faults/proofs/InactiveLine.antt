@@ -8,7 +8,7 @@ use Rattle.model.specs.Ops.{store, apply}
 use Rattle.model.specs.Format.{container}
 use Rattle.model.specs.Reference.{Page}
 use Rattle.model.specs.History.{State, start}
-use Rattle.model.proofs.Laws.Crash.{newest}
+use Rattle.model.proofs.Laws.Crash.Images.{newest}
 use Rattle.cases.specs.Table.{l211, room}
 use Rattle.cases.proofs.Compute.{model-rules, same, same-equal}
 use Rattle.cases.proofs.Starts.{standing, started}

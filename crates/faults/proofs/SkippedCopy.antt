@@ -14,7 +14,7 @@ use Rattle.model.specs.Format.{container}
 use Rattle.model.specs.Reference.{Page}
 use Rattle.model.specs.History.{State, calledOps}
 use Rattle.model.specs.CrashSafety.{Reads}
-use Rattle.model.proofs.Laws.Crash.{newest}
+use Rattle.model.proofs.Laws.Crash.Images.{newest}
 use Rattle.cases.specs.Table.{write, aWord}
 use Rattle.cases.proofs.Compute.{model-rules, same, same-equal, small, small-bytes}
 use Rattle.cases.proofs.Starts.{standing}

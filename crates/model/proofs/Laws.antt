@@ -11,7 +11,6 @@ pub mod Replay
 pub mod Counts
 pub mod TraceLength
 pub mod Format
-pub mod Floor
 pub mod Write
 pub mod CrashSafety
 pub mod Crash

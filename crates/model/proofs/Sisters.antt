@@ -12,7 +12,7 @@ use Rattle.model.specs.Crash.{CrashImage}
 use Rattle.model.specs.History.{Call, State, step, run, openedImage, start, AllPermitted}
 use Rattle.model.specs.CrashSafety.{Reads, ReadsFollowModel, OpeningSettles, OpeningSafety, checkpoints, EpochCounts}
 use Rattle.model.proofs.Argument.Settled.{settled-off}
-use Rattle.model.proofs.Laws.Crash.{newest, settled-only}
+use Rattle.model.proofs.Laws.Crash.Images.{newest, settled-only}
 use Rattle.model.proofs.Argument.Recovery.{meta, open-clear, recovery-keeps}
 use Rattle.model.proofs.Argument.Pages.{contentsOf, reads}
 use Rattle.model.proofs.Argument.Stands.{Stands, low-epoch}

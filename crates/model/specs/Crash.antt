@@ -12,9 +12,12 @@ use Rattle.model.specs.Words.{Image, byteAt}
 use Rattle.model.specs.Layout.{lineSize}
 use Rattle.model.specs.Ops.{Ops, clwb, sfence, replay}
 
--- k operations of O hold every store before a clwb of line ℓ that a later sfence followed
-abbrev pub Durable : ℕ → Ops → ℕ → Type 0
-Durable ℓ O k = (A C D : Ops) (p : ℕ) → p / lineSize ≡ ℓ → O ≡ A ++ clwb p ∷ C ++ sfence ∷ D → length A ≤ k
+-- a line is named by its number ℓ here, which is the number of its first byte by 64
+
+-- the first k operations of O keep what is durable of line ℓ: every store before a clwb of the line that a later sfence
+-- followed; so k is not below the floor of the line (specs/CrashExact.antt: `FloorExact`)
+abbrev pub KeepsDurable : ℕ → Ops → ℕ → Type 0
+KeepsDurable ℓ O k = (A C D : Ops) (p : ℕ) → p / lineSize ≡ ℓ → O ≡ A ++ clwb p ∷ C ++ sfence ∷ D → length A ≤ k
 
 -- two images agree on line ℓ
 abbrev pub AgreeOn : ℕ → Image → Image → Type 0
@@ -24,7 +27,7 @@ AgreeOn ℓ H J = (i : ℕ) → i / lineSize ≡ ℓ → byteAt H i ≡ byteAt J
 pub record Stage (ℓ : ℕ) (I : Image) (O : Ops) (H : Image) : Type 0 where
   pub k : ℕ
   pub within : k ≤ length O
-  pub durable : Durable ℓ O k
+  pub durable : KeepsDurable ℓ O k
   pub agree : AgreeOn ℓ H (replay (take k O) I)
 
 -- H is one of the images that a crash may leave

@@ -17,6 +17,7 @@ pub mod Same
 pub mod Refusals
 pub mod Unread
 pub mod Crash
+pub mod CrashExact
 pub mod Reference
 pub mod History
 pub mod CrashSafety

@@ -20,7 +20,8 @@ use Rattle.model.specs.Ops.{store, clwb, sfence, Ops, apply, replay, sto
 use Rattle.model.specs.Checkpoint.{flushDirty, nextState, nextStates, statesOps, checkpointOps}
 use Rattle.model.specs.Crash.{AgreeOn, CrashImage}
 use Rattle.model.proofs.Laws.Words.{byte-of-word, word-cong, word-stored}
-use Rattle.model.proofs.Argument.Persist.{Each, Misses, Clear, each-append, each-take, length-replay, replay-clear, replay-append, replay-small}
+use Rattle.model.proofs.Argument.Persist.{Misses, Clear, each-append, each-take, length-replay, replay-clear, replay-append, replay-small}
+use Rattle.model.specs.CrashExact.{Each}
 use Rattle.model.proofs.Argument.Settled.{Settled, Off, Flushed, crash-byte, crash-bytes, local-crash, stage-one, settled-more, keeps-off, Settles, settles-then, settles-after, settles-fence, take-past}
 use Rattle.model.proofs.Argument.Runs.{Puts, puts-clear, puts-then, puts-stores, each-cat, clwbs-none, neat-none, flushed-cat, flushed-clwbs}
 use Rattle.model.proofs.Laws.Layout.{metadata-inside, state-line-low, state-line-high, state-line-whole, state-line-next}

@@ -7,14 +7,8 @@ use lib.ListN.{length, take}
 use lib.Seq.{length-sets}
 use Rattle.model.specs.Words.{Image, byteAt, Bytes, storeWord, bytesOf}
 use Rattle.model.specs.Ops.{Op, store, clwb, sfence, Ops, apply, replay}
+use Rattle.model.specs.CrashExact.{Each}
 use Rattle.model.proofs.Laws.Words.{length-bytesOf, bytesOf-small, sets-other, sets-cong, sets-small}
-
--- every store of the operations is at a place of which Q holds
-abbrev pub Each : (ℕ → Type 0) → Ops → Type 0
-Each Q [] = Unit {0}
-Each Q (store p w ∷ O) = Q p × Each Q O
-Each Q (clwb p ∷ O) = Each Q O
-Each Q (sfence ∷ O) = Each Q O
 
 pub each-append : (Q : ℕ → Type 0) (O E : Ops) → Each Q O → Each Q E → Each Q (O ++ E)
 each-append Q [] E h k = k

@@ -10,12 +10,12 @@ use lib.ListN.{length, take, length-append}
 use lib.Seq.{take-append-le, take-append-add}
 use Rattle.model.specs.Words.{Image, byteAt}
 use Rattle.model.specs.Ops.{store, clwb, sfence, Ops, apply, replay}
-use Rattle.model.specs.Crash.{Durable, AgreeOn, Stage, CrashImage}
+use Rattle.model.specs.Crash.{KeepsDurable, AgreeOn, Stage, CrashImage}
 use Rattle.model.proofs.Argument.Persist.{Misses, Clear, each-append, each-take, length-replay, replay-clear, replay-append, replay-small, apply-cong}
 
 -- line ℓ is settled: every stage of it is the last
 abbrev pub Settled : ℕ → Ops → Type 0
-Settled ℓ O = (I : Image) (k : ℕ) → k ≤ length O → Durable ℓ O k → AgreeOn ℓ (replay (take k O) I) (replay O I)
+Settled ℓ O = (I : Image) (k : ℕ) → k ≤ length O → KeepsDurable ℓ O k → AgreeOn ℓ (replay (take k O) I) (replay O I)
 
 -- no store into line ℓ (a store's place is divisible by 8)
 abbrev pub Off : ℕ → Ops → Type 0
@@ -26,11 +26,11 @@ pub stage-clear : {I H : Image} {O : Ops} (i : ℕ) → Stage (i / 64) I O H →
 stage-clear {I} {H} {O} i s c = s .agree i refl ∙ replay-clear (take (s .k) O) I i (each-take (Misses i) (s .k) O c)
 
 -- what must be kept of O ++ E, of O and of E
-pub durable-front : (ℓ : ℕ) (O E : Ops) (k : ℕ) → Durable ℓ (O ++ E) k → Durable ℓ O k
+pub durable-front : (ℓ : ℕ) (O E : Ops) (k : ℕ) → KeepsDurable ℓ (O ++ E) k → KeepsDurable ℓ O k
 durable-front ℓ O E k h A C D p l e =
     h A C (D ++ E) p l (rw e (simp append-assoc))
 
-pub durable-back : (ℓ : ℕ) (O E : Ops) (k : ℕ) → Durable ℓ (O ++ E) k → Durable ℓ E (k - length O)
+pub durable-back : (ℓ : ℕ) (O E : Ops) (k : ℕ) → KeepsDurable ℓ (O ++ E) k → KeepsDurable ℓ E (k - length O)
 durable-back ℓ O E k h A C D p l e =
     omega (arith, length-append O A, h (O ++ A) C D p l (rw e (simp append-assoc)))
 

@@ -1,5 +1,5 @@
--- The floor of a line: the least number of operations that a crash must keep of it, computed. `Durable` is what the floor
--- says (`floor-durable`, `durable-floor`), so that the stages of a line are those from its floor on.
+-- The floor of a line: the least number of operations that a crash must keep of it, computed (specs/CrashExact.antt:
+-- `FloorExact`).
 use Prim.Native.Nat.{ℕ, suc, _+_, _/_, _≤_, max}
 use mathlib.Core.Path.{_≡_, refl, ap}
 use mathlib.Core.Bool.{Bool, true, false, cond, _&&_}
@@ -10,26 +10,9 @@ use lib.Dec.{eqb}
 use lib.ListN.{length, length-append}
 use Rattle.model.specs.Layout.{lineSize}
 use Rattle.model.specs.Ops.{store, clwb, sfence, Ops}
-use Rattle.model.specs.Crash.{Durable}
+use Rattle.model.specs.Crash.{KeepsDurable}
+use Rattle.model.specs.CrashExact.{hasFence, floorFrom, floor, FloorExact}
 use Rattle.model.proofs.Laws.Range.{and-left, and-right}
-
--- an sfence is among the operations
-unfoldable pub hasFence : Ops → Bool
-hasFence [] = false
-hasFence (store p w ∷ O) = hasFence O
-hasFence (clwb p ∷ O) = hasFence O
-hasFence (sfence ∷ O) = true
-
--- the floor of line ℓ in O, where n operations come before O
-unfoldable pub floorFrom : ℕ → ℕ → Ops → ℕ
-floorFrom n ℓ [] = 0
-floorFrom n ℓ (store p w ∷ O) = floorFrom (suc n) ℓ O
-floorFrom n ℓ (clwb p ∷ O) = max (cond (eqb (p / lineSize) ℓ && hasFence O) n 0) (floorFrom (suc n) ℓ O)
-floorFrom n ℓ (sfence ∷ O) = floorFrom (suc n) ℓ O
-
--- how many operations come before the last clwb of line ℓ that a later sfence followed; 0 where there is none
-abbrev pub floor : ℕ → Ops → ℕ
-floor ℓ O = floorFrom 0 ℓ O
 
 has-fence : (C D : Ops) → hasFence (C ++ sfence ∷ D) ≡ true
 unfolding hasFence
@@ -72,20 +55,20 @@ floor-least n ℓ (clwb q ∷ O) k h =
         let f = fence-found O (and-right (eqb (q / lineSize) ℓ) (hasFence O) e) in
         omega (arith, h [] (f .0) (f .1) q (eqb-true (q / lineSize) ℓ (and-left (eqb (q / lineSize) ℓ) (hasFence O) e)) (ap (λ (X : Ops). clwb q ∷ X) (f .2)))
 
--- from its floor on, every stage of a line is one that a crash may leave
-pub floor-durable : (ℓ : ℕ) (O : Ops) (k : ℕ) → floor ℓ O ≤ k → Durable ℓ O k
+-- from its floor on every stage of a line is one that a crash may leave
+pub floor-durable : (ℓ : ℕ) (O : Ops) (k : ℕ) → floor ℓ O ≤ k → KeepsDurable ℓ O k
 floor-durable ℓ O k h A C D p l e =
     let f : floor ℓ O ≡ floor ℓ (A ++ clwb p ∷ C ++ sfence ∷ D) = ap (floor ℓ) e in
     omega (arith, floor-split 0 ℓ A C D p l)
 
 -- and no other
-pub durable-floor : (ℓ : ℕ) (O : Ops) (k : ℕ) → Durable ℓ O k → floor ℓ O ≤ k
+pub durable-floor : (ℓ : ℕ) (O : Ops) (k : ℕ) → KeepsDurable ℓ O k → floor ℓ O ≤ k
 durable-floor ℓ O k h = floor-least 0 ℓ O k (λ A C D p l e. omega (arith, h A C D p l e))
 
 -- all of the operations are enough
-pub durable-all : (ℓ : ℕ) (O : Ops) → Durable ℓ O (length O)
+pub durable-all : (ℓ : ℕ) (O : Ops) → KeepsDurable ℓ O (length O)
 durable-all ℓ O A C D p l e =
     omega (arith, ap length e, length-append (A ++ clwb p ∷ C) (sfence ∷ D), length-append A (clwb p ∷ C))
 
-pub floor-length : (ℓ : ℕ) (O : Ops) → floor ℓ O ≤ length O
-floor-length ℓ O = durable-floor ℓ O (length O) (durable-all ℓ O)
+pub floor-exact : FloorExact
+floor-exact ℓ O k = (durable-floor ℓ O k, floor-durable ℓ O k)
