@@ -23,7 +23,7 @@ use Rattle.model.specs.Open.{openStatus, openOutcome}
 use Rattle.model.specs.Write.{WriteArgs, writeStatus, writeOutcome}
 use Rattle.model.specs.Checkpoint.{checkpointStatus, checkpointOutcome}
 use Rattle.model.specs.Replay.{replayOutcome}
-use Rattle.model.specs.Reads.{Part, nowhere, readStatus, workingPart, checkpointPart}
+use Rattle.model.specs.Reads.{Part, noPart, readStatus, workingPart, checkpointPart}
 use Rattle.write.specs.Steps.{Writes}
 use Rattle.reads.specs.declared.Part as code
 use Rattle.reads.specs.Found.{Found}
@@ -180,12 +180,12 @@ as-number true = refl
 as-number false = refl
 
 -- a read that finds a part is served
-found-served : (e : ℕ) (p : Part) → cond (eqb e 0) p nowhere .size ≢ 0 → e ≡ 0
+found-served : (e : ℕ) (p : Part) → cond (eqb e 0) p noPart .size ≢ 0 → e ≡ 0
 found-served e p h = go (eqb e 0) refl
   where
     go : (b : Bool) → eqb e 0 ≡ b → e ≡ 0
     go true q = eqb-true e 0 q
-    go false q = absurd (h (ap (λ (b : Bool). cond b p nowhere .size) q))
+    go false q = absurd (h (ap (λ (b : Bool). cond b p noPart .size) q))
 
 module _ (l : Layout) (I : Image) (i b : ℕ) where
   pub working-served : workingPart l I i b .size ≢ 0 → readStatus l I i b ≡ 0

@@ -6,7 +6,8 @@ use native.Mathlib.Omega.{arith}
 use Rattle.model.specs.Words.{Image}
 use Rattle.model.specs.Write.{WriteArgs}
 use Rattle.model.specs.Reference.{Page, writeArgs, checkpointArgs}
-use Rattle.model.specs.CrashSafety.{ReadsBlock, Reads, isCheckpoint}
+use Rattle.model.specs.CrashSafety.{ReadsBlock, Reads}
+use Rattle.model.specs.EpochCounts.{isCheckpoint}
 use Rattle.faults.specs.Faults.{l111}
 
 pub only-block : {I : Image} {W P : Page} → ReadsBlock l111 I W P 0 0 → Reads l111 I W P

@@ -10,7 +10,9 @@ use Rattle.model.specs.Ops.{Ops, replay}
 use Rattle.model.specs.Open.{recoveryOps, openOutcome}
 use Rattle.model.specs.Crash.{CrashImage}
 use Rattle.model.specs.History.{Call, State, step, run, openedImage, start, AllPermitted}
-use Rattle.model.specs.CrashSafety.{Reads, ReadsFollowModel, OpeningSettles, OpeningSafety, checkpoints, EpochCounts}
+use Rattle.model.specs.CrashSafety.{Reads}
+use Rattle.model.specs.EpochCounts.{checkpoints, EpochCounts}
+use Rattle.model.specs.Sisters.{ReadsFollowModel, OpeningSettles, OpeningSafety}
 use Rattle.model.proofs.Argument.Settled.{settled-off}
 use Rattle.model.proofs.Laws.Crash.Images.{newest, settled-only}
 use Rattle.model.proofs.Argument.Recovery.{meta, open-clear, recovery-keeps}

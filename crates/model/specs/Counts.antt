@@ -1,5 +1,6 @@
--- What document 01 counts: main segments that opening treats, dirty blocks (m). That the operations of a call number what the
--- document says in these terms is proved in proofs/Laws/Counts.antt; no outcome is defined by them. Assumes nothing.
+-- A helper's file: nothing that users rely on is said in its terms, and no outcome is defined by them. What document 01
+-- counts: main segments that opening treats, dirty blocks (m). Contracts of helper functions cite it, and so do the laws that the
+-- operations of a call number what the document says (proofs/Laws/Counts.antt). Assumes nothing.
 use Prim.Native.Nat.{ℕ}
 use mathlib.Core.List.{List}
 use lib.ListN.{getD}

@@ -1,27 +1,19 @@
--- Demand 3, as one statement over a whole history (`CrashSafety`), and its sisters. Proved in proofs/CrashSafety.antt and,
--- the sisters, in Sisters.antt, WellFormed.antt and Suffices.antt.
-use Prim.Native.Nat.{ℕ, _+_, _*_, _%_, _≤_, _<_}
+-- DEMAND 3, as one statement over a whole history (`CrashSafety`), and what it is made of. Proved in proofs/CrashSafety.antt.
+use Prim.Native.Nat.{ℕ, _<_}
 use mathlib.Core.Path.{_≡_}
 use mathlib.Core.Logic.{_≢_, _⊎_}
-use mathlib.Core.Bool.{Bool, true, false, _&&_}
 use mathlib.Core.List.{List, [], _∷_, _++_}
-use lib.ListN.{length, take, replicate}
+use lib.ListN.{length, replicate}
 use Rattle.model.specs.declared.Layout.{Layout}
-use Rattle.model.specs.declared.Session.{Session}
-use Rattle.model.specs.Range.{oneIf}
 use Rattle.model.specs.Words.{Image, Bytes}
-use Rattle.model.specs.Layout.{lineSize, blockSize, blockWords, epochAt, ssInitial, blockOps, blockLines}
-use Rattle.model.specs.Container.{activeState, activeLine, checkpointBytes, committedEpoch}
-use Rattle.model.specs.Ops.{opNumbers, Ops, Trace, store}
-use Rattle.model.specs.Status.{served}
-use Rattle.model.specs.Replay.{replayOutcome}
+use Rattle.model.specs.Layout.{blockSize, epochAt, ssInitial}
+use Rattle.model.specs.Container.{activeState, activeLine, checkpointBytes}
+use Rattle.model.specs.Ops.{Ops, Trace, store}
 use Rattle.model.specs.Open.{openStatus, openOutcome}
-use Rattle.model.specs.Write.{WriteArgs, writeStatus}
-use Rattle.model.specs.Checkpoint.{checkpointStatus}
 use Rattle.model.specs.Reads.{readStatus, workingBlock, checkpointBlock}
 use Rattle.model.specs.Crash.{CrashImage}
-use Rattle.model.specs.Reference.{Page, pageBlock, CallArgs, openArgs, writeArgs, checkpointArgs}
-use Rattle.model.specs.History.{Call, Device, State, outcome, reported, playedOps, calledOps, step, run, openedImage, start, Permitted, AllPermitted}
+use Rattle.model.specs.Reference.{Page, pageBlock, checkpointArgs}
+use Rattle.model.specs.History.{Call, Device, State, outcome, playedOps, calledOps, run, openedImage, start, Permitted, AllPermitted}
 
 -- ---- what the reads show
 
@@ -117,60 +109,3 @@ CrashSafety = CrashSafetyFor CrashImage
 -- the same for a module whose crash images are among these
 abbrev pub CrashSafetyWithin : Type 1
 CrashSafetyWithin = (R : CrashModel) → ((I : Image) (O : Ops) (H : Image) → R I O H → CrashImage I O H) → CrashSafetyFor R
-
--- ---- its sisters
-
--- demand 2: after every call of a history the two reads give the two pages of the reference model
-abbrev pub ReadsFollowModel : Type 0
-ReadsFollowModel = InEveryHistory (λ s. Reads (s .device .layout) (s .device .image) (s .model .working) (s .model .checkpoint))
-
--- every operation that a call writes is well formed, whatever the image and the session: replay serves the reported part
--- and plays all of it, or the first p where it is stopped there; so it is for openings before, in and after a history
-abbrev pub ReplayServesAll : Type 0
-ReplayServesAll =
-    (d : Device) (c : Call) → length (d .image) % lineSize ≡ 0 → Permitted d c → (p : ℕ)
-    → (replayOutcome (d .image) (reported (outcome d c .ops) (c .trace)) p .status ≡ 0)
-    × (calledOps d c p ≡ take p (outcome d c .ops))
-
--- a finished opening leaves one crash image only, so that what a history starts with is durable indeed
-abbrev pub OpeningSettles : Type 0
-OpeningSettles =
-    (l : Layout) (I : Image) (t : Trace) → Bytes I → openStatus l I t ≡ 0
-    → CrashImage I (openOutcome l I t .ops) (openedImage l I t)
-    × ((H : Image) → CrashImage I (openOutcome l I t .ops) H → H ≡ openedImage l I t)
-
--- openings alone: any image that is accepted, cut in any number of openings, shows its checkpoint
-abbrev pub OpeningSafety : Type 0
-OpeningSafety =
-    (l : Layout) (I : Image) (t : Trace) → Bytes I → openStatus l I t ≡ 0 → (H : Image) → CutOpenings CrashImage l I H
-    → (t′ : Trace) → openStatus l H t′ ≢ 11 → Recovers l H t′ (checkpointBytes l I (activeLine I)) × Bytes H
-
--- traces that suffice for every opening, every write and every checkpoint
-abbrev pub TraceSuffices : Type 0
-TraceSuffices = (l : Layout) (I : Image) (t : Trace) → opNumbers * (blockOps * l .blocks * l .mains + 1) ≤ length t → openStatus l I t ≢ 11
-
-abbrev pub WriteTraceSuffices : Type 0
-WriteTraceSuffices =
-    (s : Session) (I : Image) (w : WriteArgs) (j : ℕ) (t : Trace) → opNumbers * (blockOps * s .layout .blocks + 6 + blockWords) ≤ length t
-    → writeStatus s I w j t ≢ 11
-
-abbrev pub CheckpointTraceSuffices : Type 0
-CheckpointTraceSuffices =
-    (s : Session) (I : Image) (t : Trace) → opNumbers * (blockLines * s .layout .blocks * s .layout .mains + 14) ≤ length t → checkpointStatus s I t ≢ 11
-
--- whether a call is a checkpoint
-abbrev pub isCheckpoint : CallArgs → Bool
-isCheckpoint (openArgs l) = false
-isCheckpoint (writeArgs w) = false
-isCheckpoint checkpointArgs = true
-
--- the checkpoints that a list of calls serves
-unfoldable pub checkpoints : State → List Call → ℕ
-checkpoints s [] = 0
-checkpoints s (c ∷ cs) = oneIf (isCheckpoint (c .args) && served (outcome (s .device) c .status)) + checkpoints (step s c) cs
-
--- the epoch is the start's epoch and one more for each served checkpoint; nothing else changes it
-abbrev pub EpochCounts : Type 0
-EpochCounts =
-    (l : Layout) (I : Image) (t : Trace) → Bytes I → openStatus l I t ≡ 0 → (cs : List Call) → AllPermitted (start l I t) cs
-    → committedEpoch (run (start l I t) cs .device .image) ≡ committedEpoch I + checkpoints (start l I t) cs

@@ -1,23 +1,34 @@
+-- What a reader must believe: definitions and statements, in the order of document 01.
+-- ranges of numbers; places and sizes of an image; words
 pub mod Range
 pub mod Layout
 pub mod Words
+-- numbers of refusals; metadata; session; operations and trace; what a call answers; replay
 pub mod Status
 pub mod Container
 pub mod Session
 pub mod Ops
 pub mod Outcome
 pub mod Replay
+-- the calls: laying-out, opening, write, save, reads, likeness
 pub mod Format
 pub mod Open
-pub mod Counts
 pub mod Write
 pub mod Checkpoint
 pub mod Reads
 pub mod Same
+-- demand 1: refusals
 pub mod Refusals
-pub mod Unread
-pub mod Crash
-pub mod CrashExact
+-- demands 2 and 3: the reference model, histories, what a crash may leave, the statements
 pub mod Reference
 pub mod History
+pub mod Crash
 pub mod CrashSafety
+pub mod Sisters
+-- further statements: what no call reads, the epoch, lengths of a trace, the crash relation taken apart
+pub mod Unread
+pub mod EpochCounts
+pub mod TraceLength
+pub mod CrashExact
+-- a helper's: counts, in which nothing that a reader must believe is said
+pub mod Counts

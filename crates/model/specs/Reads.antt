@@ -28,26 +28,26 @@ abbrev pub partOf : Image → Part → List ℕ
 partOf I p = take (p .size) (drop (p .start) I)
 
 -- the part of length 0, for a refusal or an empty segment
-abbrev pub nowhere : Part
-nowhere = record { start = 0; size = 0 }
+abbrev pub noPart : Part
+noPart = record { start = 0; size = 0 }
 
 -- block b of the segment that starts at a place
 abbrev pub blockPart : ℕ → ℕ → Part
 blockPart at b = record { start = at + blockSize * b; size = blockSize }
 
--- block b of what stands there, or nowhere
+-- block b of what stands there, or no part
 abbrev pub locatedPart : Located → ℕ → Part
-locatedPart Nowhere b = nowhere
+locatedPart Nowhere b = noPart
 locatedPart (At p) b = blockPart p b
 
 -- the working read: the block in its main segment
 unfoldable pub workingPart : Layout → Image → ℕ → ℕ → Part
-workingPart l I i b = cond (served (readStatus l I i b)) (blockPart (mainAt l i) b) nowhere
+workingPart l I i b = cond (served (readStatus l I i b)) (blockPart (mainAt l i) b) noPart
 
 -- the saved read: the block where the checkpoint stands, by the active line
 unfoldable pub checkpointPart : Layout → Image → ℕ → ℕ → Part
 checkpointPart l I i b =
-    cond (served (readStatus l I i b)) (locatedPart (checkpointLocated l I (activeLine I) i) b) nowhere
+    cond (served (readStatus l I i b)) (locatedPart (checkpointLocated l I (activeLine I) i) b) noPart
 
 abbrev pub workingBlock : Layout → Image → ℕ → ℕ → List ℕ
 workingBlock l I i b = partOf I (workingPart l I i b)

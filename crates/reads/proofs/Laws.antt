@@ -14,7 +14,7 @@ use Rattle.model.specs.Words.{Image}
 use Rattle.model.specs.Layout.{SizesOk, segmentSize, imageSize, mainAt}
 use Rattle.model.specs.Status.{Errors, firstError, served}
 use Rattle.model.specs.Container.{activeLine, checkpointLocated, containerErrors, mainErrors, blockErrors}
-use Rattle.model.specs.Reads.{readStatus, partOf, nowhere, blockPart, locatedPart, workingPart, checkpointPart}
+use Rattle.model.specs.Reads.{readStatus, partOf, noPart, blockPart, locatedPart, workingPart, checkpointPart}
 use Rattle.model.proofs.Laws.Status.{stage-refused, stage-passed, served-condition}
 use Rattle.model.proofs.Laws.Container.{ContainerOk, container-then}
 use Rattle.model.proofs.Laws.Layout.{metadata-inside, segment-in-image}
@@ -80,7 +80,7 @@ module _ (l : Layout) (I : Image) (i b : ℕ) where
 
   -- ---- the parts
 
-  pub working-refused : served (readStatus l I i b) ≡ false → workingPart l I i b ≡ nowhere
+  pub working-refused : served (readStatus l I i b) ≡ false → workingPart l I i b ≡ noPart
   unfolding workingPart
   working-refused n = rw n
 
@@ -88,7 +88,7 @@ module _ (l : Layout) (I : Image) (i b : ℕ) where
   unfolding workingPart
   working-served e = rw e
 
-  pub checkpoint-refused : served (readStatus l I i b) ≡ false → checkpointPart l I i b ≡ nowhere
+  pub checkpoint-refused : served (readStatus l I i b) ≡ false → checkpointPart l I i b ≡ noPart
   unfolding checkpointPart
   checkpoint-refused n = rw n
 

@@ -24,7 +24,8 @@ use Rattle.model.specs.Outcome.{outcomeOf}
 use Rattle.model.specs.Crash.{CrashImage}
 use Rattle.model.specs.Reference.{Page, Model, modelStep, checkpointArgs}
 use Rattle.model.specs.History.{Call, Device, State, outcome, calledOps, deviceStep, step}
-use Rattle.model.specs.CrashSafety.{Moment, during, playedAt, EpochStored, MayShow, isCheckpoint}
+use Rattle.model.specs.CrashSafety.{Moment, during, playedAt, EpochStored, MayShow}
+use Rattle.model.specs.EpochCounts.{isCheckpoint}
 use Rattle.model.proofs.Laws.Layout.{image-lines}
 use Rattle.model.proofs.Laws.Ops.{AllOk, played-ops, replayed-image}
 use Rattle.model.proofs.Laws.Words.{word-cong}

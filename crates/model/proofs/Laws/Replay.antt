@@ -26,7 +26,7 @@ use Rattle.model.specs.Write.{WriteArgs, needsCopy, needsBackup, copyPla
 use Rattle.model.specs.Checkpoint.{flushDirty, nextStates, statesOps, checkpointOps, checkpointStatus, checkpointOutcome}
 use Rattle.model.specs.Reference.{CallArgs, openArgs, writeArgs, checkpointArgs}
 use Rattle.model.specs.History.{Call, Device, answers, outcome, PermittedOn, Permitted}
-use Rattle.model.specs.CrashSafety.{ReplayServesAll}
+use Rattle.model.specs.Sisters.{ReplayServesAll}
 use Rattle.model.proofs.Laws.Status.{served-condition}
 use Rattle.model.proofs.Laws.Container.{paired-at, container-then}
 use Rattle.model.proofs.Laws.Layout.{metadata-inside, image-lines, segment-in-image, state-line-low, state-line-high, state-line-whole}

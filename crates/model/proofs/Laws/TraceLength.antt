@@ -21,7 +21,7 @@ use Rattle.model.specs.Open.{recoveryOps, openErrors, openStatus}
 use Rattle.model.specs.Write.{WriteArgs, copyPlan, spanBad, writeOps, writeErrors, writeStatus}
 use Rattle.model.specs.Checkpoint.{checkpointOps, checkpointErrors, checkpointStatus}
 use Rattle.model.specs.Counts.{dirtyCount, dirtyTotal}
-use Rattle.model.specs.CrashSafety.{TraceSuffices, WriteTraceSuffices, CheckpointTraceSuffices}
+use Rattle.model.specs.TraceLength.{TraceSuffices, WriteTraceSuffices, CheckpointTraceSuffices}
 use Rattle.model.proofs.Laws.Status.{given-condition, given-earlier}
 use Rattle.model.proofs.Laws.Counts.{sum-most, recovery-most, spanCount, planCount, length-write, length-checkpoint-ops}
 use Rattle.model.proofs.Laws.Replay.{span-good}

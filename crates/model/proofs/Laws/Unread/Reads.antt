@@ -12,7 +12,7 @@ use Rattle.model.specs.Words.{Image}
 use Rattle.model.specs.Layout.{blockSize, metadataSize, SizesOk, segmentSize, mainAt, backupAt}
 use Rattle.model.specs.Status.{firstError, served}
 use Rattle.model.specs.Container.{activeLine, segState, backupToMain, pairedBackup, byState, checkpointLocated, locatedBytes, checkpointSegment, checkpointBytes, containerErrors}
-use Rattle.model.specs.Reads.{readErrors, readStatus, Part, partOf, nowhere, blockPart, locatedPart, workingPart, checkpointPart, workingBlock, checkpointBlock}
+use Rattle.model.specs.Reads.{readErrors, readStatus, Part, partOf, noPart, blockPart, locatedPart, workingPart, checkpointPart, workingBlock, checkpointBlock}
 use Rattle.model.specs.Same.{sameBytes, sameCheckpoint, sameOutcome}
 use Rattle.model.specs.Unread.{AgreeNamed}
 use Rattle.model.proofs.Laws.Range.{cat-ext}
@@ -49,7 +49,7 @@ module _ {I J : Image} (same : AgreeNamed I J) where
 
   pub working-part-unread : (l : Layout) (i b : ℕ) → workingPart l I i b ≡ workingPart l J i b
   unfolding workingPart
-  working-part-unread l i b = ap (λ (e : ℕ). cond (served e) (blockPart (mainAt l i) b) nowhere) (read-status-unread l i b)
+  working-part-unread l i b = ap (λ (e : ℕ). cond (served e) (blockPart (mainAt l i) b) noPart) (read-status-unread l i b)
 
   pub checkpoint-part-unread : (l : Layout) (i b : ℕ) → checkpointPart l I i b ≡ checkpointPart l J i b
   unfolding checkpointPart readStatus
@@ -65,7 +65,7 @@ module _ {I J : Image} (same : AgreeNamed I J) where
   located-block-same Nowhere b h = refl
   located-block-same (At p) b h = block-same p b h
 
-  choice-same : (c : Bool) (p : Part) → partOf I p ≡ partOf J p → partOf I (cond c p nowhere) ≡ partOf J (cond c p nowhere)
+  choice-same : (c : Bool) (p : Part) → partOf I p ≡ partOf J p → partOf I (cond c p noPart) ≡ partOf J (cond c p noPart)
   choice-same true p e = e
   choice-same false p e = refl
 

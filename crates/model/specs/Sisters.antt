@@ -1,0 +1,42 @@
+-- Demand 2 over a whole history (`ReadsFollowModel`), and sisters of demand 3: replay serves every trace that a call writes, a
+-- finished opening leaves nothing open, openings alone are safe. Proved in proofs/Sisters.antt, `ReplayServesAll` in
+-- proofs/Laws/Replay.antt.
+use Prim.Native.Nat.{ℕ, _%_}
+use mathlib.Core.Path.{_≡_}
+use mathlib.Core.Logic.{_≢_}
+use lib.ListN.{length, take}
+use Rattle.model.specs.declared.Layout.{Layout}
+use Rattle.model.specs.Words.{Image, Bytes}
+use Rattle.model.specs.Layout.{lineSize}
+use Rattle.model.specs.Container.{activeLine, checkpointBytes}
+use Rattle.model.specs.Ops.{Trace}
+use Rattle.model.specs.Replay.{replayOutcome}
+use Rattle.model.specs.Open.{openStatus, openOutcome}
+use Rattle.model.specs.Crash.{CrashImage}
+use Rattle.model.specs.History.{Call, Device, outcome, reported, calledOps, openedImage, Permitted}
+use Rattle.model.specs.CrashSafety.{Reads, Recovers, InEveryHistory, CutOpenings}
+
+-- demand 2: after every call of a history the two reads give the two pages of the reference model
+abbrev pub ReadsFollowModel : Type 0
+ReadsFollowModel = InEveryHistory (λ s. Reads (s .device .layout) (s .device .image) (s .model .working) (s .model .checkpoint))
+
+-- every operation that a call writes is well formed, whatever the image and the session: replay serves the reported part
+-- and plays all of it, or the first p where it is stopped there; so it is for openings before, in and after a history
+abbrev pub ReplayServesAll : Type 0
+ReplayServesAll =
+    (d : Device) (c : Call) → length (d .image) % lineSize ≡ 0 → Permitted d c → (p : ℕ)
+    → (replayOutcome (d .image) (reported (outcome d c .ops) (c .trace)) p .status ≡ 0)
+    × (calledOps d c p ≡ take p (outcome d c .ops))
+
+-- a finished opening leaves one crash image only, so that what a history starts with is durable indeed
+abbrev pub OpeningSettles : Type 0
+OpeningSettles =
+    (l : Layout) (I : Image) (t : Trace) → Bytes I → openStatus l I t ≡ 0
+    → CrashImage I (openOutcome l I t .ops) (openedImage l I t)
+    × ((H : Image) → CrashImage I (openOutcome l I t .ops) H → H ≡ openedImage l I t)
+
+-- openings alone: any image that is accepted, cut in any number of openings, shows its checkpoint
+abbrev pub OpeningSafety : Type 0
+OpeningSafety =
+    (l : Layout) (I : Image) (t : Trace) → Bytes I → openStatus l I t ≡ 0 → (H : Image) → CutOpenings CrashImage l I H
+    → (t′ : Trace) → openStatus l H t′ ≢ 11 → Recovers l H t′ (checkpointBytes l I (activeLine I)) × Bytes H

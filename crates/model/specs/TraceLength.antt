@@ -1,0 +1,46 @@
+-- Lengths of a trace that always suffice: with that many numbers no opening, no write and no checkpoint of these sizes is
+-- refused with 11, whatever the image and the session. Proved in proofs/Laws/TraceLength.antt.
+use Prim.Native.Nat.{ℕ, _+_, _*_, _≤_}
+use mathlib.Core.Logic.{_≢_}
+use lib.ListN.{length}
+use Rattle.model.specs.declared.Layout.{Layout}
+use Rattle.model.specs.declared.Session.{Session}
+use Rattle.model.specs.Words.{Image}
+use Rattle.model.specs.Layout.{blockWords, blockLines, lineWords, blockOps}
+use Rattle.model.specs.Ops.{opNumbers, Trace}
+use Rattle.model.specs.Open.{openStatus}
+use Rattle.model.specs.Write.{WriteArgs, writeStatus}
+use Rattle.model.specs.Checkpoint.{checkpointStatus}
+
+-- operations of a word that is stored and written back, of the states of a line that are, and of a fence
+abbrev pub wordOps : ℕ
+wordOps = 2
+
+abbrev pub lineOps : ℕ
+lineOps = lineWords + 1
+
+abbrev pub fenceOps : ℕ
+fenceOps = 1
+
+-- the most operations of an opening: every main segment treated, a fence
+abbrev pub mostOpenOps : Layout → ℕ
+mostOpenOps l = blockOps * l .blocks * l .mains + fenceOps
+
+-- of a write: a pair, every block copied, a fence, a state, a fence; then the words of a block
+abbrev pub mostWriteOps : Layout → ℕ
+mostWriteOps l = blockOps * l .blocks + (wordOps + fenceOps + wordOps + fenceOps) + blockWords
+
+-- of a checkpoint: every block written back, a fence, the states, a fence, the epoch, a fence
+abbrev pub mostCheckpointOps : Layout → ℕ
+mostCheckpointOps l = blockLines * l .blocks * l .mains + (fenceOps + lineOps + fenceOps + wordOps + fenceOps)
+
+abbrev pub TraceSuffices : Type 0
+TraceSuffices = (l : Layout) (I : Image) (t : Trace) → opNumbers * mostOpenOps l ≤ length t → openStatus l I t ≢ 11
+
+abbrev pub WriteTraceSuffices : Type 0
+WriteTraceSuffices =
+    (s : Session) (I : Image) (w : WriteArgs) (j : ℕ) (t : Trace) → opNumbers * mostWriteOps (s .layout) ≤ length t → writeStatus s I w j t ≢ 11
+
+abbrev pub CheckpointTraceSuffices : Type 0
+CheckpointTraceSuffices =
+    (s : Session) (I : Image) (t : Trace) → opNumbers * mostCheckpointOps (s .layout) ≤ length t → checkpointStatus s I t ≢ 11
