@@ -26,7 +26,9 @@ use Rattle.model.proofs.Laws.Status.{served-parts, served-condition}
 use Rattle.model.proofs.Laws.Layout.{segment-in-image}
 use Rattle.model.proofs.Laws.Container.{sizes-ok, paired-at, unpaired-none, paired-by, valid-means, valid-test}
 use Rattle.metadata.specs.declared.Examined.{Examined}
-use Rattle.metadata.specs.Scan.{pairFits, slotOf, entryOf, slotBackup, stateFits, Scanned, ExaminedBy, freeBackup, Choice}
+use Rattle.metadata.specs.declared.Found.{Found}
+use Rattle.metadata.specs.declared.Found.the-variants.{Missing, Backup}
+use Rattle.metadata.specs.Scan.{pairFits, slotOf, entryOf, slotBackup, stateFits, Scanned, ExaminedBy, freeBackup, foundBelow}
 
 -- ---- the first number
 
@@ -71,6 +73,41 @@ unfolding firstB
 first-ext zero P Q h = refl
 first-ext (suc n) P Q h = ap₂ (λ (f : ℕ) (b : Bool). orNext f n b) (first-ext n P Q (λ i l. h i (omega arith))) (h n (omega arith))
 
+-- ---- what a search answers
+
+number : Found → ℕ
+number Missing = 0
+number (Backup j) = j
+
+isBackup : Found → Bool
+isBackup Missing = false
+isBackup (Backup j) = true
+
+module _ (n k : ℕ) where
+  pub found-at : (j : ℕ) → j < n → k ≡ j → Backup j ≡ foundBelow n k
+  unfolding foundBelow
+  found-at j h e = rw (e, lt-ltb j n h)
+
+  pub found-none : n ≤ k → Missing ≡ foundBelow n k
+  unfolding foundBelow
+  found-none h = rw (le-ltb k n h)
+
+  pub found-backup : (j : ℕ) → Backup j ≡ foundBelow n k → (j ≡ k) × (k < n)
+  unfolding number isBackup
+  found-backup j h = go (decLt k n)
+    where
+      go : Dec (k < n) → (j ≡ k) × (k < n)
+      go (yes b) = (ap number (h ∙ sym (found-at k b refl)), b)
+      go (no b) = absurd (true≢false (ap isBackup (h ∙ sym (found-none (omega arith)))))
+
+  pub found-missing : Missing ≡ foundBelow n k → n ≤ k
+  unfolding isBackup
+  found-missing h = go (decLt k n)
+    where
+      go : Dec (k < n) → n ≤ k
+      go (yes b) = absurd (true≢false (sym (ap isBackup (h ∙ sym (found-at k b refl)))))
+      go (no b) = omega arith
+
 -- ---- refusals
 
 -- where refusals 1 and 2 do not apply, the sizes are allowed and the image has their length
@@ -87,15 +124,6 @@ segment-bound k blocks h b = omega (arith, suc-mul k blocks, mul-le-mul {n₁ = 
 pub image-bound : (blocks segments : ℕ) → blocks ≤ 64 → segments ≤ 128 → 512 + 256 * blocks * segments ≤ 2097664
 image-bound blocks segments b h =
     omega (arith, mul-le-mul {n₁ = 256 * blocks} {m₁ = segments} {n₂ = 16384} {m₂ = 128} (omega arith) h)
-
--- the line of states for the next epoch
-pub next-line : (e : ℕ) → 128 + 64 * (1 - e % 2) ≡ stateLine (suc e)
-unfolding stateLine
-next-line e = go (ℕ-discrete (e % 2) 0)
-  where
-    go : Dec (e % 2 ≡ 0) → 128 + 64 * (1 - e % 2) ≡ 128 + 64 * (suc e % 2)
-    go (yes h) = omega arith
-    go (no h) = omega arith
 
 -- ---- slots
 
@@ -365,15 +393,8 @@ module _ (l : Layout) (st pr : ℕ → ℕ) where
   unfolding freeBackup
   free-idle h = rw (le-ltb _ _ h)
 
-  free-most : freeBackup l st pr ≤ l .backups
-  free-most = go (decLt alone (l .backups))
-    where
-      go : Dec (alone < l .backups) → freeBackup l st pr ≤ l .backups
-      go (yes h) = omega (arith, free-alone h)
-      go (no h) = let b : l .backups ≤ alone = omega arith in omega (arith, free-idle b, first-most (l .backups) idle)
-
   -- the chosen backup segment is free
-  free-is-free : freeBackup l st pr < l .backups → Free l st pr (freeBackup l st pr)
+  pub free-is-free : freeBackup l st pr < l .backups → Free l st pr (freeBackup l st pr)
   free-is-free h = go (decLt alone (l .backups))
     where
       go : Dec (alone < l .backups) → Free l st pr (freeBackup l st pr)
@@ -384,9 +405,9 @@ module _ (l : Layout) (st pr : ℕ → ℕ) where
           (h, inr (subst (λ (n : ℕ). st (pr n) ≢ ssBackup) (sym f) (eqb-false _ _ (not-true _ (first-some (l .backups) idle some .1)))))
 
   -- where none is chosen, none is free
-  free-none : freeBackup l st pr ≡ l .backups → anyFree l st pr ≡ false
+  pub free-none : l .backups ≤ freeBackup l st pr → anyFree l st pr ≡ false
   unfolding anyFree isFree
-  free-none h = go (decLt alone (l .backups))
+  free-none below = go (decLt alone (l .backups))
     where
       busy : l .backups ≤ alone → firstB (l .backups) idle ≡ l .backups → (j : ℕ) → j < l .backups → isFree st pr j ≡ false
       busy b e j m =
@@ -399,15 +420,7 @@ module _ (l : Layout) (st pr : ℕ → ℕ) where
       go (no b) =
           let a : l .backups ≤ alone = omega arith in
           any-first (l .backups) (isFree st pr)
-          ∙ le-ltb (firstB (l .backups) (isFree st pr)) (l .backups) (omega (arith, first-none (l .backups) (isFree st pr) (busy a (sym (free-idle a) ∙ h))))
-
-  pub choice : (r : ℕ) → r ≡ freeBackup l st pr → Choice l st pr r
-  choice r e = record {
-    chosen = e;
-    most = omega (arith, free-most);
-    free = λ h. subst (Free l st pr) (sym e) (free-is-free (subst (λ (n : ℕ). n < l .backups) e h));
-    none = λ h. free-none (sym e ∙ h);
-  }
+          ∙ le-ltb (firstB (l .backups) (isFree st pr)) (l .backups) (omega (arith, first-none (l .backups) (isFree st pr) (busy a (omega (arith, free-idle a, first-most (l .backups) idle)))))
 
 -- validity by what the code finds
 pub valid-by-scan : (l : Layout) (st pr : ℕ → ℕ) (r : Examined) (a b c : Bool) → l .mains ≤ 64 → l .backups ≤ 64
@@ -423,8 +436,8 @@ valid-by-scan l st pr r a b c m n s p q t =
     paired i h = entry-paired l pr i _ n (s .found i (omega arith) ∙ slot-backup l pr i m h)
 
 -- the pass over states and pairs found the backup segment of main segment i
-pub found-backup : (l : Layout) (st pr : ℕ → ℕ) (r : Examined) → ExaminedBy l st pr r → l .mains ≤ 64 → (i : ℕ) → i < l .mains → getD (r .backup) i 0 ≡ entryOf (l .backups) (pairedBackup l pr i)
-found-backup l st pr r x m i b = x .found i (omega arith) ∙ slot-backup l pr i m b
+pub slot-found : (l : Layout) (st pr : ℕ → ℕ) (r : Examined) → ExaminedBy l st pr r → l .mains ≤ 64 → (i : ℕ) → i < l .mains → getD (r .backup) i 0 ≡ entryOf (l .backups) (pairedBackup l pr i)
+slot-found l st pr r x m i b = x .found i (omega arith) ∙ slot-backup l pr i m b
 
 -- ---- where the checkpoint stands
 

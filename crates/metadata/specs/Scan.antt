@@ -1,15 +1,17 @@
 -- The tests that one pass over pairs and states makes, and the choice of a free backup segment. That they are the rules of
 -- model's Container is shown in proofs/. Assumes nothing.
-use Prim.Native.Nat.{ℕ, _≤_, _<_}
+use Prim.Native.Nat.{ℕ, _≤_}
 use mathlib.Core.Path.{_≡_}
-use mathlib.Core.Bool.{Bool, false, not, cond, _&&_, _||_}
+use mathlib.Core.Bool.{Bool, not, cond, _&&_, _||_}
 use lib.Dec.{leb, ltb, eqb}
 use lib.ListN.{getD}
 use Rattle.model.specs.declared.Layout.{Layout}
 use Rattle.model.specs.Range.{allB, anyB, firstB}
 use Rattle.model.specs.Layout.{most, unpaired, ssInitial, ssMain, ssBackup}
-use Rattle.model.specs.Container.{validMetadata, pairedBackup, Free, anyFree}
+use Rattle.model.specs.Container.{validMetadata, pairedBackup}
 use Rattle.metadata.specs.declared.Examined.{Examined}
+use Rattle.metadata.specs.declared.Found.{Found}
+use Rattle.metadata.specs.declared.Found.the-variants.{Missing, Backup}
 
 -- the pair of backup segment j is `unpaired`, or a main segment that no later backup segment has
 unfoldable pub pairFits : (ℕ → ℕ) → ℕ → ℕ → ℕ → Bool
@@ -47,9 +49,6 @@ unfoldable pub freeBackup : Layout → (ℕ → ℕ) → (ℕ → ℕ) → ℕ
 freeBackup l st pr =
     cond (ltb (pairedBackup l pr unpaired) (l .backups)) (pairedBackup l pr unpaired) (firstB (l .backups) (λ j. not (eqb (st (pr j)) ssBackup)))
 
--- what is known of the choice: it is free, and where it is none, none is free
-pub record Choice (l : Layout) (st pr : ℕ → ℕ) (r : ℕ) : Type 0 where
-  pub chosen : r ≡ freeBackup l st pr
-  pub most : r ≤ l .backups
-  pub free : r < l .backups → Free l st pr r
-  pub none : r ≡ l .backups → anyFree l st pr ≡ false
+-- what a search answers that looks for a number below the number of backup segments
+unfoldable pub foundBelow : ℕ → ℕ → Found
+foundBelow backups j = cond (ltb j backups) (Backup j) Missing

@@ -11,15 +11,21 @@ ghost use lib.ListN.{length, getD};
 ghost use Rattle.model.specs.Range.{allB, firstB};
 ghost use Rattle.model.specs.Words.{byteAt};
 ghost use Rattle.model.specs.Status.{codeOf, firstError};
-ghost use Rattle.model.specs.Layout.{SizesOk, inRange, sizesOk, imageSize, segmentAt, mainAt, backupAt};
-ghost use Rattle.model.specs.Container.{activeLine, inactiveLine, activeState, segState, backupToMain, Valid, headerOk, sizeErrors, layoutErrors, containerErrors, pairedBackup, checkpointLocated};
-ghost use Rattle.metadata.specs.Scan.{slotOf, stateFits, Scanned, ExaminedBy, Choice};
+ghost use mathlib.Core.List.{_++_};
+ghost use Rattle.model.specs.Layout.{wordSize, lineSize, blockSize, metadataSize, most, mostSegments, largestImage, headerEnd, statesAt, oddStatesAt, pairsEnd, unpaired, ssBackup, stateLine, segmentSize, SizesOk, inRange, sizesOk, imageSize, segmentAt, mainAt, backupAt};
+ghost use Rattle.model.specs.Container.{committedEpoch, activeLine, inactiveLine, activeState, segState, backupToMain, Valid, headerOk, sizeErrors, layoutErrors, containerErrors, mainErrors, blockErrors, pairedBackup, checkpointLocated};
+ghost use Rattle.metadata.specs.Scan.{slotOf, stateFits, Scanned, ExaminedBy, foundBelow, freeBackup};
 
 // The slots that the pass over the pairs fills: one for each main segment, and the last for pairs that name none.
 pub const SLOTS: usize = Layout::MOST_LEN + 1;
 
 // The pair byte of an unpaired backup segment, as a search asks for it.
 const NO_MAIN: u64 = Layout::UNPAIRED as u64;
+
+// The active line of states is this epoch's, the inactive one the next epoch's.
+const ACTIVE: u64 = 0;
+
+const INACTIVE: u64 = 1;
 
 // ---- places
 
@@ -66,22 +72,29 @@ pub fn image_size(layout: Layout) -> usize
     allowed_image_size(layout)
 }
 
-// Where the line of states stands that the epoch's parity picks.
-pub fn active_at(image: &[u8]) -> usize
-    requires { ⌜ 8 ≤ length (now image) ⌝ }
-    ensures { λ r. ⌜ (r ≡ activeLine (now (image .entry))) × (128 ≤ r) × (r ≤ 192) ⌝ }
+// Where the line of states stands that the parity of the epoch picks, so many epochs from now.
+fn line_at(image: &[u8], later: u64) -> usize
+    requires { ⌜ (wordSize ≤ length (now image)) × (later ≤ 1) ⌝ }
+    ensures { λ r. ⌜ (r ≡ stateLine (later + committedEpoch (now (image .entry)))) × (statesAt ≤ r) × (r ≤ oddStatesAt) ⌝ }
 {
     let odd = words::word_at(image, Layout::EPOCH_AT as usize) % 2;
-    (Layout::STATES_AT + Layout::LINE_SIZE * odd) as usize
+    (Layout::STATES_AT + Layout::LINE_SIZE * ((odd + later) % 2)) as usize
+}
+
+// Where the line of states stands that the epoch's parity picks.
+pub fn active_at(image: &[u8]) -> usize
+    requires { ⌜ wordSize ≤ length (now image) ⌝ }
+    ensures { λ r. ⌜ (r ≡ activeLine (now (image .entry))) × (statesAt ≤ r) × (r ≤ oddStatesAt) ⌝ }
+{
+    line_at(image, ACTIVE)
 }
 
 // Where the other line of states stands.
 pub fn inactive_at(image: &[u8]) -> usize
-    requires { ⌜ 8 ≤ length (now image) ⌝ }
-    ensures { λ r. ⌜ (r ≡ inactiveLine (now (image .entry))) × (128 ≤ r) × (r ≤ 192) ⌝ }
+    requires { ⌜ wordSize ≤ length (now image) ⌝ }
+    ensures { λ r. ⌜ (r ≡ inactiveLine (now (image .entry))) × (statesAt ≤ r) × (r ≤ oddStatesAt) ⌝ }
 {
-    let odd = words::word_at(image, Layout::EPOCH_AT as usize) % 2;
-    (Layout::STATES_AT + Layout::LINE_SIZE * (1 - odd)) as usize
+    line_at(image, INACTIVE)
 }
 
 // ---- valid metadata
@@ -264,27 +277,47 @@ pub fn container_status(image: &[u8], layout: Layout) -> Status
     Status::Served
 }
 
+// The first of refusals 6 and 7 that applies, for a call that names a main segment and a block.
+pub fn place_status(layout: Layout, main: u64, block: u64) -> Status
+    ensures { λ r. ⌜ codeOf r ≡ firstError (mainErrors layout main ++ blockErrors layout block) ⌝ }
+{
+    if layout.mains <= main {
+        return Status::NoSuchMain;
+    }
+    if layout.blocks <= block {
+        return Status::NoSuchBlock;
+    }
+    Status::Served
+}
+
 // ---- backup segments
 
-// The backup segment whose pair byte is `main`, or the number of backup segments where there is none.
-pub fn find_paired_backup(image: &[u8], layout: Layout, main: u64) -> u64
-    requires { ⌜ (layout .backups ≤ 64) × (320 ≤ length (now image)) ⌝ }
-    ensures { λ r. ⌜ (r ≡ pairedBackup layout (backupToMain (now (image .entry))) main) × (r ≤ layout .backups) ⌝ }
+// What a search for a backup segment finds: none, or its number.
+pub enum Found {
+    Missing,
+    Backup(u64),
+}
+
+// The lowest backup segment whose pair byte is `main`.
+pub fn find_paired_backup(image: &[u8], layout: Layout, main: u64) -> Found
+    requires { ⌜ (layout .backups ≤ most) × (pairsEnd ≤ length (now image)) ⌝ }
+    ensures { λ r. ⌜ r ≡ foundBelow (layout .backups) (pairedBackup layout (backupToMain (now (image .entry))) main) ⌝ }
 {
     let backups = layout.backups;
     let mut j = 0;
     while j < backups {
         if wide(image[(Layout::PAIRS_AT + j) as usize]) == main {
-            return j;
+            return Found::Backup(j);
         }
         j += 1;
     }
-    backups
+    Found::Missing
 }
 
-// Where the checkpoint of a main segment stands, by a line of states and pairs that are valid.
+// Where the checkpoint of a main segment stands, by a line of states and pairs that are valid: a segment in state 2 has a
+// backup segment.
 pub fn checkpoint_located(image: &[u8], layout: Layout, line: usize, main: u64) -> Located
-    requires { ⌜ (main < layout .mains) × SizesOk layout × (320 ≤ length (now image)) × (line + 64 ≤ length (now image)) ⌝ }
+    requires { ⌜ (main < layout .mains) × SizesOk layout × (pairsEnd ≤ length (now image)) × (line + lineSize ≤ length (now image)) ⌝ }
     requires { ⌜ Valid layout (segState (now image) line) (backupToMain (now image)) ⌝ }
     ensures { λ r. ⌜ r ≡ checkpointLocated layout (now (image .entry)) line main ⌝ }
 {
@@ -295,47 +328,48 @@ pub fn checkpoint_located(image: &[u8], layout: Layout, line: usize, main: u64) 
     if state == Layout::SS_MAIN {
         return Located::At(main_at(layout, main) as u64);
     }
-    let backup = find_paired_backup(image, layout, main);
-    Located::At(backup_at(layout, backup) as u64)
+    let found = find_paired_backup(image, layout, main);
+    match found {
+        Found::Missing => Located::Nowhere,
+        Found::Backup(backup) => Located::At(backup_at(layout, backup) as u64),
+    }
 }
 
 // The state on a line of states of the main segment that a pair byte names.
-pub fn paired_state(image: &[u8], line: usize, pair: u8) -> u8
-    requires { ⌜ (pair < 64) × (line + 64 ≤ length (now image)) ⌝ }
+fn paired_state(image: &[u8], line: usize, pair: u8) -> u8
+    requires { ⌜ (pair < most) × (line + lineSize ≤ length (now image)) ⌝ }
     ensures { λ r. ⌜ r ≡ segState (now (image .entry)) line pair ⌝ }
 {
     image[line + pair as usize]
 }
 
-// Of backup segments that all have a main segment, the lowest whose main segment is not in state 2, or the number of backup
-// segments where there is none.
-pub fn find_unused_backup(image: &[u8], layout: Layout, line: usize) -> u64
-    requires { ⌜ (layout .backups ≤ 64) × (320 ≤ length (now image)) × (line + 64 ≤ length (now image)) ⌝ }
-    requires { ⌜ ((j : ℕ) → j < layout .backups → backupToMain (now image) j < 64) ⌝ }
-    ensures { λ r. ⌜ r ≡ firstB (layout .backups) (λ j. not (eqb (segState (now (image .entry)) line (backupToMain (now (image .entry)) j)) 2)) ⌝ }
-    ensures { λ r. ⌜ r ≤ layout .backups ⌝ }
+// Of backup segments that all have a main segment, the lowest whose main segment is not in state 2.
+fn find_unused_backup(image: &[u8], layout: Layout, line: usize) -> Found
+    requires { ⌜ (layout .backups ≤ most) × (pairsEnd ≤ length (now image)) × (line + lineSize ≤ length (now image)) ⌝ }
+    requires { ⌜ ((j : ℕ) → j < layout .backups → backupToMain (now image) j < most) ⌝ }
+    ensures { λ r. ⌜ r ≡ foundBelow (layout .backups) (firstB (layout .backups) (λ j. not (eqb (segState (now (image .entry)) line (backupToMain (now (image .entry)) j)) ssBackup))) ⌝ }
 {
     let backups = layout.backups;
     let mut j = 0;
     while j < backups {
         if paired_state(image, line, image[(Layout::PAIRS_AT + j) as usize]) != Layout::SS_BACKUP {
-            return j;
+            return Found::Backup(j);
         }
         j += 1;
     }
-    backups
+    Found::Missing
 }
 
 // A free backup segment by the active line of states: the lowest that is unpaired, else the lowest whose main segment is not
-// in state 2, else the number of backup segments.
-pub fn find_free_backup(image: &[u8], layout: Layout) -> u64
-    requires { ⌜ (layout .mains ≤ 64) × (layout .backups ≤ 64) × (320 ≤ length (now image)) ⌝ }
+// in state 2.
+pub fn find_free_backup(image: &[u8], layout: Layout) -> Found
+    requires { ⌜ (layout .mains ≤ most) × (layout .backups ≤ most) × (pairsEnd ≤ length (now image)) ⌝ }
     requires { ⌜ Valid layout (activeState (now image)) (backupToMain (now image)) ⌝ }
-    ensures { λ r. ⌜ Choice layout (activeState (now (image .entry))) (backupToMain (now (image .entry))) r ⌝ }
+    ensures { λ r. ⌜ r ≡ foundBelow (layout .backups) (freeBackup layout (activeState (now (image .entry))) (backupToMain (now (image .entry)))) ⌝ }
 {
     let alone = find_paired_backup(image, layout, NO_MAIN);
-    if alone < layout.backups {
-        return alone;
+    match alone {
+        Found::Missing => find_unused_backup(image, layout, line_at(image, ACTIVE)),
+        Found::Backup(backup) => Found::Backup(backup),
     }
-    find_unused_backup(image, layout, active_at(image))
 }

@@ -24,7 +24,7 @@ use Rattle.model.proofs.Laws.Container.{paired-at, valid-means}
 use Rattle.model.proofs.Laws.Status.{first-holds, first-fails, first-of-none, stage-refused, stage-passed}
 use Rattle.metadata.specs.declared.Examined.{Examined}
 use Rattle.metadata.specs.Scan.{entryOf, ExaminedBy}
-use Rattle.metadata.proofs.Laws.{entry-some, found-backup}
+use Rattle.metadata.proofs.Laws.{entry-some, slot-found}
 use Rattle.open.specs.Recovery.{ValidBy, takesBackup, BackupsOf, recoveryErrors, recoveryOutcome}
 
 -- ---- the table
@@ -91,7 +91,7 @@ pub recovers-by : (l : Layout) (I : Image) (line : ℕ) (r : Examined) → Sizes
     → ExaminedBy l (segState I line) (backupToMain I) r → not (r .valid) ≡ false → ValidBy l I line × BackupsOf l I (r .backup)
 recovers-by l I line r s e k x h = (
   record { sizes = s; long = e; inside = k; valid = valid-means l _ _ (sym (x .valid) ∙ not-false _ h) },
-  λ i b. found-backup l (segState I line) (backupToMain I) r x (s .0 .1) i b,
+  λ i b. slot-found l (segState I line) (backupToMain I) r x (s .0 .1) i b,
 )
 
 -- ---- refusals and outcome

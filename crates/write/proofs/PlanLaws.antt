@@ -1,6 +1,6 @@
 -- Laws of the plan of a copy: what the code finds is model's plan.
 use Prim.Native.Nat.{ℕ, _+_, _≤_, _<_}
-use mathlib.Core.Path.{_≡_, refl, ap, _∙_}
+use mathlib.Core.Path.{_≡_, refl, sym, ap, _∙_, subst}
 use mathlib.Core.Bool.{Bool, true, false, not, _&&_, _||_}
 use mathlib.Core.List.{List}
 use native.Mathlib.Omega.{arith}
@@ -9,14 +9,16 @@ use borrow.Author.Tests.{lt-ltb, le-ltb}
 use Rattle.model.specs.declared.Layout.{Layout}
 use Rattle.model.specs.declared.Plan.the-variants.{NoCopy, OwnBackup, NewBackup, NoneFree}
 use Rattle.model.specs.Words.{Image, byteAt}
-use Rattle.model.specs.Container.{activeLine, activeState, backupToMain, isPaired, pairedBackup}
+use Rattle.model.specs.Container.{activeLine, activeState, backupToMain, isPaired, pairedBackup, Free}
 use Rattle.model.specs.Session.{isDirty, dirtySegment}
 use Rattle.model.specs.Write.{needsCopy, copyPlan}
 use Rattle.model.proofs.Laws.Container.{any-free}
 use Rattle.session.specs.Parts.{sessionOf}
-use Rattle.metadata.specs.Scan.{Choice, freeBackup}
-use Rattle.metadata.proofs.Laws.{is-paired}
-use Rattle.write.specs.Steps.{Planned}
+use Rattle.metadata.specs.declared.Found.{Found}
+use Rattle.metadata.specs.declared.Found.the-variants.{Missing, Backup}
+use Rattle.metadata.specs.Scan.{freeBackup, foundBelow}
+use Rattle.metadata.proofs.Laws.{is-paired, found-backup, found-missing, free-is-free, free-none}
+use Rattle.write.specs.Steps.{newBackup, Planned}
 
 module _ (l : Layout) (segments : ℕ) (I : Image) (i : ℕ) where
   -- a segment that is dirty or not in state 1 needs no copy
@@ -36,23 +38,27 @@ module _ (l : Layout) (segments : ℕ) (I : Image) (i : ℕ) where
     no-copy h = record { backup = freeBackup l (activeState I) (backupToMain I); rule = refl; plan = λ words. rw (copy-test line dirty e d words, h); to = tt }
 
     module _ (h : (dirty || not (eqb (byteAt I (line + i)) 1)) ≡ false) where
-      pub own-backup : (j : ℕ) → j ≡ pairedBackup l (backupToMain I) i → j < l .backups → Planned l segments I i (OwnBackup j)
+      -- it goes to its own backup segment, or to one that is free, or none is
+      pub own-backup : (j : ℕ) → Backup j ≡ foundBelow (l .backups) (pairedBackup l (backupToMain I) i) → Planned l segments I i (OwnBackup j)
       unfolding copyPlan
-      own-backup j p q =
-          let x : isPaired l (backupToMain I) i ≡ true = is-paired l (backupToMain I) i ∙ lt-ltb (pairedBackup l (backupToMain I) i) (l .backups) (omega arith) in
-          record { backup = freeBackup l (activeState I) (backupToMain I); rule = refl; plan = λ words. rw (copy-test line dirty e d words, h, x) (ap OwnBackup p); to = q }
+      own-backup j p =
+          let q = found-backup (l .backups) (pairedBackup l (backupToMain I) i) j p in
+          let x : isPaired l (backupToMain I) i ≡ true = is-paired l (backupToMain I) i ∙ lt-ltb _ _ (q .1) in
+          record { backup = freeBackup l (activeState I) (backupToMain I); rule = refl; plan = λ words. rw (copy-test line dirty e d words, h, x) (ap OwnBackup (q .0)); to = omega arith }
 
-      module _ (own : ℕ) (p : own ≡ pairedBackup l (backupToMain I) i) (q : l .backups ≤ own) (j : ℕ) (c : Choice l (activeState I) (backupToMain I) j) where
-        unpaired : isPaired l (backupToMain I) i ≡ false
-        unpaired = is-paired l (backupToMain I) i ∙ le-ltb (pairedBackup l (backupToMain I) i) (l .backups) (omega arith)
+      pub new-backup : Missing ≡ foundBelow (l .backups) (pairedBackup l (backupToMain I) i)
+          → (r : Found) → r ≡ foundBelow (l .backups) (freeBackup l (activeState I) (backupToMain I)) → Planned l segments I i (newBackup r)
+      unfolding copyPlan newBackup
+      new-backup p = go
+        where
+          alone : isPaired l (backupToMain I) i ≡ false
+          alone = is-paired l (backupToMain I) i ∙ le-ltb _ _ (found-missing (l .backups) (pairedBackup l (backupToMain I) i) p)
 
-        pub new-backup : j < l .backups → Planned l segments I i (NewBackup j)
-        unfolding copyPlan
-        new-backup b =
-            let f = c .free b in
-            record { backup = j; rule = c .chosen; plan = λ words. rw (copy-test line dirty e d words, h, unpaired, any-free l (activeState I) (backupToMain I) .1 (j, f)); to = f }
-
-        pub none-free : l .backups ≤ j → Planned l segments I i NoneFree
-        unfolding copyPlan
-        none-free b =
-            record { backup = j; rule = c .chosen; plan = λ words. rw (copy-test line dirty e d words, h, unpaired, c .none (omega (arith, c .most))); to = tt }
+          go : (r : Found) → r ≡ foundBelow (l .backups) (freeBackup l (activeState I) (backupToMain I)) → Planned l segments I i (newBackup r)
+          go Missing c =
+              let n = free-none l (activeState I) (backupToMain I) (found-missing (l .backups) (freeBackup l (activeState I) (backupToMain I)) c) in
+              record { backup = freeBackup l (activeState I) (backupToMain I); rule = refl; plan = λ words. rw (copy-test line dirty e d words, h, alone, n); to = tt }
+          go (Backup j) c =
+              let q = found-backup (l .backups) (freeBackup l (activeState I) (backupToMain I)) j c in
+              let f : Free l (activeState I) (backupToMain I) j = subst (Free l (activeState I) (backupToMain I)) (sym (q .0)) (free-is-free l (activeState I) (backupToMain I) (q .1)) in
+              record { backup = j; rule = q .0; plan = λ words. rw (copy-test line dirty e d words, h, alone, any-free l (activeState I) (backupToMain I) .1 (j, f)); to = f }

@@ -17,6 +17,8 @@ use Rattle.model.specs.Session.{dirtyWord, contextErrors}
 use Rattle.model.specs.Ops.{Ops, Trace, stores, traceErrors}
 use Rattle.model.specs.Outcome.{Gives}
 use Rattle.model.specs.Write.{WriteArgs, copyPlan, spanErrors, backupErrors, writeOutcome, Chosen}
+use Rattle.metadata.specs.declared.Found.{Found}
+use Rattle.metadata.specs.declared.Found.the-variants.{Missing, Backup}
 use Rattle.metadata.specs.Scan.{freeBackup}
 use Rattle.session.specs.Parts.{sessionOf}
 
@@ -65,6 +67,11 @@ CopiesTo l I NoCopy = Unit {0}
 CopiesTo l I (OwnBackup j) = j < l .backups
 CopiesTo l I (NewBackup j) = Free l (activeState I) (backupToMain I) j
 CopiesTo l I NoneFree = Unit {0}
+
+-- the plan by what the search for a free backup segment found
+unfoldable pub newBackup : Found → Plan
+newBackup Missing = NoneFree
+newBackup (Backup j) = NewBackup j
 
 -- the plan of a write to main segment i, with `backup` for the new backup segment, which is the lowest unpaired one, else the
 -- lowest free one, by any session with this layout and this

@@ -1,6 +1,7 @@
 // Write (document 01: Write): the bytes of a span come to stand in a block of a main segment. Before its first store to a
 // segment that holds its checkpoint itself, the segment is copied to a backup segment (copy on write). Every function
 // `put_..` writes its operations from number n on and answers the number of the next one.
+use metadata::Found;
 use model::Answer;
 use model::Layout;
 use model::Plan;
@@ -20,7 +21,7 @@ ghost use Rattle.model.specs.Outcome.{Gives};
 ghost use Rattle.model.specs.Write.{writeArgsOf, copies, noneFree, pairOps, backupOps, stateOps, copyOnWriteOps, spanWords, spanBad, writeOutcome, Chosen, spanStores};
 ghost use Rattle.trace.specs.Emit.{Fits, Emitted};
 ghost use Rattle.session.specs.Parts.{sessionOf};
-ghost use Rattle.write.specs.Steps.{earlyErrors, lateErrors, Ready, CopiesTo, Planned, wordStores};
+ghost use Rattle.write.specs.Steps.{earlyErrors, lateErrors, Ready, CopiesTo, newBackup, Planned, wordStores};
 
 // Bytes of a word, as indexes count them.
 const WORD_SIZE: usize = Layout::WORD_SIZE as usize;
@@ -162,6 +163,16 @@ pub fn put_span(image: &[u8], at: usize, bytes: &[u8], trace: &mut [u64], n: usi
 
 // ---- the plan
 
+// The plan of a copy to a new backup segment, by the search for one that is free.
+fn new_backup(found: Found) -> Plan
+    ensures { λ r. ⌜ r ≡ newBackup found ⌝ }
+{
+    match found {
+        Found::Missing => Plan::NoneFree,
+        Found::Backup(backup) => Plan::NewBackup(backup),
+    }
+}
+
 // Whether a main segment is to be copied, and to which backup segment: its own, or the lowest that is unpaired, else the
 // lowest that is free.
 pub fn plan_copy(image: &[u8], layout: Layout, segments: u64, main: u64) -> Plan
@@ -175,14 +186,10 @@ pub fn plan_copy(image: &[u8], layout: Layout, segments: u64, main: u64) -> Plan
         return Plan::NoCopy;
     }
     let own = metadata::find_paired_backup(image, layout, main);
-    if own < layout.backups {
-        return Plan::OwnBackup(own);
+    match own {
+        Found::Backup(backup) => Plan::OwnBackup(backup),
+        Found::Missing => new_backup(metadata::find_free_backup(image, layout)),
     }
-    let new = metadata::find_free_backup(image, layout);
-    if new < layout.backups {
-        return Plan::NewBackup(new);
-    }
-    Plan::NoneFree
 }
 
 // Whether the plan copies the segment.

@@ -1,23 +1,16 @@
 use Prim.Native.Nat.{ℕ}
-use mathlib.Core.Path.{ap}
+use mathlib.Core.Path.{_∙_, ap}
 use native.Mathlib.Omega.{arith}
 use borrow.Author.Needs.{needs}
 use Rattle.model.specs.Layout.{stateLine}
 use Rattle.metadata.proofs.active_at.Statement.{statement}
 use Rattle.metadata.proofs.active_at.Tie as tie
 
-word-at-requires : tie.Need-word-at-requires
-word-at-requires c κs = search needs
-
-mul-result : tie.Need-mul-result
-mul-result c = search needs
-
-add-result : tie.Need-add-result
-add-result c = search needs
+line-at-requires : tie.Need-line-at-requires
+line-at-requires c κs = search needs
 
 returns : tie.Need-returns
-unfolding stateLine
-returns c = (ap (λ (e : ℕ). stateLine e) (c .word-at .ensures), omega arith, omega arith)
+returns c = (c .line-at .ensures .0 ∙ ap (λ (e : ℕ). stateLine e) (omega arith), omega arith, omega arith)
 
 pub active-at-spec : {M : Type 1} → statement M
-active-at-spec = tie.close (tie.spec word-at-requires mul-result add-result returns)
+active-at-spec = tie.close (tie.spec line-at-requires returns)

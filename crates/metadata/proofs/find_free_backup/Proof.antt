@@ -1,49 +1,67 @@
-use Prim.Native.Nat.{ℕ, _≤_, _<_}
-use mathlib.Core.Path.{_∙_, sym, ap, subst}
+use Prim.Native.Nat.{ℕ}
+use mathlib.Core.Path.{_≡_, _∙_, sym, ap}
 use native.Mathlib.Omega.{arith}
+use native.Mathlib.Nat.{zero-add}
 use borrow.Author.Needs.{needs}
-use Rattle.model.specs.Container.{backupToMain, activeState, segState}
+use Rattle.model.specs.Layout.{stateLine}
 use Rattle.model.specs.Range.{firstB}
-use Rattle.metadata.proofs.Laws.{choice, free-alone, free-idle, idle, none-alone}
+use Rattle.model.specs.Container.{activeLine, activeState, backupToMain, segState}
+use Rattle.metadata.specs.Scan.{foundBelow}
+use Rattle.metadata.proofs.Laws.{found-backup, found-missing, free-alone, free-idle, idle, none-alone}
 use Rattle.metadata.proofs.find_free_backup.Statement.{statement}
 use Rattle.metadata.proofs.find_free_backup.Tie as tie
 
 find-paired-backup-requires : tie.Need-find-paired-backup-requires
 find-paired-backup-requires c κs = search needs
 
-returns : tie.Need-returns
-returns c =
-    let b = c .before .before in
-    let g = b .before .before .args in
-    let l = g .layout in
-    let st = activeState (g .image .now) in
-    let pr = backupToMain (g .image .now) in
-    let a = b .find-paired-backup .ensures .0 in
-    choice l st pr _ (a ∙ sym (free-alone l st pr (subst (λ (n : ℕ). n < l .backups) a (c .if1 .taken))))
+enum-told : tie.Need-enum-told
+enum-told c = search needs
 
-active-at-requires : tie.Need-active-at-requires
-active-at-requires c κs = search needs
+line-at-requires : tie.Need-line-at-requires
+line-at-requires c κs = search needs
 
 find-unused-backup-requires : tie.Need-find-unused-backup-requires
 find-unused-backup-requires c κs =
-    let b = c .before .before .before in
-    let f = b .before .before in
+    let d = c .before .before .before in
+    let f = d .before .before in
     let l = f .args .layout in
     let I = f .args .image .now in
-    (omega arith, λ j h. omega (arith, none-alone l (activeState I) (backupToMain I) (f .pre .1) (omega (arith, b .find-paired-backup .ensures .0)) j h))
+    let m = found-missing _ _ (sym (c .before .enum-told .given .1) ∙ d .find-paired-backup .ensures) in
+    (omega arith, λ j h. omega (arith, none-alone l (activeState I) (backupToMain I) (f .pre .1) m j h))
+
+enum-known-alone : tie.Need-enum-known-alone
+enum-known-alone c = search needs
+
+returns : tie.Need-returns
+returns c =
+    let v = c .before in
+    let d = v .before .before .before in
+    let f = d .before .before in
+    let l = f .args .layout in
+    let I = f .args .image .now in
+    let st = activeState I in
+    let pr = backupToMain I in
+    let m = found-missing _ _ (sym (v .before .enum-told .given .1) ∙ d .find-paired-backup .ensures) in
+    let a : v .line-at .result ≡ activeLine I = v .line-at .ensures .0 ∙ ap (λ (e : ℕ). stateLine e) (zero-add _) in
+    c .find-unused-backup .ensures ∙ ap (λ (n : ℕ). foundBelow (l .backups) (firstB (l .backups) (idle l (segState I n) pr))) a
+    ∙ ap (foundBelow (l .backups)) (sym (free-idle l st pr m))
 
 returns-2 : tie.Need-returns-2
 returns-2 c =
-    let b = c .before .before .before .before in
-    let g = b .before .before .args in
-    let l = g .layout in
+    let d = c .before .before .before in
+    let g = d .before .before .args in
     let I = g .image .now in
-    let st = activeState I in
-    let pr = backupToMain I in
-    let a = b .find-paired-backup .ensures .0 in
-    choice l st pr _
-    (c .find-unused-backup .ensures .0 ∙ ap (λ (n : ℕ). firstB (l .backups) (idle l (segState I n) pr)) (c .before .active-at .ensures .0)
-    ∙ sym (free-idle l st pr (subst (λ (n : ℕ). l .backups ≤ n) a (c .before .before .if1 .left))))
+    let h = sym (c .before .alone .given .1) ∙ d .find-paired-backup .ensures in
+    h ∙ ap (foundBelow (g .layout .backups)) (sym (free-alone (g .layout) (activeState I) (backupToMain I) (found-backup _ _ _ h .1)))
 
 pub find-free-backup-spec : {M : Type 1} → statement M
-find-free-backup-spec = tie.close (tie.spec find-paired-backup-requires returns active-at-requires find-unused-backup-requires returns-2)
+find-free-backup-spec =
+    tie.close
+    (tie.spec
+    find-paired-backup-requires
+    enum-told
+    line-at-requires
+    find-unused-backup-requires
+    enum-known-alone
+    returns
+    returns-2)

@@ -8,7 +8,7 @@ use borrow.Author.Count.{below-none, below-more}
 use borrow.Author.Needs.{needs}
 use Rattle.model.proofs.Laws.Range.{first-none}
 use Rattle.model.specs.Container.{backupToMain, segState}
-use Rattle.metadata.proofs.Laws.{first-found}
+use Rattle.metadata.proofs.Laws.{first-found, found-at, found-none}
 use Rattle.metadata.proofs.find_unused_backup.Statement.{statement}
 use Rattle.metadata.proofs.find_unused_backup.Tie as tie
 
@@ -35,7 +35,8 @@ paired-state-requires c κs =
 returns : tie.Need-returns Inv-loop μ-loop
 returns c =
     let b = c .before .before .before .before in
-    (sym (first-found _ _ (b .loop .j) (c .before .before .before .loop-test .taken) (b .loop .inv .1) (ap not (ne-eqb _ _ (λ e. c .if1 .taken (c .before .paired-state .ensures ∙ e))))), omega arith)
+    let l = c .before .before .before .loop-test .taken in
+    found-at _ _ _ l (first-found _ _ (b .loop .j) l (b .loop .inv .1) (ap not (ne-eqb _ _ (λ e. c .if1 .taken (c .before .paired-state .ensures ∙ e)))))
 
 add-j : tie.Need-add-j Inv-loop μ-loop
 add-j c = search needs
@@ -49,7 +50,10 @@ loop-again c =
     (omega arith, below-more _ _ (b .loop .inv .1) (ap not (eq-eqb _ _ (sym (c .before .paired-state .ensures) ∙ c .if1 .left))))
 
 returns-2 : tie.Need-returns-2 Inv-loop μ-loop
-returns-2 c = (sym (first-none _ _ (λ k h. c .before .loop .inv .1 k (omega arith))), omega arith)
+returns-2 c =
+    let a = c .before .before .before .args in
+    let none : (k : ℕ) → k < a .layout .backups → not (eqb (segState (a .image .now) (a .line) (backupToMain (a .image .now) k)) 2) ≡ false = λ k h. c .before .loop .inv .1 k (omega arith) in
+    found-none _ _ (omega (arith, first-none _ _ none))
 
 pub find-unused-backup-spec : {M : Type 1} → statement M
 find-unused-backup-spec =

@@ -1,5 +1,7 @@
+use mathlib.Core.Path.{_∙_, sym, subst}
 use borrow.Author.Needs.{needs}
-use Rattle.write.proofs.PlanLaws.{no-copy, own-backup, new-backup, none-free}
+use Rattle.write.specs.Steps.{Planned}
+use Rattle.write.proofs.PlanLaws.{no-copy, own-backup, new-backup}
 use Rattle.write.proofs.plan_copy.Statement.{statement}
 use Rattle.write.proofs.plan_copy.Tie as tie
 
@@ -24,31 +26,36 @@ returns c =
 find-paired-backup-requires : tie.Need-find-paired-backup-requires
 find-paired-backup-requires c κs = search needs
 
-returns-2 : tie.Need-returns-2
-returns-2 c =
-    let g = c .before .before in
-    let b = g .before .before .before in
-    let a = b .before .before .before .args in
-    own-backup (a .layout) (a .segments) (a .image .now) (a .main) _ _ (b .before .active-at .ensures .0) (b .is-dirty .ensures) (g .before .if1 .left) _ (g .find-paired-backup .ensures .0) (c .if2 .taken)
+enum-known-own : tie.Need-enum-known-own
+enum-known-own c = search needs
+
+enum-told : tie.Need-enum-told
+enum-told c = search needs
 
 find-free-backup-requires : tie.Need-find-free-backup-requires
 find-free-backup-requires c κs = search needs
 
+new-backup-requires : tie.Need-new-backup-requires
+new-backup-requires c κs = search needs
+
+returns-2 : tie.Need-returns-2
+returns-2 c =
+    let g = c .before .before .before in
+    let b = g .before .before .before in
+    let a = b .before .before .before .args in
+    own-backup (a .layout) (a .segments) (a .image .now) (a .main) _ _ (b .before .active-at .ensures .0) (b .is-dirty .ensures) (g .before .if1 .left) _
+    (sym (c .before .own .given .1) ∙ g .find-paired-backup .ensures)
+
 returns-3 : tie.Need-returns-3
 returns-3 c =
-    let f = c .before .before in
+    let f = c .before in
     let g = f .before .before .before in
     let b = g .before .before .before in
     let a = b .before .before .before .args in
-    new-backup (a .layout) (a .segments) (a .image .now) (a .main) _ _ (b .before .active-at .ensures .0) (b .is-dirty .ensures) (g .before .if1 .left) _ (g .find-paired-backup .ensures .0) (f .before .if2 .left) _ (f .find-free-backup .ensures) (c .if3 .taken)
-
-returns-4 : tie.Need-returns-4
-returns-4 c =
-    let f = c .before .before in
-    let g = f .before .before .before in
-    let b = g .before .before .before in
-    let a = b .before .before .before .args in
-    none-free (a .layout) (a .segments) (a .image .now) (a .main) _ _ (b .before .active-at .ensures .0) (b .is-dirty .ensures) (g .before .if1 .left) _ (g .find-paired-backup .ensures .0) (f .before .if2 .left) _ (f .find-free-backup .ensures) (c .if3 .left)
+    let p =
+    new-backup (a .layout) (a .segments) (a .image .now) (a .main) _ _ (b .before .active-at .ensures .0) (b .is-dirty .ensures) (g .before .if1 .left)
+    (sym (f .before .enum-told .given .1) ∙ g .find-paired-backup .ensures) _ (f .find-free-backup .ensures)
+    in subst (Planned (a .layout) (a .segments) (a .image .now) (a .main)) (sym (c .new-backup .ensures)) p
 
 pub plan-copy-spec : {M : Type 1} → statement M
 plan-copy-spec =
@@ -60,7 +67,9 @@ plan-copy-spec =
     shared-slice-read-state
     returns
     find-paired-backup-requires
-    returns-2
+    enum-known-own
+    enum-told
     find-free-backup-requires
-    returns-3
-    returns-4)
+    new-backup-requires
+    returns-2
+    returns-3)
