@@ -3,6 +3,8 @@ pub mod Persist
 pub mod Phases
 pub mod Settled
 pub mod Runs
+pub mod Holds
+pub mod GivenBackup
 pub mod View
 pub mod Invariant
 pub mod Recovery

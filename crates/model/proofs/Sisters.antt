@@ -15,7 +15,8 @@ use Rattle.model.specs.EpochCounts.{checkpoints, EpochCounts}
 use Rattle.model.specs.Sisters.{ReadsFollowModel, OpeningSettles, OpeningSafety}
 use Rattle.model.proofs.Argument.Settled.{settled-off}
 use Rattle.model.proofs.Laws.Crash.Images.{newest, settled-only}
-use Rattle.model.proofs.Argument.Recovery.{meta, open-clear, recovery-keeps}
+use Rattle.model.proofs.Argument.Recovery.{meta, recovery-keeps}
+use Rattle.model.proofs.Argument.Recovery.Opening.{open-clear}
 use Rattle.model.proofs.Argument.Pages.{contentsOf, reads}
 use Rattle.model.proofs.Argument.Stands.{Stands, low-epoch}
 use Rattle.model.proofs.Argument.Openings.{open-served, opened-is, openings-keep, recovers, starting, starting-whole, start-stands}

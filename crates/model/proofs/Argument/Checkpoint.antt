@@ -1,9 +1,10 @@
 -- Checkpoint: crashed before its epoch store it leaves what recovers to the old contents, crashed later to the old or the
 -- new ones, and played whole to the new ones.
-use Prim.Native.Nat.{ℕ, zero, suc, _+_, _-_, _*_, _^_, _/_, _%_, _≤_, _<_}
+pub mod BeforeEpoch
+use Prim.Native.Nat.{ℕ, zero, suc, _+_, _-_, _^_, _/_, _≤_, _<_}
 use mathlib.Core.Path.{_≡_, refl, sym, ap, _∙_, subst}
 use mathlib.Core.Logic.{_≢_, _⊎_, inl, inr, ⊎-elim}
-use mathlib.Core.Bool.{Bool, true, false, cond, true≢false}
+use mathlib.Core.Bool.{Bool, true, false, true≢false}
 use mathlib.Core.List.{[], _∷_, _++_, append-assoc}
 use native.Mathlib.Decide.{decLe, decLt, ℕ-discrete}
 use native.Mathlib.Omega.{arith}
@@ -11,140 +12,23 @@ use lib.ListN.{length, take}
 use lib.Seq.{take-append-le}
 use Rattle.model.specs.declared.Layout.{Layout}
 use Rattle.model.specs.declared.Session.{Session}
-use Rattle.model.specs.Range.{cat}
-use Rattle.model.specs.Words.{Image, byteAt, Bytes, wordOf}
+use Rattle.model.specs.Words.{Image, byteAt, Bytes}
 use Rattle.model.specs.Layout.{stateLine, segmentSize, mainAt, backupAt}
 use Rattle.model.specs.Container.{activeState, committedEpoch, activeLine, inactiveLine, backupToMain}
-use Rattle.model.specs.Session.{isDirty, dirtyWord, dirtySegment, dirtyBlock, withCheckpoint}
-use Rattle.model.specs.Ops.{store, clwb, sfence, Ops, apply, replay, stores, clwbs}
-use Rattle.model.specs.Checkpoint.{flushDirty, nextState, nextStates, statesOps, checkpointOps}
+use Rattle.model.specs.Session.{isDirty, dirtySegment, dirtyBlock, withCheckpoint}
+use Rattle.model.specs.Ops.{store, clwb, sfence, Ops, apply, replay}
+use Rattle.model.specs.Checkpoint.{nextState, nextStates, checkpointOps}
 use Rattle.model.specs.Crash.{AgreeOn, CrashImage}
-use Rattle.model.proofs.Laws.Words.{byte-of-word, word-cong, word-stored}
-use Rattle.model.proofs.Argument.Persist.{Misses, Clear, each-append, each-take, length-replay, replay-clear, replay-append, replay-small}
-use Rattle.model.specs.CrashExact.{Each}
-use Rattle.model.proofs.Argument.Settled.{Settled, Off, Flushed, crash-byte, crash-bytes, local-crash, stage-one, settled-more, keeps-off, Settles, settles-then, settles-after, settles-fence, take-past}
-use Rattle.model.proofs.Argument.Runs.{Puts, puts-clear, puts-then, puts-stores, each-cat, clwbs-none, neat-none, flushed-cat, flushed-clwbs}
-use Rattle.model.proofs.Laws.Layout.{metadata-inside, state-line-low, state-line-high, state-line-whole, state-line-next}
+use Rattle.model.proofs.Laws.Words.{word-cong, word-stored}
+use Rattle.model.proofs.Argument.Persist.{Misses, Clear, each-take, length-replay, replay-clear, replay-append, replay-small}
+use Rattle.model.proofs.Argument.Settled.{Settled, crash-byte, crash-bytes, local-crash, stage-one, settled-more, settles-after, settles-fence, take-past}
+use Rattle.model.proofs.Laws.Layout.{metadata-inside}
 use Rattle.model.proofs.Laws.Session.{checkpoint-segment, checkpoint-block}
-use Rattle.model.proofs.Argument.Phases.{blocksPhase, statesPhase, epochPhase, beforeEpoch, checkpoint-phases}
-use Rattle.model.proofs.Argument.View.{Contents, Recoverable, recoverable-alike, recovers-at, fit-cong, holds-next}
+use Rattle.model.proofs.Argument.Phases.{epochPhase, beforeEpoch, checkpoint-phases}
+use Rattle.model.proofs.Argument.View.{Recoverable, recoverable-alike, recovers-at, fit-cong}
+use Rattle.model.proofs.Argument.Holds.{Contents, holds-next}
 use Rattle.model.proofs.Argument.Invariant.{Invariant}
-
--- ---- the dirty blocks: nothing is stored, and their lines are written back
-
-module _ (s : Session) where
-  abbrev l : Layout
-  l = s .layout
-
-  abbrev dirtyOps : Ops
-  dirtyOps = flushDirty (s .layout) (s .«dirty_blocks»)
-
-  abbrev next : (ℕ → ℕ) → ℕ → ℕ
-  next st = nextStates (s .«dirty_segments») st
-
-  block-ops : ℕ → ℕ → Ops
-  block-ops i b = cond (isDirty (dirtyWord s i) b) (clwbs 4 (mainAt l i + 256 * b)) []
-
-  block-none : (Q : ℕ → Type 0) (i b : ℕ) → Each Q (block-ops i b)
-  unfolding block-ops
-  block-none Q i b = go (isDirty (dirtyWord s i) b)
-    where
-      go : (d : Bool) → Each Q (cond d (clwbs 4 (mainAt l i + 256 * b)) [])
-      go true = clwbs-none Q 4 (mainAt l i + 256 * b)
-      go false = tt
-
-  segment-none : (Q : ℕ → Type 0) (i : ℕ) → Each Q (cat (l .blocks) (block-ops i))
-  segment-none Q i = each-cat Q (l .blocks) (block-ops i) (λ b h. block-none Q i b)
-
-  dirty-none : (Q : ℕ → Type 0) → Each Q dirtyOps
-  unfolding flushDirty block-ops
-  dirty-none Q = each-cat Q (l .mains) (λ i. cat (l .blocks) (block-ops i)) (λ i h. segment-none Q i)
-
-  dirty-flushed : (i b ℓ : ℕ) → i < l .mains → b < l .blocks → dirtyBlock s i b ≡ true → mainAt l i + 256 * b ≤ 64 * ℓ → 64 * ℓ < mainAt l i + 256 * b + 256
-      → Flushed ℓ dirtyOps
-  unfolding flushDirty block-ops dirtyBlock
-  dirty-flushed i b ℓ h k d x y =
-      flushed-cat ℓ (l .mains) (λ i. cat (l .blocks) (block-ops i)) (λ m z. neat-none _ (λ Q. segment-none Q m)) i h
-      (flushed-cat ℓ (l .blocks) (block-ops i) (λ m z. neat-none _ (λ Q. block-none Q i m)) b k
-      (rw d (flushed-clwbs ℓ 4 (mainAt l i + 256 * b) (omega arith) x (omega arith))))
-
-  blocks-none : (Q : ℕ → Type 0) → Each Q (blocksPhase s)
-  blocks-none Q = each-append Q dirtyOps (sfence ∷ []) (dirty-none Q) tt
-
-  -- ---- the inactive line
-
-  module _ (I : Image) (bytes : Bytes I) where
-    abbrev idle : ℕ
-    idle = inactiveLine I
-
-    next-small : (i : ℕ) → next (activeState I) i < 256
-    next-small i = go (isDirty (s .«dirty_segments») i)
-      where
-        go : (b : Bool) → nextState (activeState I i) b < 256
-        go true = unfold nextState in (omega arith)
-        go false = unfold nextState in (bytes (activeLine I + i))
-
-    -- the states' phase leaves the next states on the inactive line
-    states-put : Puts (statesPhase s I) idle 64 (λ k. next (activeState I) (k - idle))
-    unfolding statesOps
-    states-put =
-        puts-then (stores 8 idle w ++ clwb idle ∷ []) (sfence ∷ []) idle 64 g
-        (puts-then (stores 8 idle w) (clwb idle ∷ []) idle 64 g
-        (puts-stores 8 idle w g (λ k b x y. byte-of-word (next (activeState I)) (8 * k) b next-small y ∙ ap (next (activeState I)) (omega arith))) tt) tt
-      where
-        g : ℕ → ℕ
-        g k = next (activeState I) (k - idle)
-
-        w : ℕ → ℕ
-        w k = wordOf (next (activeState I)) (8 * k)
-
-    -- where the two lines of states stand
-    lines : (idle % 64 ≡ 0) × (activeLine I % 64 ≡ 0) × (activeLine I + idle ≡ 320) × (128 ≤ idle) × (idle ≤ 192)
-    lines = (
-      state-line-whole (suc (committedEpoch I)),
-      state-line-whole (committedEpoch I),
-      state-line-next (committedEpoch I),
-      state-line-low (suc (committedEpoch I)),
-      state-line-high (suc (committedEpoch I)),
-    )
-
-    abbrev X : Ops
-    X = beforeEpoch s I
-
-    before-clear : (k : ℕ) → (k < idle) ⊎ (idle + 64 ≤ k) → Clear k X
-    before-clear k h = each-append (Misses k) (blocksPhase s) (statesPhase s I) (blocks-none (Misses k)) (puts-clear states-put k h)
-
-    before-off : (ℓ : ℕ) → ℓ ≢ idle / 64 → Off ℓ X
-    before-off ℓ h k e = before-clear k (go (decLt k idle))
-      where
-        go : Dec (k < idle) → (k < idle) ⊎ (idle + 64 ≤ k)
-        go (yes d) = inl d
-        go (no d) = inr (let p : idle % 64 ≡ 0 = lines .0 in omega arith)
-
-    idle-settles : Settles (idle / 64) X
-    unfolding statesOps
-    idle-settles = settles-after (idle / 64) (blocksPhase s) _
-        (settles-fence (idle / 64) (stores 8 idle w ++ clwb idle ∷ [])
-        (record { A = stores 8 idle w; C = []; p = idle; place = refl; off = λ i e. tt; is = refl }))
-      where
-        w : ℕ → ℕ
-        w k = wordOf (next (activeState I)) (8 * k)
-
-    dirty-settles : (i x : ℕ) → i < l .mains → x < segmentSize l → dirtyBlock s i (x / 256) ≡ true → Settles ((mainAt l i + x) / 64) X
-    dirty-settles i x h k d =
-        let ℓ : ℕ = (mainAt l i + x) / 64 in
-        settles-then ℓ (blocksPhase s) (statesPhase s I)
-        (settles-fence ℓ dirtyOps (dirty-flushed i (x / 256) ℓ h (omega arith) d (omega arith) (omega arith)))
-        (keeps-off ℓ (statesPhase s I) (λ m e. puts-clear states-put m (inr (omega (arith, lines)))))
-
-    -- the image after the first two phases
-    before-same : (k : ℕ) → (k < idle) ⊎ (idle + 64 ≤ k) → byteAt (replay X I) k ≡ byteAt I k
-    before-same k h = replay-clear X I k (before-clear k h)
-
-    before-states : (i : ℕ) → 512 ≤ length I → i < 64 → byteAt (replay X I) (idle + i) ≡ next (activeState I) i
-    before-states i n h = ap (λ (J : Image). byteAt J (idle + i)) (replay-append (blocksPhase s) (statesPhase s I) I)
-        ∙ states-put .leaves (replay (blocksPhase s) I) (idle + i) (omega (arith, length-replay (blocksPhase s) I, lines)) (omega arith) (omega arith)
-        ∙ ap (next (activeState I)) (omega arith)
+use Rattle.model.proofs.Argument.Checkpoint.BeforeEpoch.{lines, before-clear, before-off, idle-settles, dirty-settles, before-same, before-states}
 
 module _ (O : Ops) (I₀ : Image) (s : Session) (P W : Contents) (held : Bytes I₀) (inv : Invariant (s .layout) O (replay O I₀) s P W) where
   abbrev lay : Layout

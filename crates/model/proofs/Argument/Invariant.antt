@@ -12,7 +12,8 @@ use Rattle.model.specs.Container.{activeState, backupToMain}
 use Rattle.model.specs.Session.{dirtySegment, dirtyBlock}
 use Rattle.model.specs.Ops.{Ops}
 use Rattle.model.proofs.Argument.Settled.{Settled}
-use Rattle.model.proofs.Argument.View.{Contents, Recoverable}
+use Rattle.model.proofs.Argument.View.{Recoverable}
+use Rattle.model.proofs.Argument.Holds.{Contents}
 
 pub record Invariant (l : Layout) (O : Ops) (I : Image) (s : Session) (P W : Contents) : Type 0 where
   -- the image recovers to the checkpoint, and its main segments hold the working state

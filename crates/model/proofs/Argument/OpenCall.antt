@@ -16,7 +16,8 @@ use Rattle.model.specs.History.{Call, Device, State, outcome}
 use Rattle.model.proofs.Laws.Container.{ContainerOk, container-then}
 use Rattle.model.proofs.Laws.Replay.{open-ok}
 use Rattle.model.proofs.Argument.Invariant.{Invariant}
-use Rattle.model.proofs.Argument.Recovery.{meta, open-clear, reopen-crash, reopen-done}
+use Rattle.model.proofs.Argument.Recovery.{meta}
+use Rattle.model.proofs.Argument.Recovery.Opening.{open-clear, reopen-crash, reopen-done}
 use Rattle.model.proofs.Laws.Outcome.{Answered}
 use Rattle.model.proofs.Argument.Stands.{imageOf, checkpointOf, workingOf, Stands, Argument, low-epoch, Appends, inv-at, by-status}
 

@@ -26,9 +26,10 @@ use Rattle.model.proofs.Laws.Same.{length-checkpoint}
 use Rattle.model.proofs.Laws.Ops.{played-ops, replayed-image}
 use Rattle.model.proofs.Laws.Replay.{open-ok}
 use Rattle.model.proofs.Argument.Persist.{replay-small}
-use Rattle.model.proofs.Argument.View.{Contents, Recoverable}
+use Rattle.model.proofs.Argument.View.{Recoverable}
+use Rattle.model.proofs.Argument.Holds.{Contents}
 use Rattle.model.proofs.Argument.Invariant.{Invariant}
-use Rattle.model.proofs.Argument.Recovery.{open-crash, opened-durable}
+use Rattle.model.proofs.Argument.Recovery.Opening.{open-crash, opened-durable}
 use Rattle.model.proofs.Argument.Pages.{contentsOf, Whole, container-of, checkpoint-holds, checkpoint-is, reads}
 use Rattle.model.proofs.Laws.Outcome.{Answered, outcome-served}
 use Rattle.model.proofs.Argument.Stands.{Stands}

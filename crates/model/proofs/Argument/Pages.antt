@@ -22,7 +22,8 @@ use Rattle.model.proofs.Laws.Range.{length-cat}
 use Rattle.model.proofs.Laws.Layout.{segment-in-image}
 use Rattle.model.proofs.Laws.Container.{ContainerOk, container-passes, paired-by, paired-at, paired-once}
 use Rattle.model.proofs.Laws.Same.{length-checkpoint, length-checkpoint-segment}
-use Rattle.model.proofs.Argument.View.{Contents, Holds, Recoverable}
+use Rattle.model.proofs.Argument.View.{Recoverable}
+use Rattle.model.proofs.Argument.Holds.{Contents, Holds}
 
 -- the contents of a page
 abbrev pub contentsOf : Layout → Page → Contents

@@ -1,90 +1,32 @@
 -- Recovery by a line of states: crashed anywhere, it leaves what that line recovers to the same contents; played whole it
--- shows them. An opening is recovery by the active line, and leaves the invariant.
-use Prim.Native.Nat.{ℕ, zero, suc, _+_, _-_, _*_, _/_, _%_, _≤_, _<_}
+-- shows them.
+pub mod Segment
+pub mod Opening
+use Prim.Native.Nat.{ℕ, zero, suc, _+_, _-_, _*_, _/_, _≤_, _<_}
 use mathlib.Core.Path.{_≡_, refl, sym, ap, _∙_, subst}
 use mathlib.Core.Logic.{_≢_, inl}
-use mathlib.Core.Bool.{Bool, true, false, true≢false}
 use mathlib.Core.List.{[], _∷_, _++_}
 use native.Mathlib.Decide.{ℕ-discrete}
 use native.Mathlib.Omega.{arith}
 use lib.ListN.{length, take}
 use Rattle.model.specs.declared.Layout.{Layout}
-use Rattle.model.specs.declared.Session.{Session}
-use Rattle.model.specs.declared.Action.{Action}
-use Rattle.model.specs.declared.Action.the-variants.{Nothing, ZeroMain, CopyToBackup, CopyToMain}
 use Rattle.model.specs.Range.{cat}
-use Rattle.model.specs.Words.{Image, byteAt, Bytes, wordAt}
+use Rattle.model.specs.Words.{Image, byteAt, Bytes}
 use Rattle.model.specs.Layout.{stateLine, segmentSize, mainAt, backupAt}
-use Rattle.model.specs.Container.{activeState, committedEpoch, activeLine, segState, backupToMain, isPaired, pairedBackup, Valid, byState}
-use Rattle.model.specs.Session.{freshSession}
-use Rattle.model.specs.Ops.{sfence, Ops, replay, persistCopy, persistZero, copySegment, zeroSegment}
-use Rattle.model.specs.Open.{recoveryAction, actionOps, recoverSegment, recoveryOps}
+use Rattle.model.specs.Container.{segState, backupToMain}
+use Rattle.model.specs.Ops.{sfence, Ops, replay}
+use Rattle.model.specs.Open.{recoveryOps}
 use Rattle.model.specs.Crash.{CrashImage}
-use Rattle.model.proofs.Laws.Words.{byte-of-word, byte-of-zero}
 use Rattle.model.proofs.Argument.Persist.{Misses, Clear, each-append, each-take, length-replay, replay-clear, replay-append, replay-small}
-use Rattle.model.proofs.Argument.Settled.{Settled, Flushed, crash-byte, crash-bytes, settled-off, Keeps, settles-fence}
-use Rattle.model.proofs.Argument.Runs.{Puts, puts-clear, puts-as, puts-blocks, each-cat, Neat, neat-nil, neat-cat, neat-blocks, flushed-blocks, flushed-cat, neat-keeps}
+use Rattle.model.proofs.Argument.Settled.{Settled, Flushed, crash-byte, crash-bytes, settled-off, Keeps}
+use Rattle.model.proofs.Argument.Runs.{puts-clear, each-cat, neat-cat, flushed-cat, neat-keeps}
 use Rattle.model.proofs.Laws.Layout.{segment-in-image, apart, state-line-high}
-use Rattle.model.proofs.Laws.Container.{paired-at, unpaired-none}
-use Rattle.model.proofs.Laws.Session.{fresh-segment}
-use Rattle.model.proofs.Argument.View.{Contents, RecoverableBy, Recoverable, AlikeBy, Alike, recoverable-alike, alike-state}
-use Rattle.model.proofs.Argument.Invariant.{Invariant}
-
--- ---- a segment copied, and filled with zeros
-
-pub puts-copy : (l : Layout) (I : Image) (from to : ℕ) → Bytes I → Puts (copySegment l I from to) to (segmentSize l) (λ i. byteAt I (from + (i - to)))
-unfolding copySegment persistCopy
-puts-copy l I from to h =
-    puts-blocks (l .blocks) to (λ m k. wordAt I (from + 256 * m + 8 * k)) (λ i. byteAt I (from + (i - to)))
-    (λ m k b x y z. byte-of-word (byteAt I) (from + 256 * m + 8 * k) b h z ∙ ap (λ (n : ℕ). byteAt I n) (omega arith))
-
-puts-zero : (l : Layout) (to : ℕ) → Puts (zeroSegment l to) to (segmentSize l) (λ i. 0)
-unfolding zeroSegment persistZero
-puts-zero l to = puts-blocks (l .blocks) to (λ m k. 0) (λ i. 0) (λ m k b x y z. byte-of-zero b)
-
-pub neat-copy : (l : Layout) (I : Image) (from to : ℕ) → to % 64 ≡ 0 → Neat (copySegment l I from to)
-unfolding copySegment persistCopy
-neat-copy l I from to h = neat-blocks (l .blocks) to (λ m k. wordAt I (from + 256 * m + 8 * k)) h
-
-neat-zero : (l : Layout) (to : ℕ) → to % 64 ≡ 0 → Neat (zeroSegment l to)
-unfolding zeroSegment persistZero
-neat-zero l to h = neat-blocks (l .blocks) to (λ m k. 0) h
-
-flushed-copy : (l : Layout) (I : Image) (from to ℓ : ℕ) → to % 64 ≡ 0 → to ≤ 64 * ℓ → 64 * ℓ < to + segmentSize l → Flushed ℓ (copySegment l I from to)
-unfolding copySegment persistCopy
-flushed-copy l I from to ℓ h x y = flushed-blocks ℓ (l .blocks) to (λ m k. wordAt I (from + 256 * m + 8 * k)) h x y
-
-flushed-zero : (l : Layout) (to ℓ : ℕ) → to % 64 ≡ 0 → to ≤ 64 * ℓ → 64 * ℓ < to + segmentSize l → Flushed ℓ (zeroSegment l to)
-unfolding zeroSegment persistZero
-flushed-zero l to ℓ h x y = flushed-blocks ℓ (l .blocks) to (λ m k. 0) h x y
-
--- ---- what recovery does about one main segment
-
--- its turn writes the contents P into itself (and writes that back), or into its backup, or does nothing
-pub data Treated (l : Layout) (line : ℕ) (I : Image) (P : Contents) (i : ℕ) (O : Ops) : Type 0 where
-  main : segState I line i ≢ 1 → Puts O (mainAt l i) (segmentSize l) (λ k. P i (k - mainAt l i))
-      → ((ℓ : ℕ) → mainAt l i ≤ 64 * ℓ → 64 * ℓ < mainAt l i + segmentSize l → Flushed ℓ O) → Treated l line I P i O
-  backup : (j : ℕ) → j < l .backups → segState I line i ≡ 1 → backupToMain I j ≡ i
-      → Puts O (backupAt l j) (segmentSize l) (λ k. P i (k - backupAt l j)) → Treated l line I P i O
-  idle : segState I line i ≡ 1 → ((j : ℕ) → j < l .backups → backupToMain I j ≢ i) → O ≡ [] → Treated l line I P i O
-
-abbrev turn : Layout → ℕ → Image → ℕ → Ops
-turn l line I i = recoverSegment l I line i
-
--- every turn writes back what it stores
-neat-action : (l : Layout) (I : Image) (i j : ℕ) (a : Action) → Neat (actionOps l I i j a)
-unfolding actionOps
-neat-action l I i j Nothing = neat-nil
-neat-action l I i j ZeroMain = neat-zero l (mainAt l i) (omega arith)
-neat-action l I i j CopyToBackup = neat-copy l I (mainAt l i) (backupAt l j) (omega arith)
-neat-action l I i j CopyToMain = neat-copy l I (backupAt l j) (mainAt l i) (omega arith)
-
-neat-turn : (l : Layout) (line : ℕ) (I : Image) (i : ℕ) → Neat (turn l line I i)
-unfolding recoverSegment
-neat-turn l line I i = neat-action l I i (pairedBackup l (backupToMain I) i) (recoveryAction (segState I line i) (isPaired l (backupToMain I) i))
+use Rattle.model.proofs.Argument.View.{RecoverableBy, AlikeBy}
+use Rattle.model.proofs.Argument.Holds.{Contents}
+use Rattle.model.proofs.Argument.Recovery.Segment.{Treated, turn, neat-turn, treated, main, backup, idle}
 
 -- nothing played leaves every line settled
-settled-nil : (ℓ : ℕ) → Settled ℓ []
+pub settled-nil : (ℓ : ℕ) → Settled ℓ []
 settled-nil ℓ = settled-off ℓ [] (λ i e. tt)
 
 -- the line is one of the two lines of states
@@ -92,34 +34,6 @@ abbrev pub StatesLine : ℕ → Type 0
 StatesLine line = (e : ℕ) × (line ≡ stateLine e)
 
 module _ (l : Layout) (line : ℕ) (whole : StatesLine line) (I : Image) (P : Contents) (r : RecoverableBy l line I P) where
-  pub treated : (i : ℕ) → i < l .mains → Treated l line I P i (turn l line I i)
-  unfolding recoverSegment
-  treated i h = go (segState I line i) (isPaired l (backupToMain I) i) refl refl
-    where
-      pr : ℕ → ℕ
-      pr = backupToMain I
-
-      j : ℕ
-      j = pairedBackup l pr i
-
-      v : Valid l (segState I line) (backupToMain I)
-      v = r .holds .valid
-
-      go : (st : ℕ) (b : Bool) → segState I line i ≡ st → isPaired l (backupToMain I) i ≡ b → Treated l line I P i (actionOps l I i j (recoveryAction st b))
-      go zero true e q = let k = paired-at l (backupToMain I) i q in absurd (v .bare i h e j (k .0) (k .1))
-      go (suc zero) true e q = unfold recoveryAction byState actionOps in (let k = paired-at l (backupToMain I) i q in
-          backup j (k .0) e (k .1) (puts-as _ (puts-copy l I (mainAt l i) (backupAt l j) (r .fit .bytes)) (λ n x y. r .holds .own i (n - backupAt l j) h (omega arith) e)))
-      go (suc (suc n)) true e q = unfold recoveryAction byState actionOps in (let k = paired-at l (backupToMain I) i q in
-          let two : segState I line i ≡ 2 = omega (arith, v .states i h) in
-          main (λ c. omega arith)
-          (puts-as _ (puts-copy l I (backupAt l j) (mainAt l i) (r .fit .bytes)) (λ n x y. r .holds .backup i j (n - mainAt l i) h (k .0) (omega arith) two (k .1)))
-          (λ ℓ x y. flushed-copy l I (backupAt l j) (mainAt l i) ℓ (omega arith) x y))
-      go zero false e q = unfold recoveryAction byState actionOps in (main (λ c. omega arith)
-          (puts-as _ (puts-zero l (mainAt l i)) (λ n x y. sym (r .holds .initial i (n - mainAt l i) h (omega arith) e)))
-          (λ ℓ x y. flushed-zero l (mainAt l i) ℓ (omega arith) x y))
-      go (suc zero) false e q = unfold recoveryAction byState actionOps in (idle e (λ k x. unpaired-none l (backupToMain I) i q k x) refl)
-      go (suc (suc n)) false e q = let k = v .kept i h (omega (arith, v .states i h)) in absurd (unpaired-none l (backupToMain I) i q (k .0) (k .1) (k .2))
-
   -- what recovery does not store to: the metadata, a segment that holds its checkpoint, the backup of one in state 2
   pub data Needed (k : ℕ) : Type 0 where
     meta : k < 512 → Needed k
@@ -153,7 +67,7 @@ module _ (l : Layout) (line : ℕ) (whole : StatesLine line) (I : Image) (P : Co
   pub recovery-clear : (k : ℕ) → Needed k → Clear k E
   unfolding recoveryOps
   recovery-clear k d = each-append (Misses k) (turns (l .mains)) (sfence ∷ [])
-      (each-cat (Misses k) (l .mains) (turn l line I) (λ i h. needed-clear i k _ h d (treated i h))) tt
+      (each-cat (Misses k) (l .mains) (turn l line I) (λ i h. needed-clear i k _ h d (treated l line I P r i h))) tt
 
   -- after the turns of segments below n, a turn of segment i among them left f there if every other leaves that byte alone
   turns-leave : (k y i n : ℕ) → i < n → n ≤ l .mains → ((m : ℕ) → m < l .mains → m ≢ i → Clear k (turn l line I m))
@@ -197,8 +111,8 @@ module _ (l : Layout) (line : ℕ) (whole : StatesLine line) (I : Image) (P : Co
       go : Dec (segState I line i ≡ 1) → byteAt (replay E I) (mainAt l i + x) ≡ P i x
       go (yes e) = replay-clear E I k (recovery-clear k (own i h e (omega arith) (omega arith))) ∙ r .holds .own i x h b e
       go (no e) = recovery-leave k (P i x) i h
-          (λ m y ne. other-clear i m k _ h ne (omega arith) (omega arith) (treated m y))
-          (λ J n. main-turn i k _ J h n e (omega arith) (omega arith) (treated i h) ∙ ap (P i) (omega arith))
+          (λ m y ne. other-clear i m k _ h ne (omega arith) (omega arith) (treated l line I P r m y))
+          (λ J n. main-turn i k _ J h n e (omega arith) (omega arith) (treated l line I P r i h) ∙ ap (P i) (omega arith))
 
   -- an image in which nothing that is needed differs
   alike-of : (H : Image) → length H ≡ length I → Bytes H → ((k : ℕ) → Needed k → byteAt H k ≡ byteAt I k) → AlikeBy l line I H
@@ -247,7 +161,7 @@ module _ (l : Layout) (line : ℕ) (whole : StatesLine line) (I : Image) (P : Co
       (subst (λ (w : ℕ). backupAt l w ≤ k) (sym g) x) (subst (λ (w : ℕ). k < backupAt l w + segmentSize l) (sym g) y))
   backup-turn i j k O J h b e q n x y (idle a c d) = absurd (c j b q)
 
-  backup-shows : (i j x : ℕ) → i < l .mains → j < l .backups → x < segmentSize l → backupToMain I j ≡ i → byteAt (replay E I) (backupAt l j + x) ≡ P i x
+  pub backup-shows : (i j x : ℕ) → i < l .mains → j < l .backups → x < segmentSize l → backupToMain I j ≡ i → byteAt (replay E I) (backupAt l j + x) ≡ P i x
   backup-shows i j x h b c q = go (segState I line i) refl
     where
       k : ℕ
@@ -256,8 +170,8 @@ module _ (l : Layout) (line : ℕ) (whole : StatesLine line) (I : Image) (P : Co
       go : (st : ℕ) → segState I line i ≡ st → byteAt (replay E I) (backupAt l j + x) ≡ P i x
       go zero e = absurd (r .holds .valid .bare i h e j b q)
       go (suc zero) e = recovery-leave k (P i x) i h
-          (λ m y ne. backup-other i j m k _ y ne q (omega arith) (omega arith) (treated m y))
-          (λ J n. backup-turn i j k _ J h b e q n (omega arith) (omega arith) (treated i h) ∙ ap (P i) (omega arith))
+          (λ m y ne. backup-other i j m k _ y ne q (omega arith) (omega arith) (treated l line I P r m y))
+          (λ J n. backup-turn i j k _ J h b e q n (omega arith) (omega arith) (treated l line I P r i h) ∙ ap (P i) (omega arith))
       go (suc (suc n)) e = let two : segState I line i ≡ 2 = omega (arith, r .holds .valid .states i h) in
           replay-clear E I k (recovery-clear k (kept i j h b two q (omega arith) (omega arith))) ∙ r .holds .backup i j x h b c two q
 
@@ -269,100 +183,9 @@ module _ (l : Layout) (line : ℕ) (whole : StatesLine line) (I : Image) (P : Co
 
   pub turns-flushed : (i ℓ : ℕ) → i < l .mains → segState I line i ≢ 1 → mainAt l i ≤ 64 * ℓ → 64 * ℓ < mainAt l i + segmentSize l → Flushed ℓ (turns (l .mains))
   turns-flushed i ℓ h ne x y =
-      flushed-cat ℓ (l .mains) (turn l line I) (λ m z. neat-turn l line I m) i h (main-flushed i ℓ _ ne x y (treated i h))
+      flushed-cat ℓ (l .mains) (turn l line I) (λ m z. neat-turn l line I m) i h (main-flushed i ℓ _ ne x y (treated l line I P r i h))
 
 -- a turn and a fence leave every settled line settled
 pub recovery-keeps : (l : Layout) (line : ℕ) (I : Image) (ℓ : ℕ) → Keeps ℓ (recoveryOps l I line)
 unfolding recoveryOps
 recovery-keeps l line I ℓ = neat-keeps (cat (l .mains) (turn l line I)) (neat-cat (l .mains) (turn l line I) (λ m z. neat-turn l line I m)) ℓ
-
--- ---- an opening: recovery by the active line
-
-module _ (l : Layout) (I : Image) (P : Contents) (r : Recoverable l I P) where
-  abbrev line : ℕ
-  line = activeLine I
-
-  abbrev whole : StatesLine (activeLine I)
-  whole = (committedEpoch I, refl)
-
-  -- what no opening stores to
-  abbrev pub OpenNeeds : ℕ → Type 0
-  OpenNeeds k = Needed l line whole I P r k
-
-  abbrev K : Image
-  K = replay (recoveryOps l I line) I
-
-  pub open-clear : (k : ℕ) → OpenNeeds k → Clear k (recoveryOps l I (activeLine I))
-  open-clear = recovery-clear l line whole I P r
-
-  -- CRASHED: what stands recovers to the same contents
-  pub open-crash : (p : ℕ) (H : Image) → CrashImage I (take p (recoveryOps l I (activeLine I))) H → Recoverable l H P
-  open-crash p H c = recoverable-alike l I H P (crash-alone l line whole I P r p H c) r
-
-  alike : Alike l I K
-  alike = recovery-alike l line whole I P r
-
-  shows : (i x : ℕ) → i < l .mains → x < segmentSize l → byteAt K (mainAt l i + x) ≡ P i x
-  shows = recovery-shows l line whole I P r
-
-  -- the invariant after an opening whose lines are settled
-  pub opened : (O : Ops) → ((i : ℕ) → i < 512 → Settled (i / 64) O)
-      → ((i x : ℕ) → i < l .mains → x < segmentSize l → Settled ((mainAt l i + x) / 64) O)
-      → ((j x : ℕ) → j < l .backups → x < segmentSize l → Settled ((backupAt l j + x) / 64) O)
-      → Invariant l O (replay (recoveryOps l I (activeLine I)) I) (freshSession l) P P
-  opened O firm-meta firm-segment firm-backup = record {
-    recovers = recoverable-alike l I K P alike r;
-    working = shows;
-    low = λ i e. absurd (true≢false (sym e ∙ fresh-segment l i));
-    moved = λ i e. absurd (true≢false (sym e ∙ fresh-segment l i));
-    clean = λ i x h k e. refl;
-    twin = λ i j x h m k e d. backup-shows l line whole I P r i j x h m k (sym (alike .pairs j (omega (arith, r .fit .sizes .1))) ∙ e) ∙ sym (shows i x h k);
-    blank = λ i x h k e d. shows i x h k ∙ r .holds .initial i x h k (sym (alike-state l I K alike i (omega (arith, r .fit .sizes .0))) ∙ e);
-    firmMeta = firm-meta;
-    firmOwn = λ i x h k e. firm-segment i x h k;
-    firmClean = λ i x h k m. firm-segment i x h k;
-    firmBackup = firm-backup;
-  }
-
-  -- the start of a history: all is durable
-  pub opened-durable : Invariant l [] (replay (recoveryOps l I (activeLine I)) I) (freshSession l) P P
-  opened-durable = opened [] (λ i h. settled-nil (i / 64)) (λ i x h k. settled-nil _) (λ j x h k. settled-nil _)
-
--- ---- an opening in the course of a history
-
-module _ (l : Layout) (O : Ops) (I₀ : Image) (s : Session) (P W : Contents) (held : Bytes I₀) (inv : Invariant l O (replay O I₀) s P W) where
-  abbrev I : Image
-  I = replay O I₀
-
-  abbrev G : Ops
-  G = recoveryOps l I (activeLine I)
-
-  abbrev rec : Recoverable l I P
-  rec = inv .recovers
-
-  firm-needed : (k : ℕ) → OpenNeeds l I P rec k → Settled (k / 64) O
-  firm-needed k (meta h) = inv .firmMeta k h
-  firm-needed k (own i h e x y) = let q : mainAt l i + (k - mainAt l i) ≡ k = omega arith in
-      subst (λ (m : ℕ). Settled (m / 64) O) q (inv .firmOwn i (k - mainAt l i) h (omega arith) e)
-  firm-needed k (kept i j h b e d x y) = let q : backupAt l j + (k - backupAt l j) ≡ k = omega arith in
-      subst (λ (m : ℕ). Settled (m / 64) O) q (inv .firmBackup j (k - backupAt l j) b (omega arith))
-
-  pub reopen-crash : (p : ℕ) (H : Image) → CrashImage I₀ (O ++ take p G) H → Recoverable l H P
-  reopen-crash p H c = recoverable-alike l I H P
-      (crash-alike l (activeLine I) (committedEpoch I, refl) I P rec I₀ O refl held firm-needed p H c) rec
-
-  firm-main : (i x : ℕ) → i < l .mains → x < segmentSize l → Settled ((mainAt l i + x) / 64) (O ++ G)
-  firm-main i x h k = go (ℕ-discrete (activeState I i) 1)
-    where
-      ℓ : ℕ
-      ℓ = (mainAt l i + x) / 64
-
-      go : Dec (activeState I i ≡ 1) → Settled ((mainAt l i + x) / 64) (O ++ G)
-      go (yes e) = recovery-keeps l (activeLine I) I ℓ O (inv .firmOwn i x h k e)
-      go (no e) = unfold recoveryOps in (settles-fence ℓ (cat (l .mains) (turn l (activeLine I) I))
-          (turns-flushed l (activeLine I) (committedEpoch I, refl) I P rec i ℓ h e (omega arith) (omega arith)) O)
-
-  pub reopen-done : Invariant l (O ++ G) (replay (O ++ G) I₀) (freshSession l) P P
-  reopen-done = subst (λ (X : Image). Invariant l (O ++ G) X (freshSession l) P P) (sym (replay-append O G I₀))
-      (opened l I P rec (O ++ G) (λ i h. recovery-keeps l (activeLine I) I (i / 64) O (inv .firmMeta i h)) firm-main
-      (λ j x h k. recovery-keeps l (activeLine I) I _ O (inv .firmBackup j x h k)))

@@ -24,7 +24,8 @@ use Rattle.model.proofs.Argument.Runs.{Puts, puts-clear, puts-stores}
 use Rattle.model.proofs.Laws.Layout.{segment-in-image, apart, state-line-high}
 use Rattle.model.proofs.Laws.Session.{dirty-segment-same, dirty-segment-other, dirty-block-same, dirty-block-rest, dirty-block-other}
 use Rattle.model.proofs.Laws.Replay.{span-good}
-use Rattle.model.proofs.Argument.View.{Contents, Recoverable, Alike, recoverable-alike, alike-state}
+use Rattle.model.proofs.Argument.View.{Recoverable, Alike, recoverable-alike, alike-state}
+use Rattle.model.proofs.Argument.Holds.{Contents}
 use Rattle.model.proofs.Argument.Invariant.{Invariant}
 
 -- ---- the session with the c blocks from block b on of main segment i dirty

@@ -30,9 +30,10 @@ use Rattle.model.proofs.Laws.Layout.{image-lines}
 use Rattle.model.proofs.Laws.Ops.{AllOk, played-ops, replayed-image}
 use Rattle.model.proofs.Laws.Words.{word-cong}
 use Rattle.model.proofs.Argument.Persist.{Clear, replay-clear, replay-append}
-use Rattle.model.proofs.Argument.View.{Contents, Recoverable}
+use Rattle.model.proofs.Argument.View.{Recoverable}
+use Rattle.model.proofs.Argument.Holds.{Contents}
 use Rattle.model.proofs.Argument.Invariant.{Invariant}
-use Rattle.model.proofs.Argument.Recovery.{reopen-crash}
+use Rattle.model.proofs.Argument.Recovery.Opening.{reopen-crash}
 use Rattle.model.proofs.Argument.Pages.{contentsOf, Whole}
 use Rattle.model.proofs.Laws.Outcome.{Answered, outcome-served, outcome-refused}
 

@@ -26,10 +26,16 @@ use Rattle.model.proofs.Argument.Settled.{crash-seq}
 use Rattle.model.proofs.Argument.Runs.{puts-clear}
 use Rattle.model.proofs.Laws.Status.{served-condition}
 use Rattle.model.proofs.Laws.Container.{paired-at, unpaired-none, any-free}
-use Rattle.model.proofs.Argument.View.{Contents, Choice, Recoverable}
+use Rattle.model.proofs.Argument.View.{Recoverable}
+use Rattle.model.proofs.Argument.Holds.{Contents}
+use Rattle.model.proofs.Argument.GivenBackup.{Givable}
 use Rattle.model.proofs.Argument.Invariant.{Invariant}
 use Rattle.model.proofs.Argument.Span.{marked, span-crash, span-done, SpanOk, span-within, span-inside, spanFirst, spanWide, span-bounds, span-puts, laid-outside}
-use Rattle.model.proofs.Argument.Copy.{unmarked, Ready, copy-crash, state-clear, state-crash, copy-done, state-two, ready-new, ready-old}
+use Rattle.model.proofs.Argument.Copy.{unmarked, copy-done, state-two}
+use Rattle.model.proofs.Argument.Copy.FirstPart.{Ready, Copying}
+use Rattle.model.proofs.Argument.Copy.NewBackup.{ready-new}
+use Rattle.model.proofs.Argument.Copy.OwnBackup.{ready-old}
+use Rattle.model.proofs.Argument.Copy.Crash.{copy-crash, state-clear, state-crash}
 
 -- ---- the two cases
 
@@ -105,8 +111,8 @@ module _ (O : Ops) (I₀ : Image) (s : Session) (P W : Contents) (held : Bytes I
       go false d = true≢false (sym (both (ap not d) (rw q refl)) ∙ e)
 
   -- the backup segment that is taken: its own, or a free one
-  choice-new : (j : ℕ) → needsCopy s I i ≡ true → isPaired l (backupToMain I) i ≡ false → Free l (activeState I) (backupToMain I) j → Choice l (activeState I) (backupToMain I) i j
-  choice-new j e q f = record {
+  givable-new : (j : ℕ) → needsCopy s I i ≡ true → isPaired l (backupToMain I) i ≡ false → Free l (activeState I) (backupToMain I) j → Givable l (activeState I) (backupToMain I) i j
+  givable-new j e q f = record {
     main = ok .main;
     below = f .0;
     holds = copy-needed s I i e .1;
@@ -114,8 +120,8 @@ module _ (O : Ops) (I₀ : Image) (s : Session) (P W : Contents) (held : Bytes I
     sole = λ k h ne. unpaired-none l (backupToMain I) i q k h;
   }
 
-  choice-old : needsCopy s I i ≡ true → isPaired l (backupToMain I) i ≡ true → Choice l (activeState I) (backupToMain I) i (pairedBackup l (backupToMain I) i)
-  choice-old e q =
+  givable-own : needsCopy s I i ≡ true → isPaired l (backupToMain I) i ≡ true → Givable l (activeState I) (backupToMain I) i (pairedBackup l (backupToMain I) i)
+  givable-own e q =
       let p = paired-at l (backupToMain I) i q in
       let one : activeState I i ≡ 1 = copy-needed s I i e .1 in
       record {
@@ -129,7 +135,7 @@ module _ (O : Ops) (I₀ : Image) (s : Session) (P W : Contents) (held : Bytes I
   -- the first part of a plan that copies makes a backup segment ready, in either way
   record Prepared (p : Plan) : Type 0 where
     backup : ℕ
-    choice : Choice l (activeState I) (backupToMain I) i backup
+    givable : Givable l (activeState I) (backupToMain I) i backup
     copies : copies p ≡ true
     ready : Ready l I i backup (backupOps l I word i p ++ sfence ∷ [])
 
@@ -145,7 +151,7 @@ module _ (O : Ops) (I₀ : Image) (s : Session) (P W : Contents) (held : Bytes I
           let p = paired-at l (backupToMain I) i q in
           subst Prepared (sym (plan-own s I i j e q)) (record {
             backup = pairedBackup l (backupToMain I) i;
-            choice = choice-old e q;
+            givable = givable-own e q;
             copies = refl;
             ready = ready-old l I word i (pairedBackup l (backupToMain I) i) small (inv .recovers .fit .long) (ok .main) (p .0) (sizes64 _ (p .0)) (p .1)
                 (λ x h d. inv .twin i (pairedBackup l (backupToMain I) i) x (ok .main) (p .0) h (p .1) (unfold dirtyBlock in d));
@@ -154,7 +160,7 @@ module _ (O : Ops) (I₀ : Image) (s : Session) (P W : Contents) (held : Bytes I
           let f : Free l (activeState I) (backupToMain I) j = free (unfold needsBackup in (both e (ap not q))) in
           subst Prepared (sym (plan-new s I i j e q f)) (record {
             backup = j;
-            choice = choice-new j e q f;
+            givable = givable-new j e q f;
             copies = refl;
             ready = ready-new l I i j small (inv .recovers .fit .long) (sizes64 j (f .0)) (omega (arith, i64)) (ok .main) (f .0);
           })
@@ -178,12 +184,15 @@ module _ (O : Ops) (I₀ : Image) (s : Session) (P W : Contents) (held : Bytes I
     unfolding writeOps
     copy-ops p = rw (copy-phases, p .copies)
 
+    cow : (p : Prepared plan) → Copying l O I₀ s P W i (p .backup) A
+    cow p = record { held = held; inv = inv; givable = p .givable; ready = p .ready }
+
     -- after the copy: the invariant, and state 2
     after-copy : Prepared plan → Invariant l (O ++ X) (replay (O ++ X) I₀) (unmarked s i) P W
-    after-copy p = copy-done l O I₀ s P W held inv i (p .backup) (p .choice) A (p .ready)
+    after-copy p = copy-done (cow p)
 
     turned : (p : Prepared plan) → activeState (replay (O ++ X) I₀) i ≢ 1
-    turned p e = omega (arith, state-two l O I₀ s P W held inv i (p .backup) (p .choice) A (p .ready))
+    turned p e = omega (arith, state-two (cow p))
 
     -- the epoch's line is not stored to
     pub write-low : (k : ℕ) → k < 64 → Clear k (writeOps s I w j)
@@ -198,7 +207,7 @@ module _ (O : Ops) (I₀ : Image) (s : Session) (P W : Contents) (held : Bytes I
             subst (λ (Y : Ops). Clear k Y) (sym (copy-ops p))
             (each-append (Misses k) X U
             (each-append (Misses k) A (statePhase I i) (p .ready .clear k (inl (omega arith)))
-            (state-clear l O I₀ s P W held inv i (p .backup) (p .choice) A (p .ready) k (inl (omega arith)))) span)
+            (state-clear (cow p) k (inl (omega arith)))) span)
         go false e = subst (λ (Y : Ops). Clear k Y) (sym (plain-ops e)) span
 
     -- CRASHED: the same contents
@@ -208,8 +217,8 @@ module _ (O : Ops) (I₀ : Image) (s : Session) (P W : Contents) (held : Bytes I
         copied : Prepared plan → CrashImage I₀ (O ++ take n (X ++ U)) H → Recoverable l H P
         copied p x = ⊎-elim
             (λ q. ⊎-elim
-            (λ r. copy-crash l O I₀ s P W held inv i (p .backup) (p .choice) A (p .ready) n H (r .1))
-            (λ r. state-crash l O I₀ s P W held inv i (p .backup) (p .choice) A (p .ready) (n - length A) H (r .1))
+            (λ r. copy-crash (cow p) n H (r .1))
+            (λ r. state-crash (cow p) (n - length A) H (r .1))
             (crash-seq I₀ H O A (statePhase I i) n (q .1)))
             (λ q. span-crash l (O ++ X) I₀ (unmarked s i) P W held (after-copy p) i (w .block) c (ok .main) (span-inside l w ok) (turned p)
             U _ _ _ (span-puts l I w ok small) (span-bounds l w ok .0) (span-bounds l w ok .1) (n - length X) H (q .1))

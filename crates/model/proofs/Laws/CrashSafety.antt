@@ -14,7 +14,6 @@ use Rattle.model.specs.declared.Layout.{Layout}
 use Rattle.model.specs.declared.Session.{Session}
 use Rattle.model.specs.Words.{Image, Bytes}
 use Rattle.model.specs.Layout.{lineSize, blockSize}
-use Rattle.model.specs.Status.{served}
 use Rattle.model.specs.Container.{activeState, backupToMain, Free, anyFree}
 use Rattle.model.specs.Session.{zeroSession}
 use Rattle.model.specs.Ops.{Trace}
