@@ -1,17 +1,23 @@
 -- The crash argument, from single operations to the calls of a history.
+
+-- operations: which bytes they leave alone, which lines are settled, runs of them, phases that a fence ends
 pub mod Persist
-pub mod Phases
 pub mod Settled
 pub mod Runs
+pub mod Phases
+-- what a container holds, what recovers to it, and what holds between calls
 pub mod Holds
 pub mod GivenBackup
 pub mod View
 pub mod Invariant
+-- the operations of each call, crashed and played whole
 pub mod Recovery
-pub mod Span
 pub mod Copy
+pub mod SpanWords
+pub mod Span
 pub mod Write
 pub mod Checkpoint
+-- pages; where a history stands; each call meets the argument; the openings around a history
 pub mod Pages
 pub mod Stands
 pub mod OpenCall

@@ -1,19 +1,27 @@
 -- Laws of the definitions, a file for each file of specs/ that has laws, by the same name.
+
+-- ranges, words and places
 pub mod Range
+pub mod Words
+pub mod Layout
+-- refusals: which number a list gives, and demand 1
 pub mod Status
+pub mod Refusals
+-- metadata, session, operations, what a call answers
 pub mod Container
 pub mod Session
-pub mod Layout
-pub mod Same
 pub mod Ops
-pub mod Words
+pub mod Outcome
+-- the calls
 pub mod Replay
+pub mod Format
+pub mod Open
+pub mod Write
+pub mod Same
+-- how many operations a call has, and traces that suffice
 pub mod Counts
 pub mod TraceLength
-pub mod Format
-pub mod Write
-pub mod CrashSafety
-pub mod Crash
-pub mod Outcome
+-- what no call reads; what a crash may leave; what demand 3 does not leave open
 pub mod Unread
-pub mod Refusals
+pub mod Crash
+pub mod CrashSafety

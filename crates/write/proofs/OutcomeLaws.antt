@@ -23,7 +23,7 @@ use Rattle.model.specs.Write.{WriteArgs, needsCopy, needsBackup, copies, noneFr
 use Rattle.model.proofs.Laws.Layout.{image-lines, metadata-inside, segment-in-image}
 use Rattle.model.proofs.Laws.Status.{served-cons, served-condition, after-served, stage-refused}
 use Rattle.model.proofs.Laws.Container.{container-then}
-use Rattle.model.proofs.Laws.Replay.{span-good}
+use Rattle.model.proofs.Laws.Write.{span-good}
 use Rattle.model.proofs.Laws.Counts.{length-stores}
 use Rattle.trace.specs.Emit.{Fits, Emitted}
 use Rattle.trace.proofs.EmitLaws.{fits-as, emitted-as}

@@ -1,6 +1,6 @@
 use Rattle.checkpoint.proofs.Laws.{earlyErrors, ready}
 use Rattle.trace.proofs.CallLaws.{refused-before, refused-short, served-long, fits-whole, gives-refused, gives-served}
-use Rattle.model.proofs.Laws.Counts.{length-checkpoint-ops}
+use Rattle.model.proofs.Laws.Counts.Checkpoint.{length-checkpoint-ops}
 use Rattle.model.specs.Checkpoint.{checkpointOps, checkpointStatus, checkpointOutcome}
 use borrow.Author.Tests.{not-true, not-false}
 use native.Mathlib.Omega.{arith}

@@ -18,9 +18,9 @@ use Rattle.model.specs.Reference.{Model, modelStep, checkpointArgs}
 use Rattle.model.specs.declared.Layout.{Layout}
 use Rattle.model.specs.History.{Call, Device, State, outcome}
 use Rattle.model.proofs.Laws.Status.{served-condition}
-use Rattle.model.proofs.Laws.Same.{zero-checkpoint}
+use Rattle.model.proofs.Laws.Open.{zero-checkpoint}
 use Rattle.model.proofs.Laws.Words.{word-lt}
-use Rattle.model.proofs.Laws.Counts.{length-before, epoch-stored}
+use Rattle.model.proofs.Laws.Counts.Checkpoint.{length-before, epoch-stored}
 use Rattle.model.proofs.Laws.Replay.{checkpoint-outcome-ok}
 use Rattle.model.proofs.Argument.Invariant.{Invariant}
 use Rattle.model.proofs.Argument.Checkpoint.{checkpoint-crash, checkpoint-epoch, checkpoint-done}

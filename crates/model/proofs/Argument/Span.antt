@@ -1,6 +1,6 @@
--- The stores of a write's span: they go into a run of blocks of a main segment that does not hold its checkpoint, so that
--- no stage of them matters to recovery.
-use Prim.Native.Nat.{ℕ, _+_, _-_, _*_, _/_, _≤_, _<_}
+-- Stores into a run of blocks of a main segment that does not hold its checkpoint: no stage of them matters to recovery, and
+-- played whole they leave the invariant with those blocks dirty.
+use Prim.Native.Nat.{ℕ, _+_, _*_, _/_, _≤_, _<_}
 use mathlib.Core.Path.{_≡_, sym, ap, _∙_, subst}
 use mathlib.Core.Logic.{_≢_, _⊎_, inl, inr, ⊎-elim}
 use mathlib.Core.Bool.{Bool, true, false, true≢false}
@@ -10,20 +10,17 @@ use native.Mathlib.Omega.{arith}
 use lib.ListN.{length, take}
 use Rattle.model.specs.declared.Layout.{Layout}
 use Rattle.model.specs.declared.Session.{Session}
-use Rattle.model.specs.Words.{Image, byteAt, Bytes, overlay}
+use Rattle.model.specs.Words.{Image, byteAt, Bytes}
 use Rattle.model.specs.Layout.{segmentSize, mainAt, backupAt}
 use Rattle.model.specs.Container.{activeState, committedEpoch, activeLine}
 use Rattle.model.specs.Session.{dirtySegment, dirtyBlock, dirtyWord, withDirty}
-use Rattle.model.specs.Ops.{Ops, replay, wordPlace}
-use Rattle.model.specs.Write.{WriteArgs, spanAt, spanWords, spanBlocks, spanOps, spanBad}
+use Rattle.model.specs.Ops.{Ops, replay}
 use Rattle.model.specs.Crash.{CrashImage}
-use Rattle.model.proofs.Laws.Words.{byte-of-word, overlay-before, overlay-after, overlay-small}
 use Rattle.model.proofs.Argument.Persist.{Misses, Clear, each-take, length-replay, replay-clear, replay-append, replay-small}
 use Rattle.model.proofs.Argument.Settled.{Settled, Off, crash-byte, crash-bytes, settled-more}
-use Rattle.model.proofs.Argument.Runs.{Puts, puts-clear, puts-stores}
+use Rattle.model.proofs.Argument.Runs.{Puts, puts-clear}
 use Rattle.model.proofs.Laws.Layout.{segment-in-image, apart, state-line-high}
 use Rattle.model.proofs.Laws.Session.{dirty-segment-same, dirty-segment-other, dirty-block-same, dirty-block-rest, dirty-block-other}
-use Rattle.model.proofs.Laws.Replay.{span-good}
 use Rattle.model.proofs.Argument.View.{Recoverable, Alike, recoverable-alike, alike-state}
 use Rattle.model.proofs.Argument.Holds.{Contents}
 use Rattle.model.proofs.Argument.Invariant.{Invariant}
@@ -34,8 +31,8 @@ abbrev pub marked : Session → ℕ → ℕ → ℕ → Session
 marked s i b c = withDirty s i b c (dirtyWord s i)
 
 -- block k is not one of the c blocks from block b on
-abbrev Outside : ℕ → ℕ → ℕ → Type 0
-Outside b c k = (k < b) ⊎ (b + c ≤ k)
+abbrev NotAmong : ℕ → ℕ → ℕ → Type 0
+NotAmong b c k = (k < b) ⊎ (b + c ≤ k)
 
 module _ (s : Session) (i b c : ℕ) where
   marked-segment : (u : ℕ) (d : Bool) → u ≢ i → dirtySegment (marked s i b c) u ≡ d → dirtySegment s u ≡ d
@@ -47,7 +44,7 @@ module _ (s : Session) (i b c : ℕ) where
       ne : u ≢ i
       ne q = true≢false (sym (dirty-segment-same s i b c (dirtyWord s i)) ∙ subst (λ (n : ℕ). dirtySegment (marked s i b c) n ≡ false) q e)
 
-  marked-block : i < length (s .«dirty_blocks») → (u k : ℕ) → dirtyBlock (marked s i b c) u k ≡ false → (dirtyBlock s u k ≡ false) × (u ≡ i → Outside b c k)
+  marked-block : i < length (s .«dirty_blocks») → (u k : ℕ) → dirtyBlock (marked s i b c) u k ≡ false → (dirtyBlock s u k ≡ false) × (u ≡ i → NotAmong b c k)
   marked-block h u k e = go (ℕ-discrete u i) (decLt k b) (decLt k (b + c))
     where
       m : ℕ
@@ -56,13 +53,13 @@ module _ (s : Session) (i b c : ℕ) where
       here : u ≡ i → dirtyBlock (marked s i b c) i k ≡ false
       here q = subst (λ (n : ℕ). dirtyBlock (marked s i b c) n k ≡ false) q e
 
-      rest : u ≡ i → Outside b c k → (dirtyBlock s u k ≡ false) × (u ≡ i → Outside b c k)
+      rest : u ≡ i → NotAmong b c k → (dirtyBlock s u k ≡ false) × (u ≡ i → NotAmong b c k)
       rest q o = (
         subst (λ (n : ℕ). dirtyBlock s n k ≡ false) (sym q) (unfold dirtyBlock in (sym (dirty-block-rest s i b c m h k o) ∙ here q)),
         λ x. o,
       )
 
-      go : Dec (u ≡ i) → Dec (k < b) → Dec (k < b + c) → (dirtyBlock s u k ≡ false) × (u ≡ i → Outside b c k)
+      go : Dec (u ≡ i) → Dec (k < b) → Dec (k < b + c) → (dirtyBlock s u k ≡ false) × (u ≡ i → NotAmong b c k)
       go (no q) x y = (sym (dirty-block-other s i b c m u q k) ∙ e, λ z. absurd (q z))
       go (yes q) (yes x) y = rest q (inl x)
       go (yes q) (no x) (no y) = rest q (inr (omega arith))
@@ -101,7 +98,7 @@ module _ (l : Layout) (O : Ops) (I₀ : Image) (s : Session) (P W : Contents) (h
   unfolding Beyond
   beyond-segment u x h q = ⊎-elim (λ y. inl (omega arith)) (λ y. inr (omega arith)) (apart l i u (mainAt l u + x) (λ e. q (sym e)) (omega arith) (omega arith))
 
-  beyond-block : (x : ℕ) → Outside b c (x / 256) → Beyond (mainAt l i + x)
+  beyond-block : (x : ℕ) → NotAmong b c (x / 256) → Beyond (mainAt l i + x)
   unfolding Beyond
   beyond-block x (inl d) = inl (omega arith)
   beyond-block x (inr d) = inr (omega arith)
@@ -109,7 +106,7 @@ module _ (l : Layout) (O : Ops) (I₀ : Image) (s : Session) (P W : Contents) (h
   beyond-backup : (j x : ℕ) → x < segmentSize l → Beyond (backupAt l j + x)
   beyond-backup j x h = beyond-segment (l .mains + j) x h (omega arith)
 
-  beyond-other : (u x : ℕ) → x < segmentSize l → (u ≡ i → Outside b c (x / 256)) → Beyond (mainAt l u + x)
+  beyond-other : (u x : ℕ) → x < segmentSize l → (u ≡ i → NotAmong b c (x / 256)) → Beyond (mainAt l u + x)
   beyond-other u x h q = go (ℕ-discrete u i)
     where
       go : Dec (u ≡ i) → Beyond (mainAt l u + x)
@@ -206,51 +203,3 @@ module _ (l : Layout) (O : Ops) (I₀ : Image) (s : Session) (P W : Contents) (h
       firmClean = λ u x h k d. let y = marked-block s i b c len u (x / 256) d in settle _ (beyond-other u x k (y .1)) (inv .firmClean u x h k (y .0));
       firmBackup = λ j x h k. settle _ (beyond-backup j x k) (inv .firmBackup j x h k);
     }
-
--- ---- the words of a span
-
--- a span that stays inside its main segment
-pub record SpanOk (l : Layout) (w : WriteArgs) : Type 0 where
-  pub main : w .main < l .mains
-  pub block : w .block < l .blocks
-  pub some : 0 < length (w .bytes)
-  pub fits : w .offset + length (w .bytes) ≤ 256 * (l .blocks - w .block)
-  pub small : Bytes (w .bytes)
-
--- which one does that refusals 6, 7 and 8 pass
-pub span-within : (l : Layout) (w : WriteArgs) → w .main < l .mains → w .block < l .blocks → spanBad l w ≡ false → Bytes (w .bytes) → SpanOk l w
-span-within l w m n h small =
-    let g = span-good l w h in
-    record { main = m; block = n; some = g .0; fits = omega (arith, g .0, g .1); small = small }
-
--- the blocks that it meets are blocks of the segment
-pub span-inside : (l : Layout) (w : WriteArgs) → SpanOk l w → w .block + spanBlocks w ≤ l .blocks
-span-inside l w ok = omega (arith, ok)
-
--- where the words that it meets start, and how many bytes they are
-abbrev pub spanFirst : Layout → WriteArgs → ℕ
-spanFirst l w = wordPlace (spanAt l w)
-
-abbrev pub spanWide : Layout → WriteArgs → ℕ
-spanWide l w = 8 * spanWords (spanAt l w) (length (w .bytes))
-
--- they stand in the blocks, and around the bytes
-pub span-bounds : (l : Layout) (w : WriteArgs) → SpanOk l w
-    → (mainAt l (w .main) + 256 * w .block ≤ spanFirst l w) × (spanFirst l w + spanWide l w ≤ mainAt l (w .main) + 256 * (w .block + spanBlocks w))
-    × (spanFirst l w ≤ spanAt l w) × (spanAt l w + length (w .bytes) ≤ spanFirst l w + spanWide l w)
-span-bounds l w ok = omega (arith, ok)
-
-module _ (l : Layout) (I : Image) (w : WriteArgs) (ok : SpanOk l w) where
-  -- the image with the bytes laid over it
-  abbrev pub laid : ℕ → ℕ
-  laid = overlay (byteAt I) (spanAt l w) (w .bytes)
-
-  pub span-puts : Bytes I → Puts (spanOps l I w) (spanFirst l w) (spanWide l w) laid
-  unfolding spanOps
-  span-puts bytes = puts-stores (spanWords (spanAt l w) (length (w .bytes))) (spanFirst l w) _ laid
-      (λ k b x y. byte-of-word laid (spanFirst l w + 8 * k) b (overlay-small (byteAt I) (spanAt l w) (w .bytes) bytes (ok .small)) y)
-
-  -- outside its words nothing is laid
-  pub laid-outside : (k : ℕ) → (k < spanFirst l w) ⊎ (spanFirst l w + spanWide l w ≤ k) → laid k ≡ byteAt I k
-  laid-outside k (inl h) = overlay-before (byteAt I) (spanAt l w) (w .bytes) k (omega (arith, span-bounds l w ok))
-  laid-outside k (inr h) = overlay-after (byteAt I) (spanAt l w) (w .bytes) k (omega (arith, span-bounds l w ok))

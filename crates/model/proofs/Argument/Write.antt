@@ -1,63 +1,42 @@
 -- Write, whole: the copy that its plan may ask for, and then the stores of its span.
 use Prim.Native.Nat.{ℕ, _+_, _-_, _≤_, _<_}
 use mathlib.Core.Path.{_≡_, refl, sym, ap, _∙_, subst}
-use mathlib.Core.Logic.{_≢_, _⊎_, inl, ⊎-elim}
 use mathlib.Core.Bool.{Bool, true, false, not, true≢false}
-use mathlib.Core.List.{[], _∷_, _++_, append-assoc}
 use native.Mathlib.Omega.{arith}
-use borrow.Author.Tests.{eqb-true, leb-false, not-true}
+use mathlib.Core.Logic.{_≢_, _⊎_, inl, ⊎-elim}
+use mathlib.Core.List.{[], _∷_, _++_, append-assoc}
+use borrow.Author.Tests.{leb-false}
 use lib.ListN.{length, take, length-set}
 use lib.Seq.{set-set, getD-set-same}
-use Rattle.model.specs.declared.Layout.{Layout}
 use Rattle.model.specs.declared.Session.{Session}
-use Rattle.model.specs.declared.Plan.{Plan}
-use Rattle.model.specs.declared.Plan.the-variants.{NoCopy, OwnBackup, NewBackup}
 use Rattle.model.specs.Words.{Image, byteAt, Bytes, overlay}
-use Rattle.model.specs.Layout.{segmentSize, mainAt}
 use Rattle.model.specs.Container.{activeState, backupToMain, isPaired, pairedBackup, Free}
-use Rattle.model.specs.Session.{dirtyWord, dirtySegment, dirtyBlock, setBits, withDirty}
 use Rattle.model.specs.Ops.{sfence, Ops, Trace, replay}
 use Rattle.model.specs.Write.{WriteArgs, needsCopy, needsBackup, copyPlan, copies, backupOps, copyOnWriteOps, spanAt, spanBlocks, spanOps, writeOps, writeSession, writeErrors, writeStatus}
+use Rattle.model.specs.declared.Layout.{Layout}
+use Rattle.model.specs.declared.Plan.{Plan}
+use Rattle.model.specs.Layout.{segmentSize, mainAt}
+use Rattle.model.specs.Session.{dirtyWord, dirtySegment, dirtyBlock, setBits, withDirty}
 use Rattle.model.specs.Crash.{CrashImage}
-use Rattle.model.proofs.Laws.Range.{and-left, and-right, both}
+use Rattle.model.proofs.Laws.Status.{served-condition}
+use Rattle.model.proofs.Laws.Container.{paired-at, unpaired-none}
+use Rattle.model.proofs.Laws.Range.{both}
 use Rattle.model.proofs.Argument.Persist.{Misses, Clear, each-append}
 use Rattle.model.proofs.Argument.Phases.{statePhase, copy-phases}
 use Rattle.model.proofs.Argument.Settled.{crash-seq}
 use Rattle.model.proofs.Argument.Runs.{puts-clear}
-use Rattle.model.proofs.Laws.Status.{served-condition}
-use Rattle.model.proofs.Laws.Container.{paired-at, unpaired-none, any-free}
 use Rattle.model.proofs.Argument.View.{Recoverable}
 use Rattle.model.proofs.Argument.Holds.{Contents}
 use Rattle.model.proofs.Argument.GivenBackup.{Givable}
 use Rattle.model.proofs.Argument.Invariant.{Invariant}
-use Rattle.model.proofs.Argument.Span.{marked, span-crash, span-done, SpanOk, span-within, span-inside, spanFirst, spanWide, span-bounds, span-puts, laid-outside}
+use Rattle.model.proofs.Argument.Span.{marked, span-crash, span-done}
 use Rattle.model.proofs.Argument.Copy.{unmarked, copy-done, state-two}
 use Rattle.model.proofs.Argument.Copy.FirstPart.{Ready, Copying}
 use Rattle.model.proofs.Argument.Copy.NewBackup.{ready-new}
 use Rattle.model.proofs.Argument.Copy.OwnBackup.{ready-old}
 use Rattle.model.proofs.Argument.Copy.Crash.{copy-crash, state-clear, state-crash}
-
--- ---- the two cases
-
--- a copy is needed: the segment is not dirty and in state 1
-copy-needed : (s : Session) (I : Image) (i : ℕ) → needsCopy s I i ≡ true → (dirtySegment s i ≡ false) × (activeState I i ≡ 1)
-unfolding needsCopy
-copy-needed s I i e = (not-true _ (and-left _ _ e), eqb-true _ _ (and-right (not (dirtySegment s i)) _ e))
-
--- the plan: no copy; the segment's own backup; a new one, which is free
-plan-none : (s : Session) (I : Image) (i j : ℕ) → needsCopy s I i ≡ false → copyPlan s I i j ≡ NoCopy
-unfolding copyPlan
-plan-none s I i j e = rw e
-
-plan-own : (s : Session) (I : Image) (i j : ℕ) → needsCopy s I i ≡ true → isPaired (s .layout) (backupToMain I) i ≡ true
-    → copyPlan s I i j ≡ OwnBackup (pairedBackup (s .layout) (backupToMain I) i)
-unfolding copyPlan
-plan-own s I i j e q = rw (e, q)
-
-plan-new : (s : Session) (I : Image) (i j : ℕ) → needsCopy s I i ≡ true → isPaired (s .layout) (backupToMain I) i ≡ false
-    → Free (s .layout) (activeState I) (backupToMain I) j → copyPlan s I i j ≡ NewBackup j
-unfolding copyPlan
-plan-new s I i j e q f = rw (e, q, any-free (s .layout) (activeState I) (backupToMain I) .1 (j, f))
+use Rattle.model.proofs.Laws.Write.{copy-needed, plan-none, plan-own, plan-new}
+use Rattle.model.proofs.Argument.SpanWords.{SpanOk, span-within, span-inside, spanFirst, spanWide, span-bounds, span-puts, laid-outside}
 
 -- a write that copies, then marks: no block of the segment is dirty but those of its span
 copied-session : (s : Session) (i b c : ℕ) → i < length (s .«dirty_blocks») → marked (unmarked s i) i b c ≡ withDirty s i b c 0

@@ -16,11 +16,11 @@ use Rattle.model.specs.Ops.{Trace}
 use Rattle.model.specs.Write.{WriteArgs, needsBackup, spanAt, writeOps, writeSession, writeStatus, writeOutcome, Chosen}
 use Rattle.model.specs.Reference.{Page, Model, modelStep, writeArgs, pageAt}
 use Rattle.model.specs.History.{Call, Device, State, outcome}
-use Rattle.model.proofs.Laws.Same.{zero-write}
+use Rattle.model.proofs.Laws.Open.{zero-write}
 use Rattle.model.proofs.Laws.Words.{overlay-sets, overlay-shift}
 use Rattle.model.proofs.Laws.Replay.{write-outcome-ok}
 use Rattle.model.proofs.Argument.Invariant.{Invariant}
-use Rattle.model.proofs.Argument.Span.{SpanOk}
+use Rattle.model.proofs.Argument.SpanWords.{SpanOk}
 use Rattle.model.proofs.Argument.Write.{span-ok, write-low, write-crash, write-done}
 use Rattle.model.proofs.Argument.Pages.{contentsOf, block-inside}
 use Rattle.model.proofs.Laws.Outcome.{Answered}

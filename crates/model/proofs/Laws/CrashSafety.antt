@@ -31,8 +31,8 @@ use Rattle.model.proofs.Laws.Range.{and-left, and-right}
 use Rattle.model.proofs.Laws.Status.{given-condition}
 use Rattle.model.proofs.Laws.Container.{any-free}
 use Rattle.model.proofs.Laws.Write.{plan-none-free}
-use Rattle.model.proofs.Laws.Same.{refused-session}
-use Rattle.model.proofs.Laws.Counts.{window-is}
+use Rattle.model.proofs.Laws.Open.{refused-session}
+use Rattle.model.proofs.Laws.Counts.Checkpoint.{window-is}
 
 -- ---- the pages that may be shown
 

@@ -1,8 +1,7 @@
--- Equality of two checkpoints (document 01: likeness) is equality of their bytes; and the session of zeros, which a refused
--- opening answers, is refused with 1.
+-- Equality of two checkpoints (document 01: likeness) is equality of their bytes.
 use Prim.Native.Nat.{ℕ, zero, suc, _+_, _*_, _<_}
 use mathlib.Core.Path.{_≡_, refl, sym, ap, _∙_}
-use mathlib.Core.Logic.{_↔_, _≢_}
+use mathlib.Core.Logic.{_↔_}
 use mathlib.Core.Bool.{true, false, cond, false≢true}
 use mathlib.Core.List.{List}
 use native.Mathlib.Omega.{arith}
@@ -13,15 +12,9 @@ use borrow.Author.Tests.{eqb-true, eq-eqb, ne-eqb}
 use Rattle.model.specs.declared.Layout.{Layout}
 use Rattle.model.specs.declared.Located.the-variants.{Nowhere, At}
 use Rattle.model.specs.Words.{Image}
-use Rattle.model.specs.Layout.{segmentSize, segmentAt, mainAt, backupAt, inRange, sizesOk}
+use Rattle.model.specs.Layout.{segmentSize, segmentAt, mainAt, backupAt}
 use Rattle.model.specs.Status.{firstError, served}
 use Rattle.model.specs.Container.{activeLine, segState, backupToMain, pairedBackup, byState, segmentBytes, checkpointLocated, locatedBytes, checkpointSegment, checkpointBytes, containerErrors}
-use Rattle.model.specs.Session.{freshSession, zeroSession}
-use Rattle.model.specs.Ops.{Trace}
-use Rattle.model.specs.Outcome.{outcomeOf}
-use Rattle.model.specs.Open.{openStatus, openOutcome}
-use Rattle.model.specs.Write.{WriteArgs, writeStatus}
-use Rattle.model.specs.Checkpoint.{checkpointStatus}
 use Rattle.model.specs.Same.{sameErrors, sameBytes, sameCheckpoint, sameOutcome}
 use Rattle.model.proofs.Laws.Range.{length-cat, all-at, all-from}
 use Rattle.model.proofs.Laws.Layout.{segment-in-image}
@@ -76,17 +69,3 @@ module _ (l : Layout) (I J : Image) where
           → (e ≡ 0) × (checkpointBytes l I (activeLine I) ≡ checkpointBytes l J (activeLine J))
       means zero e t = (refl, agree e .0 t)
       means (suc n) e t = absurd (false≢true (rw (ne-eqb (suc n) 0 (omega arith)) at t))
-
--- ---- a refused opening
-
-pub refused-session : (l : Layout) (I : Image) (t : Trace) → openStatus l I t ≢ 0 → openOutcome l I t .session ≡ zeroSession
-unfolding openOutcome outcomeOf
-refused-session l I t h = rw (ne-eqb _ _ h)
-
-pub zero-write : (I : Image) (w : WriteArgs) (j : ℕ) (t : Trace) → writeStatus zeroSession I w j t ≡ 1
-unfolding writeStatus zeroSession freshSession firstError sizesOk inRange
-zero-write I w j t = refl
-
-pub zero-checkpoint : (I : Image) (t : Trace) → checkpointStatus zeroSession I t ≡ 1
-unfolding checkpointStatus zeroSession freshSession firstError sizesOk inRange
-zero-checkpoint I t = refl

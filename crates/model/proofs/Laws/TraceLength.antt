@@ -23,8 +23,11 @@ use Rattle.model.specs.Checkpoint.{checkpointOps, checkpointErrors, chec
 use Rattle.model.specs.Counts.{dirtyCount, dirtyTotal}
 use Rattle.model.specs.TraceLength.{TraceSuffices, WriteTraceSuffices, CheckpointTraceSuffices}
 use Rattle.model.proofs.Laws.Status.{given-condition, given-earlier}
-use Rattle.model.proofs.Laws.Counts.{sum-most, recovery-most, spanCount, planCount, length-write, length-checkpoint-ops}
-use Rattle.model.proofs.Laws.Replay.{span-good}
+use Rattle.model.proofs.Laws.Counts.{recovery-most}
+use Rattle.model.proofs.Laws.Counts.Checkpoint.{length-checkpoint-ops}
+use Rattle.model.proofs.Laws.Counts.Write.{spanCount, planCount, length-write}
+use Rattle.model.proofs.Laws.Range.{sum-most}
+use Rattle.model.proofs.Laws.Write.{span-good}
 
 long-enough : (O : Ops) (t : Trace) → 3 * length O ≤ length t → traceShort O t ≢ true
 unfolding traceShort

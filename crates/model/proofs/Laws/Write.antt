@@ -1,17 +1,46 @@
--- Every write has a permitted choice of the backup segment that it takes, so that `Permitted` leaves out no write; and what
--- the plan says of refusal 9.
-use Prim.Native.Nat.{ℕ}
+-- Every write has a permitted choice of the backup segment that it takes, so that `Permitted` leaves out no write; what the plan
+-- says of refusal 9, and what a span says that 8 does not refuse.
+use Prim.Native.Nat.{ℕ, _+_, _≤_, _<_}
 use mathlib.Core.Path.{_≡_, refl, sym, _∙_}
-use mathlib.Core.Bool.{Bool, true, false, not, cond, _&&_, true≢false}
+use mathlib.Core.Bool.{Bool, true, false, not, cond, _&&_, true≢false, _||_}
 use native.Mathlib.Omega.{arith}
+use borrow.Author.Tests.{ltb-false, eqb-false, eqb-true, not-true}
+use lib.ListN.{length}
+use lib.Dec.{ltb, eqb}
 use Rattle.model.specs.declared.Session.{Session}
 use Rattle.model.specs.declared.Plan.the-variants.{NoCopy, OwnBackup, NewBackup, NoneFree}
 use Rattle.model.specs.Words.{Image}
-use Rattle.model.specs.Container.{activeState, backupToMain, isPaired, pairedBackup, anyFree}
+use Rattle.model.specs.Container.{activeState, backupToMain, isPaired, pairedBackup, anyFree, Free}
 use Rattle.model.specs.Ops.{Trace}
-use Rattle.model.specs.Write.{WriteArgs, needsCopy, needsBackup, copyPlan, noneFree, writeErrors, writeStatus, Chosen}
+use Rattle.model.specs.Write.{WriteArgs, needsCopy, needsBackup, copyPlan, noneFree, writeErrors, writeStatus, Chosen, spanBad}
+use Rattle.model.specs.declared.Layout.{Layout}
+use Rattle.model.specs.Layout.{blockSize}
+use Rattle.model.specs.Session.{dirtySegment}
 use Rattle.model.proofs.Laws.Status.{served-condition}
 use Rattle.model.proofs.Laws.Container.{any-free}
+use Rattle.model.proofs.Laws.Range.{and-left, and-right}
+
+-- ---- the plan of the copy
+
+-- a copy is needed: the segment is not dirty and in state 1
+pub copy-needed : (s : Session) (I : Image) (i : ℕ) → needsCopy s I i ≡ true → (dirtySegment s i ≡ false) × (activeState I i ≡ 1)
+unfolding needsCopy
+copy-needed s I i e = (not-true _ (and-left _ _ e), eqb-true _ _ (and-right (not (dirtySegment s i)) _ e))
+
+-- the plan: no copy; the segment's own backup; a new one, which is free
+pub plan-none : (s : Session) (I : Image) (i j : ℕ) → needsCopy s I i ≡ false → copyPlan s I i j ≡ NoCopy
+unfolding copyPlan
+plan-none s I i j e = rw e
+
+pub plan-own : (s : Session) (I : Image) (i j : ℕ) → needsCopy s I i ≡ true → isPaired (s .layout) (backupToMain I) i ≡ true
+    → copyPlan s I i j ≡ OwnBackup (pairedBackup (s .layout) (backupToMain I) i)
+unfolding copyPlan
+plan-own s I i j e q = rw (e, q)
+
+pub plan-new : (s : Session) (I : Image) (i j : ℕ) → needsCopy s I i ≡ true → isPaired (s .layout) (backupToMain I) i ≡ false
+    → Free (s .layout) (activeState I) (backupToMain I) j → copyPlan s I i j ≡ NewBackup j
+unfolding copyPlan
+plan-new s I i j e q f = rw (e, q, any-free (s .layout) (activeState I) (backupToMain I) .1 (j, f))
 
 -- the plan finds none free exactly if a new one is needed and none is free by the active line
 pub plan-none-free : (s : Session) (I : Image) (i j : ℕ)
@@ -24,6 +53,8 @@ plan-none-free s I i j = go (needsCopy s I i) (isPaired (s .layout) (backupToMai
     go true true c = refl
     go true false true = refl
     go true false false = refl
+
+-- ---- the choice
 
 pub choice-exists : (s : Session) (I : Image) (w : WriteArgs) (t : Trace) → (j : ℕ) × Chosen s I w t j
 unfolding writeStatus
@@ -38,3 +69,14 @@ choice-exists s I w t = go (anyFree (s .layout) (activeState I) (backupToMain I)
           sym (plan-none-free s I (w .main) 0) ∙ served-condition (writeErrors s I w 0 t) (omega arith) h 9 in
           absurd (true≢false (rw (n, e) at no)),
     )
+
+-- ---- the span
+
+pub span-good : (l : Layout) (w : WriteArgs) → spanBad l w ≡ false → (0 < length (w .bytes)) × (w .offset + length (w .bytes) ≤ blockSize)
+unfolding spanBad
+span-good l w h = go (eqb (length (w .bytes)) 0) refl h
+  where
+    go : (b : Bool) → eqb (length (w .bytes)) 0 ≡ b → (b || ltb blockSize (w .offset + length (w .bytes))) ≡ false
+        → (0 < length (w .bytes)) × (w .offset + length (w .bytes) ≤ blockSize)
+    go true e q = absurd (true≢false q)
+    go false e q = (let n = eqb-false (length (w .bytes)) 0 e in omega arith, ltb-false _ _ q)

@@ -6,8 +6,8 @@ use lib.Count.{ones}
 use borrow.Author.Needs.{needs}
 use Rattle.model.specs.Range.{sumTo}
 use Rattle.model.specs.Counts.{dirtyTotal}
-use Rattle.model.proofs.Laws.Counts.{sum-ext, dirty-ones}
-use Rattle.model.proofs.Laws.Range.{sum-none, sum-more}
+use Rattle.model.proofs.Laws.Counts.{dirty-ones}
+use Rattle.model.proofs.Laws.Range.{sum-ext, sum-none, sum-more}
 use Rattle.session.proofs.dirty_total.Statement.{statement}
 use Rattle.session.proofs.dirty_total.Tie as tie
 

@@ -22,7 +22,7 @@ use Rattle.model.proofs.Laws.Words.{word-cong, overlay-cong}
 use Rattle.model.proofs.Laws.Status.{served-condition}
 use Rattle.model.proofs.Laws.Container.{ContainerOk, container-then}
 use Rattle.model.proofs.Laws.Layout.{state-line-whole}
-use Rattle.model.proofs.Laws.Counts.{write-status-chosen}
+use Rattle.model.proofs.Laws.Counts.Write.{write-status-chosen}
 use Rattle.model.proofs.Laws.Outcome.{outcome-same}
 use Rattle.model.proofs.Laws.Unread.Metadata.{cond-cong, stores-ext, error-ext, epoch-same, active-byte, pair-byte, segment-byte, state-same, session-same, errors-same, paired-same, backup-same, any-free-same}
 use Rattle.model.proofs.Laws.Unread.Open.{copy-same, copy-segment-same}

@@ -1,0 +1,93 @@
+-- How many operations a write has, by its plan, and that the choice of a new backup segment changes neither their number nor the
+-- status.
+use Prim.Native.Nat.{ℕ, _+_, _*_}
+use mathlib.Core.Path.{_≡_, refl, sym, _∙_, ap}
+use mathlib.Core.Bool.{Bool, true, false, cond}
+use mathlib.Core.List.{_++_, [], _∷_}
+use native.Mathlib.Omega.{arith}
+use lib.ListN.{length, length-append}
+use Rattle.model.specs.declared.Layout.{Layout}
+use Rattle.model.specs.declared.Session.{Session}
+use Rattle.model.specs.declared.Plan.{Plan}
+use Rattle.model.specs.declared.Plan.the-variants.{NoCopy, OwnBackup, NewBackup, NoneFree}
+use Rattle.model.specs.Words.{Image}
+use Rattle.model.specs.Layout.{mainAt, backupAt}
+use Rattle.model.specs.Container.{activeState, backupToMain, isPaired, pairedBackup, anyFree}
+use Rattle.model.specs.Session.{dirtyWord}
+use Rattle.model.specs.Ops.{sfence, Ops, Trace, traceShort, persistCopy}
+use Rattle.model.specs.Write.{WriteArgs, needsCopy, copyPlan, copies, noneFree, pairOps, copyDirty, backupOps, copyOnWriteOps, spanAt, spanWords, spanOps, writeOps, writeStatus}
+use Rattle.model.specs.Counts.{dirtyCount}
+use Rattle.model.proofs.Argument.Phases.{statePhase, copy-phases}
+use Rattle.model.proofs.Laws.Counts.{length-stores, length-put-block, length-copy-segment, length-dirty}
+
+-- how many words the span meets
+abbrev pub spanCount : Layout → WriteArgs → ℕ
+spanCount l w = spanWords (spanAt l w) (length (w .bytes))
+
+module _ (s : Session) (I : Image) (w : WriteArgs) where
+  length-span : length (spanOps (s .layout) I w) ≡ spanCount (s .layout) w
+  unfolding spanOps
+  length-span = length-stores _ _ _
+
+  abbrev ops : Plan → Ops
+  ops p = copyOnWriteOps (s .layout) I (dirtyWord s (w .main)) (w .main) p ++ spanOps (s .layout) I w
+
+  -- the operations of a copy are its backup's and four
+  length-copied : (p : Plan) (n : ℕ) → copies p ≡ true → length (backupOps (s .layout) I (dirtyWord s (w .main)) (w .main) p) ≡ n
+      → length (ops p) ≡ n + 4 + spanCount (s .layout) w
+  length-copied p n e h =
+      let B : Ops = backupOps (s .layout) I (dirtyWord s (w .main)) (w .main) p in
+      rw (copy-phases, e) (omega (
+        arith,
+        h,
+        length-span,
+        length-append ((B ++ sfence ∷ []) ++ statePhase I (w .main)) (spanOps (s .layout) I w),
+        length-append (B ++ sfence ∷ []) (statePhase I (w .main)),
+        length-append B (sfence ∷ []),
+      ))
+
+  -- by the plan: nothing is copied; the dirty blocks to the backup segment that it has; the whole segment to a new one
+  abbrev pub planCount : Plan → ℕ
+  planCount NoCopy = 0
+  planCount (OwnBackup j) = 36 * dirtyCount (dirtyWord s (w .main)) (s .layout .blocks) + 4
+  planCount (NewBackup j) = 36 * s .layout .blocks + 6
+  planCount NoneFree = 0
+
+  length-plan : (p : Plan) → length (ops p) ≡ planCount p + spanCount (s .layout) w
+  unfolding copyOnWriteOps backupOps copyDirty persistCopy pairOps
+  length-plan NoCopy = omega (arith, length-span)
+  length-plan (OwnBackup j) =
+      length-copied (OwnBackup j) (36 * dirtyCount (dirtyWord s (w .main)) (s .layout .blocks)) refl
+      (length-dirty (dirtyWord s (w .main)) (s .layout .blocks) 36 _ (λ b. length-put-block _ _))
+  length-plan (NewBackup j) =
+      length-copied (NewBackup j) (2 + 36 * s .layout .blocks) refl
+      (omega (arith, length-copy-segment (s .layout) I (mainAt (s .layout) (w .main)) (backupAt (s .layout) j)))
+      ∙ omega arith
+  length-plan NoneFree = omega (arith, length-span)
+
+  pub length-write : (j : ℕ) → length (writeOps s I w j) ≡ planCount (copyPlan s I (w .main) j) + spanCount (s .layout) w
+  unfolding writeOps
+  length-write j = length-plan (copyPlan s I (w .main) j)
+
+  -- the choice of a new backup segment changes neither the number of operations nor the status
+  abbrev planBy : ℕ → Bool → Bool → Bool → Plan
+  planBy j a b c = cond a (cond b (OwnBackup (pairedBackup (s .layout) (backupToMain I) (w .main))) (cond c (NewBackup j) NoneFree)) NoCopy
+
+  plan-count-chosen : (j k : ℕ) → (planCount (copyPlan s I (w .main) j) ≡ planCount (copyPlan s I (w .main) k))
+      × (noneFree (copyPlan s I (w .main) j) ≡ noneFree (copyPlan s I (w .main) k))
+  unfolding copyPlan
+  plan-count-chosen j k =
+      go (needsCopy s I (w .main)) (isPaired (s .layout) (backupToMain I) (w .main)) (anyFree (s .layout) (activeState I) (backupToMain I))
+    where
+      go : (a b c : Bool) → (planCount (planBy j a b c) ≡ planCount (planBy k a b c)) × (noneFree (planBy j a b c) ≡ noneFree (planBy k a b c))
+      go false b c = (refl, refl)
+      go true true c = (refl, refl)
+      go true false true = (refl, refl)
+      go true false false = (refl, refl)
+
+  pub write-length-chosen : (j k : ℕ) → length (writeOps s I w j) ≡ length (writeOps s I w k)
+  write-length-chosen j k = length-write j ∙ ap (λ (n : ℕ). n + spanCount (s .layout) w) (plan-count-chosen j k .0) ∙ sym (length-write k)
+
+  pub write-status-chosen : (t : Trace) (j k : ℕ) → writeStatus s I w j t ≡ writeStatus s I w k t
+  unfolding writeStatus traceShort
+  write-status-chosen t j k = rw (write-length-chosen j k, plan-count-chosen j k .1)
