@@ -1,4 +1,5 @@
--- A formatted image: its bytes, that it is accepted by every opening with its sizes, and that its checkpoint is all zero.
+-- A formatted image: that it is accepted by every opening with its sizes, that its checkpoint is all zero, and that a history may
+-- start with it.
 use Prim.Native.Nat.{ℕ, zero, suc, _+_, _*_, _/_, _≤_, _<_}
 use mathlib.Core.Path.{_≡_, refl, sym, ap, _∙_}
 use mathlib.Core.Logic.{inl}
@@ -14,8 +15,9 @@ use Rattle.model.specs.Words.{Image, Bytes, byteAt, wordOf, littleEndian
 use Rattle.model.specs.Layout.{wordSize, lineSize, most, unpaired, SizesOk, imageSize, segmentSize, stateLine}
 use Rattle.model.specs.Status.{firstError}
 use Rattle.model.specs.Container.{HeaderOk, Valid, committedEpoch, activeLine, segState, backupToMain, byState, checkpointLocated, checkpointSegment, checkpointBytes}
-use Rattle.model.specs.Ops.{Trace, traceShort}
+use Rattle.model.specs.Ops.{opNumbers, Trace, traceShort}
 use Rattle.model.specs.Open.{recoveryOps, openStatus}
+use Rattle.model.specs.TraceLength.{mostOpenOps}
 use Rattle.model.specs.History.{start}
 use Rattle.model.specs.Format.{container, formatted, formatOutcome}
 use Rattle.model.proofs.Laws.Range.{cat-ext}
@@ -117,7 +119,7 @@ module _ (l : Layout) where
   pub formatted-ok : SizesOk l → ContainerOk l (formatted l)
   formatted-ok h = record { sizes = h; long = formatted-length; header = formatted-header h; valid = formatted-valid h }
 
-  pub formatted-accepted : SizesOk l → (t : Trace) → 3 * (36 * l .blocks * l .mains + 1) ≤ length t → openStatus l (formatted l) t ≡ 0
+  pub formatted-accepted : SizesOk l → (t : Trace) → opNumbers * mostOpenOps l ≤ length t → openStatus l (formatted l) t ≡ 0
   unfolding openStatus traceShort firstError
   formatted-accepted h t k =
       container-passes l (formatted l) ((11, traceShort (recoveryOps l (formatted l) (activeLine (formatted l))) t) ∷ []) (formatted-ok h)
@@ -130,12 +132,6 @@ module _ (l : Layout) where
   formatted-checkpoint h =
       cat-ext (l .mains) _ (λ i. replicate (segmentSize l) 0) (λ i b. rw (formatted-states i (omega (arith, h .0)))) ∙ cat-replicate (segmentSize l) (l .mains)
 
-  -- a history that starts with it starts with zeros
-  pub formatted-starts : SizesOk l → (t : Trace)
-      → start l (formatted l) t .model ≡ record { working = replicate (segmentSize l * l .mains) 0; checkpoint = replicate (segmentSize l * l .mains) 0 }
-  unfolding start
-  formatted-starts h t = rw (formatted-checkpoint h)
-
   -- ---- and its bytes are bytes
 
   all-bytes : AllBytes (formatted l)
@@ -146,8 +142,11 @@ module _ (l : Layout) where
       and bytes-zero lineSize and bytes-zero lineSize and bytes-replicate most unpaired (omega arith) and bytes-zero 192
       and bytes-zero (segmentSize l * (l .mains + l .backups))
 
-  pub formatted-bytes : Bytes (formatted l)
-  formatted-bytes = all-bytes .each
+  -- it is one that a history may start with, and that starts with zeros
+  pub formatted-starts : SizesOk l → (t : Trace) → Bytes (formatted l)
+      × (start l (formatted l) t .model ≡ record { working = replicate (segmentSize l * l .mains) 0; checkpoint = replicate (segmentSize l * l .mains) 0 })
+  unfolding start
+  formatted-starts h t = (all-bytes .each, rw (formatted-checkpoint h))
 
   -- ---- format gives it
 

@@ -186,8 +186,3 @@ module _ (I : Image) (O : Ops) (t : Trace) (p : ℕ) (whole : length I % lineSiz
   pub replayed-image : replayedImage I O t p ≡ replay (take p O) I
   unfolding replayedImage replayOutcome
   replayed-image = rw (reported-is O t, encoded-served, replay-count O p, replayed-ops O p)
-
--- no operation: nothing is played on any image, whatever the status
-pub played-none : (I : Image) (t : Trace) (p : ℕ) → playedOps I [] t p ≡ []
-unfolding playedOps replayedOps encode decode
-played-none I t p = rw (reported-is [] t, take-nil {A = ℕ} (3 * replayOutcome I (encode []) p .played))
