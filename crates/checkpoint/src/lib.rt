@@ -8,9 +8,9 @@ use model::Status;
 ghost use mathlib.Core.Path.{_≡_};
 ghost use mathlib.Core.Logic.{_≢_};
 ghost use mathlib.Core.List.{_++_};
-ghost use Prim.Native.Nat.{_+_, _-_, _*_, _^_, _≤_, _<_};
-ghost use lib.ListN.{length};
-ghost use Rattle.model.specs.Words.{wordOf};
+ghost use Prim.Native.Nat.{ℕ, _+_, _*_, _^_, _≤_, _<_};
+ghost use lib.ListN.{length, getD};
+ghost use Rattle.model.specs.Words.{Image, wordOf};
 ghost use Rattle.model.specs.Layout.{wordSize, lineSize, lineWords, most, metadataSize};
 ghost use Rattle.model.specs.Status.{codeOf, firstError};
 ghost use Rattle.model.specs.Container.{committedEpoch, segState};
@@ -19,6 +19,7 @@ ghost use Rattle.model.specs.Outcome.{Gives};
 ghost use Rattle.model.specs.Checkpoint.{flushDirty, nextStates, statesOps, epochOps, checkpointOps, checkpointOutcome, epochErrors};
 ghost use Rattle.trace.specs.Emit.{Fits, Emitted};
 ghost use Rattle.session.specs.Parts.{sessionOf};
+ghost use Rattle.checkpoint.specs.Advance.{lastEpoch, Advancing};
 
 // Sizes as indexes count them.
 const WORD_SIZE: usize = Layout::WORD_SIZE as usize;
@@ -27,16 +28,26 @@ const LINE_WORDS: usize = Layout::LINE_WORDS as usize;
 
 const EPOCH_AT: usize = Layout::EPOCH_AT as usize;
 
+// The values of eight bits: a word of dirty segments has one for each byte of states, so eight for a word of them.
+const EIGHT_BITS: u64 = 1 << Layout::LINE_WORDS;
+
 // The epoch that cannot be raised.
 const LAST_EPOCH: u64 = 18446744073709551615;
 
-// Operations of a checkpoint besides the write-backs of dirty blocks: 9 for the states, 2 for the epoch, 3 fences.
-const FIXED_OPS: u64 = 14;
+// Operations of a checkpoint besides the write-backs of dirty blocks: the line of states stored and written back, the epoch
+// stored and written back, and three fences.
+const STATES_OPS: u64 = Layout::LINE_WORDS + 1;
+
+const EPOCH_OPS: u64 = 2;
+
+const FENCES: u64 = 3;
+
+const FIXED_OPS: u64 = STATES_OPS + EPOCH_OPS + FENCES;
 
 // ---- the dirty blocks
 
 // Writes back every dirty block of every main segment, upward.
-pub fn put_flushes(
+fn put_flushes(
     layout: Layout,
     words: &[u64; Layout::MOST_LEN],
     trace: &mut [u64],
@@ -61,7 +72,7 @@ pub fn put_flushes(
 
 // The state of main segment i after the checkpoint, by the line of states: a dirty segment holds its checkpoint itself,
 // another keeps its state.
-pub fn next_state(image: &[u8], line: usize, segments: u64, i: usize) -> u8
+fn next_state(image: &[u8], line: usize, segments: u64, i: usize) -> u8
     requires { ⌜ (i < most) × (line + lineSize ≤ length (now image)) ⌝ }
     ensures { λ r. ⌜ r ≡ nextStates segments (segState (now (image .entry)) line) i ⌝ }
 {
@@ -73,12 +84,12 @@ pub fn next_state(image: &[u8], line: usize, segments: u64, i: usize) -> u8
 }
 
 // Word k of the next states: where none of its segments is dirty, the word as it stands.
-pub fn next_word(image: &[u8], line: usize, segments: u64, k: usize) -> u64
+fn next_word(image: &[u8], line: usize, segments: u64, k: usize) -> u64
     requires { ⌜ (k < lineWords) × (line + lineSize ≤ length (now image)) ⌝ }
     ensures { λ r. ⌜ r ≡ wordOf (nextStates segments (segState (now (image .entry)) line)) (wordSize * k) ⌝ }
 {
     let i = WORD_SIZE * k;
-    if (segments >> i) % 256 == 0 {
+    if (segments >> i) % EIGHT_BITS == 0 {
         return words::word_at(image, line + i);
     }
     words::join(
@@ -94,7 +105,7 @@ pub fn next_word(image: &[u8], line: usize, segments: u64, k: usize) -> u64
 }
 
 // Stores the next states on the inactive line, upward, and writes it back.
-pub fn put_states(image: &[u8], segments: u64, trace: &mut [u64], n: usize) -> usize
+fn put_states(image: &[u8], segments: u64, trace: &mut [u64], n: usize) -> usize
     requires { ⌜ metadataSize ≤ length (now image) ⌝ }
     requires { ⌜ Fits (now trace) n (statesOps (now image) segments) ⌝ }
     ensures { λ r. ⌜ Emitted (now (trace .entry)) n (statesOps (now (image .entry)) segments) (now (trace .exit)) r ⌝ }
@@ -114,8 +125,8 @@ pub fn put_states(image: &[u8], segments: u64, trace: &mut [u64], n: usize) -> u
 // ---- the epoch
 
 // Raises the epoch by 1 and writes it back.
-pub fn put_epoch(image: &[u8], trace: &mut [u64], n: usize) -> usize
-    requires { ⌜ (wordSize ≤ length (now image)) × (committedEpoch (now image) ≢ 2 ^ 64 - 1) ⌝ }
+fn put_epoch(image: &[u8], trace: &mut [u64], n: usize) -> usize
+    requires { ⌜ (wordSize ≤ length (now image)) × (committedEpoch (now image) ≢ lastEpoch) ⌝ }
     requires { ⌜ Fits (now trace) n (epochOps (now image)) ⌝ }
     ensures { λ r. ⌜ Emitted (now (trace .entry)) n (epochOps (now (image .entry))) (now (trace .exit)) r ⌝ }
 {
@@ -124,10 +135,19 @@ pub fn put_epoch(image: &[u8], trace: &mut [u64], n: usize) -> usize
     trace::put_clwb(trace, next, Layout::EPOCH_AT)
 }
 
-// ---- the call
+// ---- all operations
 
-// The operations of a checkpoint, by the parts of the session.
-pub fn put_checkpoint(
+// Their number.
+fn checkpoint_length(layout: Layout, segments: u64, words: &[u64; Layout::MOST_LEN]) -> u64
+    requires { ⌜ layout .mains ≤ most ⌝ }
+    requires { ⌜ ((i : ℕ) → i < layout .mains → getD (now words) i 0 < 2 ^ layout .blocks) ⌝ }
+    ensures { λ r. ⌜ ((I : Image) → r ≡ length (checkpointOps (sessionOf layout segments (now (words .entry))) I)) × (r < 2 ^ 32) ⌝ }
+{
+    Layout::BLOCK_LINES * session::dirty_total(layout, words) + FIXED_OPS
+}
+
+// Writes them, by the parts of the session: dirty blocks, fence, states, fence, epoch, fence.
+fn put_checkpoint(
     image: &[u8],
     layout: Layout,
     segments: u64,
@@ -135,22 +155,23 @@ pub fn put_checkpoint(
     trace: &mut [u64],
     n: usize,
 ) -> usize
-    requires { ⌜ (layout .mains ≤ most) × (layout .blocks ≤ most) ⌝ }
-    requires { ⌜ (metadataSize ≤ length (now image)) × (committedEpoch (now image) ≢ 2 ^ 64 - 1) ⌝ }
+    requires { ⌜ Advancing layout (now image) (now words) ⌝ }
     requires { ⌜ Fits (now trace) n (checkpointOps (sessionOf layout segments (now words)) (now image)) ⌝ }
     ensures { λ r. ⌜ Emitted (now (trace .entry)) n (checkpointOps (sessionOf layout segments (now (words .entry))) (now (image .entry))) (now (trace .exit)) r ⌝ }
 {
-    let mut next = put_flushes(layout, words, trace, n);
-    next = trace::put_sfence(trace, next);
-    next = put_states(image, segments, trace, next);
-    next = trace::put_sfence(trace, next);
-    next = put_epoch(image, trace, next);
-    trace::put_sfence(trace, next)
+    let flushed = put_flushes(layout, words, trace, n);
+    let fenced = trace::put_sfence(trace, flushed);
+    let stored = put_states(image, segments, trace, fenced);
+    let held = trace::put_sfence(trace, stored);
+    let raised = put_epoch(image, trace, held);
+    trace::put_sfence(trace, raised)
 }
+
+// ---- the call
 
 // The first refusal of a checkpoint that applies, whatever the trace: a bad image or session, or an epoch that cannot be
 // raised.
-pub fn checkpoint_status(
+fn checkpoint_status(
     image: &[u8],
     layout: Layout,
     segments: u64,
@@ -178,9 +199,10 @@ pub fn crpm_checkpoint(image: &[u8], session: Session, trace: &mut [u64]) -> Ans
     if !status.is_served() {
         return Answer::refused(status, session);
     }
-    let ops = Layout::BLOCK_LINES * session::dirty_total(layout, &session.dirty_blocks) + FIXED_OPS;
-    if (trace.len() as u64) < 3 * ops {
-        return Answer::refused(Status::TraceShort, session);
+    let ops = checkpoint_length(layout, segments, &session.dirty_blocks);
+    let room = trace::trace_status(trace.len(), ops);
+    if !room.is_served() {
+        return Answer::refused(room, session);
     }
     put_checkpoint(image, layout, segments, &session.dirty_blocks, trace, 0);
     Answer::served(session::with_checkpoint(session), ops)

@@ -27,7 +27,7 @@ const RECOVERY_ACTION: [[Action; 2]; 3] = [
 ];
 
 // The action for a state, and whether the main segment is paired.
-pub fn recovery_action(state: u8, paired: bool) -> Action
+fn recovery_action(state: u8, paired: bool) -> Action
     requires { ⌜ state ≤ 2 ⌝ }
     ensures { λ r. ⌜ r ≡ recoveryAction state paired ⌝ }
 {
@@ -36,7 +36,7 @@ pub fn recovery_action(state: u8, paired: bool) -> Action
 }
 
 // 1 for an action that treats a segment, else 0.
-pub fn treats(action: Action) -> u64
+fn treats(action: Action) -> u64
     ensures { λ r. ⌜ (r ≡ acts action) × (r ≤ 1) ⌝ }
 {
     match action {
@@ -50,7 +50,7 @@ pub fn treats(action: Action) -> u64
 // ---- one segment
 
 // What recovery does about main segment i.
-pub fn segment_action(
+fn segment_action(
     image: &[u8],
     layout: Layout,
     line: usize,
@@ -64,7 +64,7 @@ pub fn segment_action(
 }
 
 // Writes the operations of an action on main segment i and backup segment j.
-pub fn put_action(
+fn put_action(
     image: &[u8],
     layout: Layout,
     i: u64,
@@ -99,7 +99,7 @@ pub fn put_action(
 }
 
 // Writes the operations of recovery of main segment i.
-pub fn put_segment(
+fn put_segment(
     image: &[u8],
     layout: Layout,
     line: usize,
@@ -120,9 +120,9 @@ pub fn put_segment(
 // ---- all segments
 
 // How many main segments recovery treats.
-pub fn count_treated(image: &[u8], layout: Layout, line: usize, backup: &[u8; SLOTS]) -> u64
+fn count_treated(image: &[u8], layout: Layout, line: usize, backup: &[u8; SLOTS]) -> u64
     requires { ⌜ ValidBy layout (now image) line × BackupsOf layout (now image) (now backup) ⌝ }
-    ensures { λ r. ⌜ (r ≡ treated layout (now (image .entry)) line) × (r ≤ 64) ⌝ }
+    ensures { λ r. ⌜ (r ≡ treated layout (now (image .entry)) line) × (r ≤ most) ⌝ }
 {
     let mains = layout.mains as usize;
     let mut sum = 0;
@@ -135,7 +135,7 @@ pub fn count_treated(image: &[u8], layout: Layout, line: usize, backup: &[u8; SL
 }
 
 // The number of the operations of recovery.
-pub fn recovery_length(image: &[u8], layout: Layout, line: usize, backup: &[u8; SLOTS]) -> u64
+fn recovery_length(image: &[u8], layout: Layout, line: usize, backup: &[u8; SLOTS]) -> u64
     requires { ⌜ ValidBy layout (now image) line × BackupsOf layout (now image) (now backup) ⌝ }
     ensures { λ r. ⌜ (r ≡ length (recoveryOps layout (now (image .entry)) line)) × (r < 2 ^ 32) ⌝ }
 {
@@ -143,7 +143,7 @@ pub fn recovery_length(image: &[u8], layout: Layout, line: usize, backup: &[u8; 
 }
 
 // Writes the operations of recovery: the main segments upward, then one fence.
-pub fn put_recovery(
+fn put_recovery(
     image: &[u8],
     layout: Layout,
     line: usize,
@@ -168,15 +168,15 @@ pub fn put_recovery(
 // ---- the call
 
 // A refused opening: it answers a session of zeros.
-pub fn refused(status: Status) -> Answer
+fn refused(status: Status) -> Answer
     ensures { λ r. ⌜ (r .status ≡ status) × (r .session ≡ zeroSession) × (r .ops ≡ 0) ⌝ }
 {
     Answer::refused(status, Session::fresh(Layout::new(0, 0, 0)))
 }
 
-// ValidBy the checkpoint by a line of states, of an image that has the layout's size, and answers a session in which
+// Recovers the checkpoint by a line of states, of an image that has the layout's size, and answers a session in which
 // nothing is dirty.
-pub fn recover(image: &[u8], layout: Layout, line: usize, trace: &mut [u64]) -> Answer
+fn recover(image: &[u8], layout: Layout, line: usize, trace: &mut [u64]) -> Answer
     requires { ⌜ SizesOk layout × (length (now image) ≡ imageSize layout) × (line + most ≤ length (now image)) ⌝ }
     ensures { λ r. ⌜ Gives (recoveryOutcome layout (now (image .entry)) line (now (trace .entry))) (now (trace .entry)) r (now (trace .exit)) ⌝ }
 {
@@ -185,8 +185,9 @@ pub fn recover(image: &[u8], layout: Layout, line: usize, trace: &mut [u64]) -> 
         return refused(Status::Invalid);
     }
     let ops = recovery_length(image, layout, line, &found.backup);
-    if (trace.len() as u64) < 3 * ops {
-        return refused(Status::TraceShort);
+    let room = trace::trace_status(trace.len(), ops);
+    if !room.is_served() {
+        return refused(room);
     }
     put_recovery(image, layout, line, &found.backup, trace, 0);
     Answer::served(Session::fresh(layout), ops)

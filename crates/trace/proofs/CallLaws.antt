@@ -1,42 +1,29 @@
--- Laws of a whole call that writes operations, as open, write and checkpoint are: refusal 11 by a number of operations that
--- the code counted, and what an answer of the code gives, refused or served.
-use Prim.Native.Nat.{ℕ, _*_, _≤_, _<_}
+-- Laws of a whole call that writes operations, as open, write and checkpoint are: room where refusal 11 does not apply, and
+-- what an answer of the code gives, refused or served.
+use Prim.Native.Nat.{ℕ, _*_}
 use mathlib.Core.Path.{_≡_, refl, sym, ap, _∙_}
-use mathlib.Core.Bool.{true, false}
-use mathlib.Core.List.{_++_}
+use mathlib.Core.Bool.{false}
+use mathlib.Core.List.{[]}
 use native.Mathlib.Omega.{arith}
 use lib.ListN.{length}
-use borrow.Author.Tests.{lt-ltb, le-ltb}
+use borrow.Author.Tests.{ltb-false}
 use Rattle.model.specs.declared.Session.{Session}
 use Rattle.model.specs.declared.Status.{Status}
 use Rattle.model.specs.declared.Status.the-variants.{Served}
 use Rattle.model.specs.declared.Answer.{Answer}
-use Rattle.model.specs.Status.{Errors, codeOf, firstError, served}
-use Rattle.model.specs.Ops.{Ops, Trace, encode, written, traceShort, traceErrors}
+use Rattle.model.specs.Status.{codeOf, firstError, served}
+use Rattle.model.specs.Ops.{Ops, Trace, opNumbers, encode, written, traceShort, traceErrors}
 use Rattle.model.specs.Outcome.{outcomeOf, Gives}
-use Rattle.model.proofs.Laws.Status.{first-holds, first-fails, first-of-none, stage-refused, stage-passed}
-use Rattle.model.specs.Refusals.{Numbered}
+use Rattle.model.proofs.Laws.Status.{served-cons}
 use Rattle.trace.specs.Emit.{Fits, Emitted}
 use Rattle.trace.proofs.EmitLaws.{emit-whole}
 
--- ---- refusal 11, after those of the list es: n is the number that the code found for these, m the operations it counted
-
-module _ (es : Errors) (O : Ops) (t : Trace) (n : ℕ) (e : n ≡ firstError es) where
-  pub refused-before : served n ≡ false → n ≡ firstError (es ++ traceErrors O t)
-  refused-before = stage-refused n es (traceErrors O t) e
-
-  module _ (k : Numbered es) (z : served n ≡ true) (m : ℕ) (q : m ≡ length O) where
-    pub refused-short : length t < 3 * m → 11 ≡ firstError (es ++ traceErrors O t)
-    unfolding traceShort
-    refused-short h = first-holds 11 (traceShort O t) _ (lt-ltb (length t) (3 * length O) (omega arith)) ∙ sym (stage-passed n es (traceErrors O t) k e z)
-
-    pub served-long : 3 * m ≤ length t → 0 ≡ firstError (es ++ traceErrors O t)
-    unfolding traceShort
-    served-long h = first-fails 11 0 (traceShort O t) _ (le-ltb (length t) (3 * length O) (omega arith)) first-of-none ∙ sym (stage-passed n es (traceErrors O t) k e z)
+-- ---- refusal 11
 
 -- where it does not apply the operations fit
-pub fits-whole : {t : Trace} {O : Ops} {m : ℕ} → m ≡ length O → 3 * m ≤ length t → Fits t 0 O
-fits-whole q h = record { room = omega arith }
+pub fits-whole : (O : Ops) (t : Trace) → 0 ≡ firstError (traceErrors O t) → Fits t 0 O
+unfolding traceShort
+fits-whole O t h = record { room = omega (arith, ltb-false (length t) (opNumbers * length O) (served-cons 10 _ [] (sym h) .0)) }
 
 -- ---- what an answer gives
 

@@ -1,4 +1,4 @@
-use Rattle.checkpoint.proofs.Laws.{long-enough}
+use Rattle.checkpoint.proofs.StatusLaws.{long-enough}
 use Rattle.session.specs.Parts.{sessionOf}
 use Rattle.model.proofs.Laws.Status.{first-holds, first-fails, first-of-none, stage-refused, stage-passed}
 use borrow.Author.Tests.{eq-eqb, ne-eqb, not-true, not-false}

@@ -1,14 +1,12 @@
-use Rattle.checkpoint.proofs.Laws.{earlyErrors, ready}
-use Rattle.trace.proofs.CallLaws.{refused-before, refused-short, served-long, fits-whole, gives-refused, gives-served}
-use Rattle.model.proofs.Laws.Counts.Checkpoint.{length-checkpoint-ops}
-use Rattle.model.specs.Checkpoint.{checkpointOps, checkpointStatus, checkpointOutcome}
-use borrow.Author.Tests.{not-true, not-false}
+use mathlib.Core.Path.{refl, sym, _∙_}
 use native.Mathlib.Omega.{arith}
-use mathlib.Core.Path.{_≡_, refl, sym, _∙_}
-use Prim.Native.Nat.{_+_, _*_, _≤_}
-use lib.ListN.{length}
-use Rattle.model.specs.Layout.{blockLines}
 use borrow.Author.Needs.{needs}
+use borrow.Author.Tests.{eqb-true, not-true, not-false}
+use Rattle.model.specs.Ops.{traceErrors}
+use Rattle.model.specs.Checkpoint.{checkpointOps, checkpointStatus, checkpointOutcome}
+use Rattle.model.proofs.Laws.Status.{stage-refused, stage-passed}
+use Rattle.trace.proofs.CallLaws.{fits-whole, gives-refused, gives-served}
+use Rattle.checkpoint.proofs.StatusLaws.{advancing}
 use Rattle.checkpoint.proofs.crpm_checkpoint.Statement.{statement}
 use Rattle.checkpoint.proofs.crpm_checkpoint.Tie as tie
 
@@ -26,24 +24,22 @@ unfolding checkpointOutcome checkpointStatus
 returns c =
     let s = c .before .before .before in
     let r = sym (c .before .before .is-served .ensures) ∙ not-true _ (c .before .if1 .taken) in
-    gives-refused _ _ _ _ _ _ (c .refused .ensures) (refused-before _ _ _ _ (s .checkpoint-status .ensures) r) r refl
+    gives-refused _ _ _ _ _ _ (c .refused .ensures) (stage-refused _ _ _ (s .checkpoint-status .ensures) r) r refl
 
-dirty-total-requires : tie.Need-dirty-total-requires
-dirty-total-requires c κs =
-    let s = c .before .before .before .before in
+checkpoint-length-requires : tie.Need-checkpoint-length-requires
+checkpoint-length-requires c κs =
+    let i = c .before .before in
+    let s = i .before .before in
     let g = s .before .before .before .before .before .before .args in
-    let z = sym (c .before .before .before .is-served .ensures) ∙ not-false _ (c .before .before .if1 .left) in
-    let k = ready (g .t2) (g .image .now) _ (s .checkpoint-status .ensures) z in
-    (omega arith, k .within)
+    let z = sym (i .before .is-served .ensures) ∙ not-false _ (i .if1 .left) in
+    let k = advancing (g .t2) (g .image .now) _ (s .checkpoint-status .ensures) z in
+    (k .mains, k .within)
 
-mul-ops : tie.Need-mul-ops
-mul-ops c = search needs
+trace-status-requires : tie.Need-trace-status-requires
+trace-status-requires c κs = omega (arith, c .checkpoint-length .ensures .1)
 
-add-ops : tie.Need-add-ops
-add-ops c = search needs
-
-mul-if2 : tie.Need-mul-if2
-mul-if2 c = search needs
+is-served-requires-2 : tie.Need-is-served-requires-2
+is-served-requires-2 c κs = search needs
 
 refused-requires-2 : tie.Need-refused-requires-2
 refused-requires-2 c κs = search needs
@@ -51,24 +47,31 @@ refused-requires-2 c κs = search needs
 returns-2 : tie.Need-returns-2
 unfolding checkpointOutcome checkpointStatus
 returns-2 c =
-    let d = c .before .before in
-    let b = d .before .before .before in
-    let s = b .before .before in
+    let t = c .before .before .before in
+    let n = t .before in
+    let i = n .before .before .before in
+    let s = i .before .before in
     let g = s .before .before .before .before .before .before .args in
-    let z = sym (b .before .is-served .ensures) ∙ not-false _ (b .if1 .left) in
-    let q : blockLines * d .dirty-total .result + 14 ≡ length (checkpointOps (g .t2) (g .image .now)) = omega (arith, length-checkpoint-ops (g .t2) (g .image .now)) in
-    gives-refused _ _ _ _ _ _ (c .refused2 .ensures) (refused-short (earlyErrors (g .t2) (g .image .now)) _ _ _ (s .checkpoint-status .ensures) (omega arith) z _ q (c .before .if2 .taken)) refl refl
+    let O = checkpointOps (g .t2) (g .image .now) in
+    let z = sym (i .before .is-served .ensures) ∙ not-false _ (i .if1 .left) in
+    let e = t .trace-status .ensures O (g .trace .now) (sym (n .checkpoint-length .ensures .0 (g .image .now))) refl in
+    gives-refused _ _ _ _ _ _ (c .refused2 .ensures)
+    (e ∙ sym (stage-passed _ _ (traceErrors O (g .trace .now)) (omega arith) (s .checkpoint-status .ensures) z))
+    (sym (c .before .before .is-served2 .ensures) ∙ not-true _ (c .before .if2 .taken)) refl
 
 put-checkpoint-requires : tie.Need-put-checkpoint-requires
 put-checkpoint-requires c κs =
-    let d = c .before .before .before .before in
-    let b = d .before .before .before in
-    let s = b .before .before in
+    let j = c .before .before .before in
+    let t = j .before .before in
+    let n = t .before in
+    let i = n .before .before .before in
+    let s = i .before .before in
     let g = s .before .before .before .before .before .before .args in
-    let z = sym (b .before .is-served .ensures) ∙ not-false _ (b .if1 .left) in
-    let k = ready (g .t2) (g .image .now) _ (s .checkpoint-status .ensures) z in
-    let q : blockLines * d .dirty-total .result + 14 ≡ length (checkpointOps (g .t2) (g .image .now)) = omega (arith, length-checkpoint-ops (g .t2) (g .image .now)) in
-    ((k .sizes .0 .1, k .sizes .2 .1), ((k .long, k .raises), fits-whole q (omega arith)))
+    let O = checkpointOps (g .t2) (g .image .now) in
+    let z = sym (i .before .is-served .ensures) ∙ not-false _ (i .if1 .left) in
+    let e = t .trace-status .ensures O (g .trace .now) (sym (n .checkpoint-length .ensures .0 (g .image .now))) refl in
+    let p = sym (eqb-true _ 0 (sym (j .before .is-served2 .ensures) ∙ not-false _ (j .if2 .left))) ∙ e in
+    (advancing (g .t2) (g .image .now) _ (s .checkpoint-status .ensures) z, fits-whole O (g .trace .now) p)
 
 with-checkpoint-requires : tie.Need-with-checkpoint-requires
 with-checkpoint-requires c κs = search needs
@@ -82,16 +85,20 @@ same-length c = search needs
 returns-3 : tie.Need-returns-3
 unfolding checkpointOutcome checkpointStatus
 returns-3 c =
-    let p = c .before .before .before .before in
-    let i = p .before .before .before .before in
-    let d = i .before in
-    let b = d .before .before .before in
-    let s = b .before .before in
+    let w = c .before .before .before .before in
+    let j = w .before .before .before .before in
+    let t = j .before .before in
+    let n = t .before in
+    let i = n .before .before .before in
+    let s = i .before .before in
     let g = s .before .before .before .before .before .before .args in
-    let z = sym (b .before .is-served .ensures) ∙ not-false _ (b .if1 .left) in
-    let q : blockLines * d .dirty-total .result + 14 ≡ length (checkpointOps (g .t2) (g .image .now)) = omega (arith, length-checkpoint-ops (g .t2) (g .image .now)) in
-    let h : 3 * (blockLines * d .dirty-total .result + 14) ≤ length (g .trace .now) = omega arith in
-    gives-served _ _ _ _ _ _ (c .served .ensures) (sym (served-long (earlyErrors (g .t2) (g .image .now)) _ _ _ (s .checkpoint-status .ensures) (omega arith) z _ q h)) (c .before .with-checkpoint .ensures) q (fits-whole q h) (p .put-checkpoint .ensures)
+    let O = checkpointOps (g .t2) (g .image .now) in
+    let m = n .checkpoint-length .ensures .0 (g .image .now) in
+    let z = sym (i .before .is-served .ensures) ∙ not-false _ (i .if1 .left) in
+    let p = sym (eqb-true _ 0 (sym (j .before .is-served2 .ensures) ∙ not-false _ (j .if2 .left))) ∙ t .trace-status .ensures O (g .trace .now) (sym m) refl in
+    gives-served _ _ _ _ _ _ (c .served .ensures)
+    (stage-passed _ _ (traceErrors O (g .trace .now)) (omega arith) (s .checkpoint-status .ensures) z ∙ sym p) (c .before .with-checkpoint .ensures) m
+    (fits-whole O (g .trace .now) p) (w .put-checkpoint .ensures)
 
 pub crpm-checkpoint-spec : {M : Type 1} → statement M
 crpm-checkpoint-spec =
@@ -101,10 +108,9 @@ crpm-checkpoint-spec =
     is-served-requires
     refused-requires
     returns
-    dirty-total-requires
-    mul-ops
-    add-ops
-    mul-if2
+    checkpoint-length-requires
+    trace-status-requires
+    is-served-requires-2
     refused-requires-2
     returns-2
     put-checkpoint-requires

@@ -1,4 +1,4 @@
-use Rattle.checkpoint.proofs.Laws.{states-written}
+use Rattle.checkpoint.proofs.StateLaws.{states-written}
 use Rattle.trace.proofs.EmitLaws.{fits-as, fits-first, fits-then, fits-each, emitted-as, emitted-none, emitted-each, emitted-then}
 use Rattle.trace.specs.Emit.{Emitted}
 use Rattle.model.specs.Checkpoint.{nextStates}

@@ -1,28 +1,17 @@
--- Laws of a checkpoint: the next states by the tests that the code makes, where they are stored, and what a checkpoint that
--- is not refused goes by.
-use Prim.Native.Nat.{ℕ, _+_, _-_, _*_, _/_, _%_, _^_, _≤_, _<_}
+-- Laws of the next states, by the tests that the code makes, and of the line where they are stored.
+use Prim.Native.Nat.{ℕ, _+_, _*_, _/_, _%_, _^_}
 use mathlib.Core.Path.{_≡_, sym, ap, _∙_}
-use mathlib.Core.Logic.{_≢_}
-use mathlib.Core.Bool.{true}
 use mathlib.Core.List.{[], _∷_, _++_}
 use native.Mathlib.Omega.{arith}
 use native.Mathlib.Nat.{add-assoc}
-use lib.ListN.{length}
 use lib.Pow.{shr-shr}
-use borrow.Author.Tests.{eqb-true, eqb-false, not-false}
-use Rattle.model.specs.declared.Session.{Session}
 use Rattle.model.specs.Words.{Image, byteAt, wordOf, wordAt}
-use Rattle.model.specs.Layout.{wordSize, lineWords, metadataSize, SizesOk}
-use Rattle.model.specs.Status.{Errors, firstError, served}
-use Rattle.model.specs.Container.{committedEpoch, activeLine, inactiveLine, segState, activeState}
-use Rattle.model.specs.Session.{bit, dirtyWord, contextErrors}
+use Rattle.model.specs.Layout.{wordSize, lineWords}
+use Rattle.model.specs.Container.{activeLine, inactiveLine, segState}
+use Rattle.model.specs.Session.{bit}
 use Rattle.model.specs.Ops.{clwb, stores}
-use Rattle.model.specs.Checkpoint.{nextState, nextStates, statesOps, epochErrors}
-use Rattle.model.proofs.Laws.Status.{served-condition}
-use Rattle.model.proofs.Laws.Container.{sizes-ok}
-use Rattle.model.proofs.Laws.Layout.{metadata-inside}
+use Rattle.model.specs.Checkpoint.{nextState, nextStates, statesOps}
 use Rattle.words.proofs.Joined.{word-joined}
-use Rattle.session.proofs.Laws.{words-within}
 
 -- ---- the next states
 
@@ -62,32 +51,3 @@ pub states-written : (I : Image) (segments from to : ℕ) → from ≡ activeLin
     → (stores lineWords to (λ k. wordOf (next I from segments) (wordSize * k)) ++ clwb to ∷ []) ≡ statesOps I segments
 unfolding statesOps
 states-written I segments from to p q = rw (p, q)
-
--- ---- refusals
-
--- the refusals that do not look at the trace: 1 to 5, and 10
-abbrev pub earlyErrors : Session → Image → Errors
-earlyErrors s I = contextErrors s I ++ epochErrors I
-
--- 1 to 5 leave a metadata
-pub long-enough : (s : Session) (I : Image) (n : ℕ) → n ≡ firstError (contextErrors s I) → served n ≡ true → metadataSize ≤ length I
-long-enough s I n e z =
-    omega (arith, metadata-inside (s .layout), eqb-true (length I) _ (not-false _ (served-condition (contextErrors s I) (omega arith) (sym e ∙ eqb-true _ _ z) 2)))
-
--- what holds where none of them applies
-pub record Ready (s : Session) (I : Image) : Type 0 where
-  pub sizes : SizesOk (s .layout)
-  pub long : metadataSize ≤ length I
-  pub raises : committedEpoch I ≢ 2 ^ 64 - 1
-  pub within : (i : ℕ) → i < s .layout .mains → dirtyWord s i < 2 ^ s .layout .blocks
-
-pub ready : (s : Session) (I : Image) (n : ℕ) → n ≡ firstError (earlyErrors s I) → served n ≡ true → Ready s I
-ready s I n e z =
-    let r = served-condition (earlyErrors s I) (omega arith) (sym e ∙ eqb-true _ _ z) in
-    let k = sizes-ok (s .layout) .0 (not-false _ (r 1)) in
-    record {
-      sizes = k;
-      long = omega (arith, eqb-true (length I) _ (not-false _ (r 2)), metadata-inside (s .layout));
-      raises = eqb-false _ _ (r 10);
-      within = words-within s (activeState I) (k .0 .1) (not-false _ (r 5));
-    }
