@@ -1,3 +1,2 @@
 pub mod PartLaws
-pub mod DirtyLaws
-pub mod GatherLaws
+pub mod TestLaws

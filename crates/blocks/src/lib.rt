@@ -1,4 +1,4 @@
-// Blocks of 256 bytes (document 01: frames): copied, zeroed and written back by operations on a trace, and tested. Every
+// One block of 256 bytes (document 01: a frame): copied, zeroed and written back by operations on a trace, and tested. Every
 // function `put_..` writes its operations from number n on and answers the number of the next one.
 ghost use mathlib.Core.Path.{_≡_};
 ghost use mathlib.Core.Bool.{true};
@@ -7,13 +7,13 @@ ghost use lib.Dec.{eqb};
 ghost use lib.ListN.{length, getD};
 ghost use Rattle.model.specs.Range.{allB};
 ghost use Rattle.model.specs.Words.{wordAt};
-ghost use Rattle.model.specs.Layout.{wordSize, blockSize, blockWords, blockLines, most, segmentSize};
-ghost use Rattle.model.specs.Ops.{stores, clwbs, putBlock, persistCopy, persistZero, copySegment, zeroSegment, eachDirty};
+ghost use Rattle.model.specs.Layout.{wordSize, blockSize, blockWords, blockLines};
+ghost use Rattle.model.specs.Ops.{stores, clwbs, putBlock, persistZero};
 ghost use Rattle.trace.specs.Emit.{Fits, Emitted};
 use model::Layout;
 
 // Words of a block.
-pub const BLOCK_WORDS: usize = Layout::BLOCK_WORDS as usize;
+const BLOCK_WORDS: usize = Layout::BLOCK_WORDS as usize;
 
 // Lines of a block.
 const BLOCK_LINES: usize = Layout::BLOCK_LINES as usize;
@@ -23,10 +23,10 @@ const WORD_SIZE: usize = Layout::WORD_SIZE as usize;
 
 const BLOCK_SIZE: usize = Layout::BLOCK_SIZE as usize;
 
-// ---- one block
+// ---- operations
 
 // The words of a block.
-pub fn gather(block: &[u8]) -> [u64; BLOCK_WORDS]
+fn gather(block: &[u8]) -> [u64; BLOCK_WORDS]
     requires { ⌜ blockSize ≤ length (now block) ⌝ }
     ensures { λ r. ⌜ ((k : ℕ) → k < blockWords → getD r k 0 ≡ wordAt (now (block .entry)) (wordSize * k)) ⌝ }
 {
@@ -40,7 +40,7 @@ pub fn gather(block: &[u8]) -> [u64; BLOCK_WORDS]
 }
 
 // Stores the words of a block, upward.
-pub fn put_stores(to: u64, words: [u64; BLOCK_WORDS], trace: &mut [u64], n: usize) -> usize
+fn put_stores(to: u64, words: [u64; BLOCK_WORDS], trace: &mut [u64], n: usize) -> usize
     requires { ⌜ to + blockSize < 2 ^ 64 ⌝ }
     requires { ⌜ Fits (now trace) n (stores blockWords to (λ k. getD words k 0)) ⌝ }
     ensures { λ r. ⌜ Emitted (now (trace .entry)) n (stores blockWords to (λ k. getD words k 0)) (now (trace .exit)) r ⌝ }
@@ -70,13 +70,7 @@ pub fn put_clwbs(at: u64, trace: &mut [u64], n: usize) -> usize
 }
 
 // Stores the words of a block and, if it is to be, writes its lines back.
-pub fn put_block(
-    flush: bool,
-    to: u64,
-    words: [u64; BLOCK_WORDS],
-    trace: &mut [u64],
-    n: usize,
-) -> usize
+fn put_block(flush: bool, to: u64, words: [u64; BLOCK_WORDS], trace: &mut [u64], n: usize) -> usize
     requires { ⌜ to + blockSize < 2 ^ 64 ⌝ }
     requires { ⌜ Fits (now trace) n (putBlock flush to (λ k. getD words k 0)) ⌝ }
     ensures { λ r. ⌜ Emitted (now (trace .entry)) n (putBlock flush to (λ k. getD words k 0)) (now (trace .exit)) r ⌝ }
@@ -108,108 +102,6 @@ pub fn put_zero(to: u64, trace: &mut [u64], n: usize) -> usize
 {
     let words = [0u64; BLOCK_WORDS];
     put_block(true, to, words, trace, n)
-}
-
-// ---- the blocks of a segment
-
-// Copies all blocks of the segment at one place to that at another, upward.
-pub fn put_segment_copy(
-    image: &[u8],
-    layout: Layout,
-    from: usize,
-    to: usize,
-    trace: &mut [u64],
-    n: usize,
-) -> usize
-    requires { ⌜ from + segmentSize layout ≤ length (now image) ⌝ }
-    requires { ⌜ to + segmentSize layout < 2 ^ 64 ⌝ }
-    requires { ⌜ Fits (now trace) n (copySegment layout (now image) from to) ⌝ }
-    ensures { λ r. ⌜ Emitted (now (trace .entry)) n (copySegment layout (now (image .entry)) from to) (now (trace .exit)) r ⌝ }
-{
-    let blocks = layout.blocks as usize;
-    let mut next = n;
-    let mut b = 0;
-    while b < blocks {
-        let start = from + BLOCK_SIZE * b;
-        let place = to + BLOCK_SIZE * b;
-        next = put_copy(&image[start..start + BLOCK_SIZE], place as u64, trace, next);
-        b += 1;
-    }
-    next
-}
-
-// Fills all blocks of the segment at a place with zeros, upward.
-pub fn put_segment_zero(layout: Layout, to: usize, trace: &mut [u64], n: usize) -> usize
-    requires { ⌜ to + segmentSize layout < 2 ^ 64 ⌝ }
-    requires { ⌜ Fits (now trace) n (zeroSegment layout to) ⌝ }
-    ensures { λ r. ⌜ Emitted (now (trace .entry)) n (zeroSegment layout to) (now (trace .exit)) r ⌝ }
-{
-    let blocks = layout.blocks as usize;
-    let mut next = n;
-    let mut b = 0;
-    while b < blocks {
-        let place = to + BLOCK_SIZE * b;
-        next = put_zero(place as u64, trace, next);
-        b += 1;
-    }
-    next
-}
-
-// Copies the dirty blocks of the segment at one place to that at another, upward; bit b of the word says that block b is
-// dirty.
-pub fn put_dirty_copies(
-    image: &[u8],
-    blocks: u64,
-    word: u64,
-    from: usize,
-    to: usize,
-    trace: &mut [u64],
-    n: usize,
-) -> usize
-    requires { ⌜ blocks ≤ most ⌝ }
-    requires { ⌜ from + blockSize * blocks ≤ length (now image) ⌝ }
-    requires { ⌜ to + blockSize * blocks < 2 ^ 64 ⌝ }
-    requires { ⌜ Fits (now trace) n (eachDirty word blocks (λ b. persistCopy (now image) (from + blockSize * b) (to + blockSize * b))) ⌝ }
-    ensures { λ r. ⌜ Emitted (now (trace .entry)) n (eachDirty word blocks (λ b. persistCopy (now (image .entry)) (from + blockSize * b) (to + blockSize * b))) (now (trace .exit)) r ⌝ }
-{
-    if word == 0 {
-        return n;
-    }
-    let count = blocks as usize;
-    let mut next = n;
-    let mut b: usize = 0;
-    while b < count {
-        if (word >> b) & 1 == 1 {
-            let start = from + BLOCK_SIZE * b;
-            let place = to + BLOCK_SIZE * b;
-            next = put_copy(&image[start..start + BLOCK_SIZE], place as u64, trace, next);
-        }
-        b += 1;
-    }
-    next
-}
-
-// Writes back the dirty blocks of the segment at a place, upward; bit b of the word says that block b is dirty.
-pub fn put_dirty_clwbs(blocks: u64, word: u64, at: usize, trace: &mut [u64], n: usize) -> usize
-    requires { ⌜ blocks ≤ most ⌝ }
-    requires { ⌜ at + blockSize * blocks < 2 ^ 64 ⌝ }
-    requires { ⌜ Fits (now trace) n (eachDirty word blocks (λ b. clwbs blockLines (at + blockSize * b))) ⌝ }
-    ensures { λ r. ⌜ Emitted (now (trace .entry)) n (eachDirty word blocks (λ b. clwbs blockLines (at + blockSize * b))) (now (trace .exit)) r ⌝ }
-{
-    if word == 0 {
-        return n;
-    }
-    let count = blocks as usize;
-    let mut next = n;
-    let mut k: usize = 0;
-    while k < count {
-        if (word >> k) & 1 == 1 {
-            let place = at + BLOCK_SIZE * k;
-            next = put_clwbs(place as u64, trace, next);
-        }
-        k += 1;
-    }
-    next
 }
 
 // ---- tests of bytes

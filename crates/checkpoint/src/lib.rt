@@ -62,7 +62,7 @@ fn put_flushes(
     let mut i = 0;
     while i < mains {
         let at = metadata::main_at(layout, i);
-        next = blocks::put_dirty_clwbs(layout.blocks, words[i as usize], at, trace, next);
+        next = segments::put_dirty_clwbs(layout.blocks, words[i as usize], at, trace, next);
         i += 1;
     }
     next

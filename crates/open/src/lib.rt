@@ -79,7 +79,7 @@ fn put_action(
 {
     match action {
         Action::Nothing => n,
-        Action::ZeroMain => blocks::put_segment_zero(
+        Action::ZeroMain => segments::put_segment_zero(
             layout,
             metadata::main_at(layout, i),
             trace,
@@ -88,12 +88,12 @@ fn put_action(
         Action::CopyToBackup => {
             let from = metadata::main_at(layout, i);
             let to = metadata::backup_at(layout, j);
-            blocks::put_segment_copy(image, layout, from, to, trace, n)
+            segments::put_segment_copy(image, layout, from, to, trace, n)
         }
         Action::CopyToMain => {
             let from = metadata::backup_at(layout, j);
             let to = metadata::main_at(layout, i);
-            blocks::put_segment_copy(image, layout, from, to, trace, n)
+            segments::put_segment_copy(image, layout, from, to, trace, n)
         }
     }
 }

@@ -5,8 +5,9 @@ ghost use mathlib.Core.Path.{_≡_};
 ghost use mathlib.Core.Bool.{true};
 ghost use Prim.Native.Nat.{_*_, _/_, _%_, _≤_, _^_, _<_};
 ghost use lib.ListN.{length};
+ghost use Rattle.model.specs.Layout.{lineSize};
 ghost use Rattle.model.specs.Status.{codeOf};
-ghost use Rattle.model.specs.Ops.{opOf, apply, replay};
+ghost use Rattle.model.specs.Ops.{opNumbers, opOf, apply, replay};
 ghost use Rattle.model.specs.Replay.{wellFormed, allWellFormed, replayCount, replayedOps, replayStatus, replayOutcome};
 
 // How a replay ends, and how many operations it played.
@@ -16,8 +17,8 @@ pub struct Replayed {
 }
 
 // Whether three numbers are an operation on an image of so many lines.
-pub fn op_well_formed(lines: u64, kind: u64, place: u64, word: u64) -> bool
-    requires { ⌜ lines < 2 ^ 58 ⌝ }
+fn op_well_formed(lines: u64, kind: u64, place: u64, word: u64) -> bool
+    requires { ⌜ lineSize * lines < 2 ^ 64 ⌝ }
     ensures { λ r. ⌜ r ≡ wellFormed lines kind place word ⌝ }
 {
     let size = Layout::LINE_SIZE * lines;
@@ -31,15 +32,15 @@ pub fn op_well_formed(lines: u64, kind: u64, place: u64, word: u64) -> bool
 
 // Whether the first `count` operations of a trace are well formed on an image of so many lines. They are judged downward, so
 // that the first of them are still in the cache when they are played.
-pub fn all_well_formed(lines: u64, trace: &[u64], count: usize) -> bool
-    requires { ⌜ lines < 2 ^ 58 ⌝ }
-    requires { ⌜ 3 * count ≤ length (now trace) ⌝ }
+fn all_well_formed(lines: u64, trace: &[u64], count: usize) -> bool
+    requires { ⌜ lineSize * lines < 2 ^ 64 ⌝ }
+    requires { ⌜ opNumbers * count ≤ length (now trace) ⌝ }
     ensures { λ r. ⌜ r ≡ allWellFormed lines (now (trace .entry)) count ⌝ }
 {
     let mut k = count;
     while 0 < k {
         k -= 1;
-        let at = 3 * k;
+        let at = trace::OP_NUMBERS * k;
         if !op_well_formed(lines, trace[at], trace[at + 1], trace[at + 2]) {
             return false;
         }
@@ -48,21 +49,21 @@ pub fn all_well_formed(lines: u64, trace: &[u64], count: usize) -> bool
 }
 
 // How many operations are to be played: n, or all of the trace if there are fewer.
-pub fn replay_count(trace: &[u64], n: u64) -> usize
+fn replay_count(trace: &[u64], n: u64) -> usize
     ensures { λ r. ⌜ r ≡ replayCount (now (trace .entry)) n ⌝ }
 {
-    let all = trace.len() / 3;
+    let all = trace.len() / trace::OP_NUMBERS;
     if n < all as u64 { n as usize } else { all }
 }
 
 // The status of a replay.
-pub fn replay_status(image: &[u8], trace: &[u64], n: u64) -> Status
+fn replay_status(image: &[u8], trace: &[u64], n: u64) -> Status
     ensures { λ r. ⌜ codeOf r ≡ replayStatus (now (image .entry)) (now (trace .entry)) n ⌝ }
 {
     if image.len() as u64 % Layout::LINE_SIZE != 0 {
         return Status::BadLength;
     }
-    if trace.len() % 3 != 0 {
+    if trace.len() % trace::OP_NUMBERS != 0 {
         return Status::TraceBad;
     }
     let lines = image.len() as u64 / Layout::LINE_SIZE;
@@ -73,9 +74,9 @@ pub fn replay_status(image: &[u8], trace: &[u64], n: u64) -> Status
 }
 
 // Plays one operation: a store changes the image, the others do not.
-pub fn play_op(image: &mut [u8], kind: u64, place: u64, word: u64)
-    requires { ⌜ length (now image) % 64 ≡ 0 ⌝ }
-    requires { ⌜ wellFormed (length (now image) / 64) kind place word ≡ true ⌝ }
+fn play_op(image: &mut [u8], kind: u64, place: u64, word: u64)
+    requires { ⌜ length (now image) % lineSize ≡ 0 ⌝ }
+    requires { ⌜ wellFormed (length (now image) / lineSize) kind place word ≡ true ⌝ }
     ensures { λ _. ⌜ now (image .exit) ≡ apply (opOf kind place word) (now (image .entry)) ⌝ }
 {
     if kind == trace::OP_STORE {
@@ -84,15 +85,15 @@ pub fn play_op(image: &mut [u8], kind: u64, place: u64, word: u64)
 }
 
 // Plays the first `count` operations of a trace.
-pub fn play(image: &mut [u8], trace: &[u64], count: usize)
-    requires { ⌜ 3 * count ≤ length (now trace) ⌝ }
-    requires { ⌜ length (now image) % 64 ≡ 0 ⌝ }
-    requires { ⌜ allWellFormed (length (now image) / 64) (now trace) count ≡ true ⌝ }
+fn play(image: &mut [u8], trace: &[u64], count: usize)
+    requires { ⌜ opNumbers * count ≤ length (now trace) ⌝ }
+    requires { ⌜ length (now image) % lineSize ≡ 0 ⌝ }
+    requires { ⌜ allWellFormed (length (now image) / lineSize) (now trace) count ≡ true ⌝ }
     ensures { λ _. ⌜ now (image .exit) ≡ replay (replayedOps (now (trace .entry)) count) (now (image .entry)) ⌝ }
 {
     let mut k = 0;
     while k < count {
-        let at = 3 * k;
+        let at = trace::OP_NUMBERS * k;
         play_op(image, trace[at], trace[at + 1], trace[at + 2]);
         k += 1;
     }

@@ -277,12 +277,12 @@ pub fn put_backup(
         Plan::NoCopy => n,
         Plan::OwnBackup(j) => {
             let to = metadata::backup_at(layout, j);
-            blocks::put_dirty_copies(image, layout.blocks, word, from, to, trace, n)
+            segments::put_dirty_copies(image, layout.blocks, word, from, to, trace, n)
         }
         Plan::NewBackup(j) => {
             let to = metadata::backup_at(layout, j);
             let next = put_pair(image, main, j, trace, n);
-            blocks::put_segment_copy(image, layout, from, to, trace, next)
+            segments::put_segment_copy(image, layout, from, to, trace, next)
         }
         Plan::NoneFree => n,
     }

@@ -5,7 +5,7 @@ use lib.Dec.{eqb}
 use lib.ListN.{getD}
 use borrow.Author.Needs.{needs}
 use Rattle.model.specs.Range.{allB}
-use Rattle.blocks.proofs.GatherLaws.{zeros-more}
+use Rattle.blocks.proofs.TestLaws.{zeros-more}
 use Rattle.blocks.proofs.block_is_zero.Statement.{statement}
 use Rattle.blocks.proofs.block_is_zero.Tie as tie
 

@@ -5,7 +5,7 @@ use lib.Dec.{eqb}
 use lib.ListN.{getD}
 use borrow.Author.Needs.{needs}
 use Rattle.model.specs.Range.{allB}
-use Rattle.blocks.proofs.GatherLaws.{same-more}
+use Rattle.blocks.proofs.TestLaws.{same-more}
 use Rattle.blocks.proofs.blocks_equal.Statement.{statement}
 use Rattle.blocks.proofs.blocks_equal.Tie as tie
 

@@ -2,7 +2,7 @@ use Prim.Native.Nat.{_-_, _≤_}
 use mathlib.Core.Path.{_≡_, refl, sym, _∙_}
 use native.Mathlib.Omega.{arith}
 use Rattle.model.specs.Replay.{allWellFormed}
-use Rattle.replay.proofs.Laws.{judged-none, judged-less, judged-stop}
+use Rattle.replay.proofs.JudgeLaws.{judged-none, judged-less, judged-stop}
 use borrow.Author.Tests.{not-true, not-false}
 use borrow.Author.Needs.{needs}
 use Rattle.replay.proofs.all_well_formed.Statement.{statement}

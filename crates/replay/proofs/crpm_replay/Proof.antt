@@ -2,7 +2,7 @@ use mathlib.Core.Path.{sym, _∙_}
 use Rattle.model.specs.Replay.{replayOutcome}
 use borrow.Author.Needs.{needs}
 use borrow.Author.Tests.{eqb-true, eqb-false, not-true, not-false}
-use Rattle.replay.proofs.Laws.{judged, count-inside, refused, all-played}
+use Rattle.replay.proofs.ReplayLaws.{judged, count-inside, refused, all-played}
 use Rattle.replay.proofs.crpm_replay.Statement.{statement}
 use Rattle.replay.proofs.crpm_replay.Tie as tie
 

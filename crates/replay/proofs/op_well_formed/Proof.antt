@@ -1,5 +1,5 @@
 use borrow.Author.Needs.{needs}
-use Rattle.replay.proofs.Laws.{judged-store, judged-other}
+use Rattle.replay.proofs.JudgeLaws.{judged-store, judged-other}
 use Rattle.replay.proofs.op_well_formed.Statement.{statement}
 use Rattle.replay.proofs.op_well_formed.Tie as tie
 

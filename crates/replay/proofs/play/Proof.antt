@@ -4,7 +4,8 @@ use native.Mathlib.Omega.{arith}
 use lib.ListN.{length}
 use Rattle.model.specs.Ops.{replay}
 use Rattle.model.specs.Replay.{replayedOps}
-use Rattle.replay.proofs.Laws.{judged-at, played-none, played-more}
+use Rattle.replay.proofs.JudgeLaws.{judged-at}
+use Rattle.replay.proofs.ReplayLaws.{played-none, played-more}
 use borrow.Author.Needs.{needs}
 use Rattle.replay.proofs.play.Statement.{statement}
 use Rattle.replay.proofs.play.Tie as tie

@@ -1,5 +1,6 @@
 use mathlib.Core.Path.{_∙_}
-use Rattle.replay.proofs.Laws.{store-inside, played-store, played-other}
+use Rattle.replay.proofs.JudgeLaws.{store-inside}
+use Rattle.replay.proofs.ReplayLaws.{played-store, played-other}
 use borrow.Author.Needs.{needs}
 use Rattle.replay.proofs.play_op.Statement.{statement}
 use Rattle.replay.proofs.play_op.Tie as tie

@@ -1,6 +1,6 @@
 use mathlib.Core.Bool.{true, false}
 use borrow.Author.Needs.{needs}
-use Rattle.replay.proofs.Laws.{count-inside, length-refused, thirds-refused, judged-status}
+use Rattle.replay.proofs.ReplayLaws.{count-inside, length-refused, thirds-refused, judged-status}
 use Rattle.replay.proofs.replay_status.Statement.{statement}
 use Rattle.replay.proofs.replay_status.Tie as tie
 

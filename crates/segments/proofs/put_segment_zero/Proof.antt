@@ -8,8 +8,8 @@ use native.Mathlib.Omega.{arith}
 use mathlib.Core.Path.{_≡_}
 use Prim.Native.Nat.{_+_, _-_, _*_, _≤_}
 use borrow.Author.Needs.{needs}
-use Rattle.blocks.proofs.put_segment_zero.Statement.{statement}
-use Rattle.blocks.proofs.put_segment_zero.Tie as tie
+use Rattle.segments.proofs.put_segment_zero.Statement.{statement}
+use Rattle.segments.proofs.put_segment_zero.Tie as tie
 
 abbrev Inv-loop : tie.InvT-loop
 Inv-loop to trace₀ n blocks next₀ b₀ trace next b =

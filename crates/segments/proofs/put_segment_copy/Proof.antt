@@ -9,8 +9,8 @@ use native.Mathlib.Omega.{arith}
 use mathlib.Core.Path.{_≡_, sym}
 use Prim.Native.Nat.{_+_, _-_, _*_, _≤_}
 use borrow.Author.Needs.{needs}
-use Rattle.blocks.proofs.put_segment_copy.Statement.{statement}
-use Rattle.blocks.proofs.put_segment_copy.Tie as tie
+use Rattle.segments.proofs.put_segment_copy.Statement.{statement}
+use Rattle.segments.proofs.put_segment_copy.Tie as tie
 
 abbrev Inv-loop : tie.InvT-loop
 Inv-loop image from to trace₀ n blocks next₀ b₀ trace next b =

@@ -1,4 +1,4 @@
-use Rattle.blocks.proofs.DirtyLaws.{bit-tested, emitted-clean, dirty-fits, dirty-set, dirty-clear}
+use Rattle.segments.proofs.DirtyLaws.{bit-tested, emitted-clean, dirty-fits, dirty-set, dirty-clear}
 use Rattle.trace.proofs.EmitLaws.{emitted-none}
 use Rattle.trace.specs.Emit.{Emitted}
 use Rattle.model.specs.Ops.{clwbs, eachDirty}
@@ -9,8 +9,8 @@ use mathlib.Core.Logic.{⊎-elim}
 use mathlib.Core.Path.{_≡_, sym, ap, _∙_}
 use Prim.Native.Nat.{_+_, _-_, _*_, _≤_}
 use borrow.Author.Needs.{needs}
-use Rattle.blocks.proofs.put_dirty_clwbs.Statement.{statement}
-use Rattle.blocks.proofs.put_dirty_clwbs.Tie as tie
+use Rattle.segments.proofs.put_dirty_clwbs.Statement.{statement}
+use Rattle.segments.proofs.put_dirty_clwbs.Tie as tie
 
 abbrev Inv-loop : tie.InvT-loop
 Inv-loop blocks word at trace₀ n count next₀ k₀ trace next k =

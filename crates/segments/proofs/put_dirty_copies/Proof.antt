@@ -1,5 +1,5 @@
-use Rattle.blocks.proofs.DirtyLaws.{bit-tested, emitted-clean, dirty-fits, dirty-set, dirty-clear}
+use Rattle.segments.proofs.DirtyLaws.{bit-tested, emitted-clean, dirty-fits, dirty-set, dirty-clear}
 use Rattle.blocks.proofs.PartLaws.{length-part, copy-part}
 use Rattle.trace.proofs.EmitLaws.{fits-as, emitted-as, emitted-none}
 use Rattle.trace.specs.Emit.{Emitted}
 use Rattle.model.specs.Ops.{persistCopy, eachDirty}
@@ -10,8 +10,8 @@ use native.Mathlib.Omega.{arith}
 use mathlib.Core.Path.{_≡_, sym, ap, _∙_}
 use Prim.Native.Nat.{_+_, _-_, _*_, _≤_}
 use borrow.Author.Needs.{needs}
-use Rattle.blocks.proofs.put_dirty_copies.Statement.{statement}
-use Rattle.blocks.proofs.put_dirty_copies.Tie as tie
+use Rattle.segments.proofs.put_dirty_copies.Statement.{statement}
+use Rattle.segments.proofs.put_dirty_copies.Tie as tie
 
 abbrev Inv-loop : tie.InvT-loop
 Inv-loop image blocks word from to trace₀ n count next₀ b₀ trace next b =

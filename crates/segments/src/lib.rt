@@ -1,0 +1,117 @@
+// The blocks of a segment (document 01: the frames of a level or a spare): all of them copied or zeroed, the dirty ones copied
+// or written back, by operations on a trace. Every function `put_..` writes its operations from number n on and answers the
+// number of the next one.
+ghost use mathlib.Core.Path.{_≡_};
+ghost use Prim.Native.Nat.{_+_, _*_, _^_, _≤_, _<_};
+ghost use lib.ListN.{length};
+ghost use Rattle.model.specs.Layout.{blockSize, blockLines, most, segmentSize};
+ghost use Rattle.model.specs.Ops.{clwbs, persistCopy, copySegment, zeroSegment, eachDirty};
+ghost use Rattle.trace.specs.Emit.{Fits, Emitted};
+use model::Layout;
+
+// Bytes of a block, as indexes count them.
+const BLOCK_SIZE: usize = Layout::BLOCK_SIZE as usize;
+
+// ---- all blocks
+
+// Copies all blocks of the segment at one place to that at another, upward.
+pub fn put_segment_copy(
+    image: &[u8],
+    layout: Layout,
+    from: usize,
+    to: usize,
+    trace: &mut [u64],
+    n: usize,
+) -> usize
+    requires { ⌜ from + segmentSize layout ≤ length (now image) ⌝ }
+    requires { ⌜ to + segmentSize layout < 2 ^ 64 ⌝ }
+    requires { ⌜ Fits (now trace) n (copySegment layout (now image) from to) ⌝ }
+    ensures { λ r. ⌜ Emitted (now (trace .entry)) n (copySegment layout (now (image .entry)) from to) (now (trace .exit)) r ⌝ }
+{
+    let blocks = layout.blocks as usize;
+    let mut next = n;
+    let mut b = 0;
+    while b < blocks {
+        let start = from + BLOCK_SIZE * b;
+        let place = to + BLOCK_SIZE * b;
+        next = blocks::put_copy(&image[start..start + BLOCK_SIZE], place as u64, trace, next);
+        b += 1;
+    }
+    next
+}
+
+// Fills all blocks of the segment at a place with zeros, upward.
+pub fn put_segment_zero(layout: Layout, to: usize, trace: &mut [u64], n: usize) -> usize
+    requires { ⌜ to + segmentSize layout < 2 ^ 64 ⌝ }
+    requires { ⌜ Fits (now trace) n (zeroSegment layout to) ⌝ }
+    ensures { λ r. ⌜ Emitted (now (trace .entry)) n (zeroSegment layout to) (now (trace .exit)) r ⌝ }
+{
+    let blocks = layout.blocks as usize;
+    let mut next = n;
+    let mut b = 0;
+    while b < blocks {
+        let place = to + BLOCK_SIZE * b;
+        next = blocks::put_zero(place as u64, trace, next);
+        b += 1;
+    }
+    next
+}
+
+// ---- dirty blocks
+
+// Copies the dirty blocks of the segment at one place to that at another, upward; bit b of the word says that block b is
+// dirty.
+pub fn put_dirty_copies(
+    image: &[u8],
+    blocks: u64,
+    word: u64,
+    from: usize,
+    to: usize,
+    trace: &mut [u64],
+    n: usize,
+) -> usize
+    requires { ⌜ blocks ≤ most ⌝ }
+    requires { ⌜ from + blockSize * blocks ≤ length (now image) ⌝ }
+    requires { ⌜ to + blockSize * blocks < 2 ^ 64 ⌝ }
+    requires { ⌜ Fits (now trace) n (eachDirty word blocks (λ b. persistCopy (now image) (from + blockSize * b) (to + blockSize * b))) ⌝ }
+    ensures { λ r. ⌜ Emitted (now (trace .entry)) n (eachDirty word blocks (λ b. persistCopy (now (image .entry)) (from + blockSize * b) (to + blockSize * b))) (now (trace .exit)) r ⌝ }
+{
+    if word == 0 {
+        return n;
+    }
+    let count = blocks as usize;
+    let mut next = n;
+    let mut b: usize = 0;
+    while b < count {
+        if (word >> b) & 1 == 1 {
+            let start = from + BLOCK_SIZE * b;
+            let place = to + BLOCK_SIZE * b;
+            next = blocks::put_copy(&image[start..start + BLOCK_SIZE], place as u64, trace, next);
+        }
+        b += 1;
+    }
+    next
+}
+
+// Writes back the dirty blocks of the segment at a place, upward; bit b of the word says that block b is dirty.
+pub fn put_dirty_clwbs(blocks: u64, word: u64, at: usize, trace: &mut [u64], n: usize) -> usize
+    requires { ⌜ blocks ≤ most ⌝ }
+    requires { ⌜ at + blockSize * blocks < 2 ^ 64 ⌝ }
+    requires { ⌜ Fits (now trace) n (eachDirty word blocks (λ b. clwbs blockLines (at + blockSize * b))) ⌝ }
+    ensures { λ r. ⌜ Emitted (now (trace .entry)) n (eachDirty word blocks (λ b. clwbs blockLines (at + blockSize * b))) (now (trace .exit)) r ⌝ }
+{
+    if word == 0 {
+        return n;
+    }
+    let count = blocks as usize;
+    let mut next = n;
+    let mut k: usize = 0;
+    while k < count {
+        if (word >> k) & 1 == 1 {
+            let place = at + BLOCK_SIZE * k;
+            next = blocks::put_clwbs(place as u64, trace, next);
+        }
+        k += 1;
+    }
+    next
+}
