@@ -1,6 +1,6 @@
 use native.Mathlib.Omega.{arith}
 use borrow.Author.Needs.{needs}
-use Rattle.model.proofs.Laws.Counts.{length-checkpoint-ops}
+use Rattle.model.proofs.Laws.Counts.Checkpoint.{length-checkpoint-ops}
 use Rattle.session.specs.Parts.{sessionOf}
 use Rattle.checkpoint.proofs.checkpoint_length.Statement.{statement}
 use Rattle.checkpoint.proofs.checkpoint_length.Tie as tie
