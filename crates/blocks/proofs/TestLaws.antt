@@ -1,24 +1,15 @@
 -- Laws of tests gathered over bytes: a number that is 0 exactly if every byte passed.
 use Prim.Native.Nat.{ℕ, _+_}
 use mathlib.Core.Path.{_≡_, refl, sym, _∙_}
-use mathlib.Core.Bool.{_&&_}
 use mathlib.Core.List.{List}
 use native.Mathlib.Omega.{arith}
 use native.Mathlib.Decide.{ℕ-discrete}
-use lib.Bits.{bitOr, bitXor, and-le-l, and-le-r, or-add-and, xor-add-and, xor-self}
+use lib.Bits.{bitOr, bitXor, and-le-l, and-le-r, xor-add-and, xor-self}
 use lib.Dec.{eqb}
 use lib.ListN.{getD}
 use borrow.Author.Tests.{eq-eqb, ne-eqb}
 use Rattle.model.specs.Range.{allB}
-use Rattle.model.proofs.Laws.Range.{all-more}
-
-or-zero : (a b : ℕ) → eqb (bitOr a b) 0 ≡ (eqb a 0 && eqb b 0)
-or-zero a b = go (ℕ-discrete a 0) (ℕ-discrete b 0)
-  where
-    go : Dec (a ≡ 0) → Dec (b ≡ 0) → eqb (bitOr a b) 0 ≡ (eqb a 0 && eqb b 0)
-    go (yes x) (yes y) = eq-eqb (bitOr a b) 0 (omega (arith, or-add-and a b, and-le-l a b, and-le-r a b)) ∙ sym (rw (x, y))
-    go (yes x) (no y) = ne-eqb (bitOr a b) 0 (λ z. omega (arith, or-add-and a b, and-le-l a b, and-le-r a b)) ∙ sym (rw (x, ne-eqb b 0 y))
-    go (no x) d = ne-eqb (bitOr a b) 0 (λ z. omega (arith, or-add-and a b, and-le-l a b, and-le-r a b)) ∙ sym (rw (ne-eqb a 0 x))
+use Rattle.model.proofs.Laws.Range.{or-zero, all-more}
 
 xor-zero : (a b : ℕ) → eqb (bitXor a b) 0 ≡ eqb a b
 xor-zero a b = go (ℕ-discrete a b)

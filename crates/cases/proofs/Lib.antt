@@ -1,3 +1,4 @@
+-- The bench cases, computed: what lets the checker compute, the table, how a history starts, the crash inside P4.
 pub mod Compute
 pub mod Table
 pub mod Starts

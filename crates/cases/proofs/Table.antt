@@ -6,7 +6,7 @@ use mathlib.Core.Bool.{Bool, true, _&&_}
 use mathlib.Core.List.{List, [], _∷_, _++_, map}
 use Rattle.model.specs.History.{State, start, step}
 use Rattle.model.proofs.Laws.Range.{and-left, and-right}
-use Rattle.cases.specs.Table.{Row, Case, l211, fresh, room, rowOf, history, follow, sizeCases, openCases, copyCase, rows, Holds}
+use Rattle.cases.specs.Table.{Row, Case, l211, fresh, longTrace, rowOf, history, follow, sizeCases, openCases, copyCase, rows, TableHolds}
 use Rattle.cases.proofs.Compute.{model-rules, same, same-equal}
 
 -- ---- a test of rows
@@ -61,17 +61,17 @@ follow-same (c ∷ cs) s =
 -- ---- the table
 
 rowsKnown : List Row
-rowsKnown = sizeCases ++ openCases ++ knownState (start l211 fresh room) (followKnown history) ++ copyCase
+rowsKnown = sizeCases ++ openCases ++ knownState (start l211 fresh longTrace) (followKnown history) ++ copyCase
 
 rows-same : rowsKnown ≡ rows
 unfolding rowsKnown rows
 rows-same =
     ap (λ (rs : List Row). sizeCases ++ openCases ++ rs ++ copyCase)
-    (known-same (start l211 fresh room .device .image) (λ I. followKnown history (withImage (start l211 fresh room) I)) ∙ follow-same history (start l211 fresh room))
+    (known-same (start l211 fresh longTrace .device .image) (λ I. followKnown history (withImage (start l211 fresh longTrace) I)) ∙ follow-same history (start l211 fresh longTrace))
 
 rows-agree : agree rowsKnown ≡ true
 unfolding model-rules rowsKnown history known followKnown sizeCases openCases copyCase same agree
 rows-agree = refl
 
-pub holds : Holds
+pub holds : TableHolds
 holds = agree-equal rows (subst (λ (rs : List Row). agree rs ≡ true) rows-same rows-agree)

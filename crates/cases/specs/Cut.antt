@@ -10,14 +10,14 @@ use Rattle.model.specs.Crash.{CrashImage}
 use Rattle.model.specs.Reference.{Page}
 use Rattle.model.specs.History.{State, start, run}
 use Rattle.model.specs.CrashSafety.{Recovers, Moment, between, during, playedAt}
-use Rattle.cases.specs.Table.{l211, fresh, room, fourBytes, writeFour, checkpoint}
+use Rattle.cases.specs.Table.{l211, fresh, longTrace, fourBytes, writeFour, checkpoint}
 
 -- where the history stands before P4, and once P4 is played whole
-abbrev pub before : State
-before = run (start l211 fresh room) (writeFour ∷ [])
+abbrev pub beforeP4 : State
+beforeP4 = run (start l211 fresh longTrace) (writeFour ∷ [])
 
-abbrev pub after : State
-after = run (start l211 fresh room) (writeFour ∷ checkpoint ∷ [])
+abbrev pub afterP4 : State
+afterP4 = run (start l211 fresh longTrace) (writeFour ∷ checkpoint ∷ [])
 
 -- the page of the last checkpoint, and the page with the bytes of P3
 abbrev pub zeros : Page
@@ -32,7 +32,7 @@ MayLeave s m H = CrashImage (s .device .durable) (playedAt (s .device) m) H
 
 -- some crash there is followed by an opening that shows the page Q
 abbrev pub CanShow : State → Moment → Page → Type 0
-CanShow s m Q = (H : Image) × MayLeave s m H × Recovers l211 H room Q
+CanShow s m Q = (H : Image) × MayLeave s m H × Recovers l211 H longTrace Q
 
 -- every crash there is followed by openings that show the page Q
 abbrev pub OnlyShows : State → Moment → Page → Type 0
@@ -43,7 +43,7 @@ pub record EitherPage (s : State) (m : Moment) : Type 0 where
   pub new : CanShow s m newBytes
 
 pub record CutP4 : Type 0 where
-  pub after15 : OnlyShows before (during checkpoint 15) zeros
-  pub after16 : EitherPage before (during checkpoint 16)
-  pub after17 : EitherPage before (during checkpoint 17)
-  pub after18 : OnlyShows after between newBytes
+  pub after15 : OnlyShows beforeP4 (during checkpoint 15) zeros
+  pub after16 : EitherPage beforeP4 (during checkpoint 16)
+  pub after17 : EitherPage beforeP4 (during checkpoint 17)
+  pub after18 : OnlyShows afterP4 between newBytes

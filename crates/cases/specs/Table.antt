@@ -1,5 +1,5 @@
 -- Document 01's bench cases P1 to P10 as one table. Each row holds the numbers that the definitions of `model` give and
--- those that are expected; `Holds` says that they agree in every row. P2's two rows are openings of one fresh image, each
+-- those that are expected; `TableHolds` says that they agree in every row. P2's two rows are openings of one fresh image, each
 -- made alone; P3 to P9 are one history from there, each call made by the step of model's histories. Expected are the numbers
 -- that document 01 states in these cases and, beside them, what its rules give: 0 for a served call, no operations of a
 -- refused one, the two words of P3, the two operations of P3, 43 and 1 of P8 and P9, and in P8 that the backup segment is
@@ -50,18 +50,18 @@ abbrev pub fresh : Image
 fresh = formatOutcome l211 (replicate 1280 77) .image
 
 -- a trace, long enough for every call of the history
-abbrev pub room : Trace
-room = replicate 219 0
+abbrev pub longTrace : Trace
+longTrace = replicate 219 0
 
 -- bytes written to block 0 of a main segment; backup segment 0, the only one, is taken where one is needed
 abbrev pub writes : ℕ → ℕ → List ℕ → WriteArgs
 writes main offset bytes = record { main = main; block = 0; offset = offset; bytes = bytes }
 
 abbrev pub write : ℕ → ℕ → List ℕ → Call
-write main offset bytes = callWrite (writes main offset bytes) room 0
+write main offset bytes = callWrite (writes main offset bytes) longTrace 0
 
 abbrev pub checkpoint : Call
-checkpoint = callCheckpoint room
+checkpoint = callCheckpoint longTrace
 
 abbrev pub aWord : List ℕ
 aWord = 1 ∷ 2 ∷ 3 ∷ 4 ∷ 5 ∷ 6 ∷ 7 ∷ 8 ∷ []
@@ -139,13 +139,13 @@ abbrev pub session10 : Session
 session10 = record { layout = sizes 1 1 4; «dirty_segments» = 0; «dirty_blocks» = 4 ∷ replicate 63 0 }
 
 unfoldable pub copyCase : List Row
-copyCase = row 10 (answer (writeOutcome session10 image10 (writes 0 0 aWord) 0 room)) (0 ∷ 41 ∷ []) ∷ []
+copyCase = row 10 (answer (writeOutcome session10 image10 (writes 0 0 aWord) 0 longTrace)) (0 ∷ 41 ∷ []) ∷ []
 
 -- ---- the table
 
 unfoldable pub rows : List Row
-rows = sizeCases ++ openCases ++ follow history (start l211 fresh room) ++ copyCase
+rows = sizeCases ++ openCases ++ follow history (start l211 fresh longTrace) ++ copyCase
 
 -- P1 TO P10
-abbrev pub Holds : Type 0
-Holds = map (λ r. r .given) rows ≡ map (λ r. r .expected) rows
+abbrev pub TableHolds : Type 0
+TableHolds = map (λ r. r .given) rows ≡ map (λ r. r .expected) rows

@@ -15,7 +15,7 @@ use Rattle.model.specs.Reference.{Page}
 use Rattle.model.specs.History.{State, start, run, calledOps, openedImage}
 use Rattle.model.specs.Crash.{CrashImage}
 use Rattle.model.proofs.Laws.Crash.Images.{newest}
-use Rattle.cases.specs.Table.{room, write, aWord}
+use Rattle.cases.specs.Table.{longTrace, write, aWord}
 use Rattle.cases.proofs.Compute.{model-rules, same, same-equal, small, small-bytes}
 use Rattle.faults.specs.Faults.{l111, one, CalledShowsOther, twoCalls, marksCleared, ClearedMarks}
 use Rattle.faults.proofs.Shown.{no-checkpoint}
@@ -24,14 +24,14 @@ use Rattle.faults.proofs.TwoCalls.{image, old, new, before, saved, stan
 abbrev cleared : State
 cleared = saved (image 1 2 1 new) (freshSession l111)
 
-clears : marksCleared (run (start l111 (one 0) room) twoCalls) ≡ cleared
+clears : marksCleared (run (start l111 (one 0) longTrace) twoCalls) ≡ cleared
 unfolding marksCleared
 clears = ap marksCleared stands
 
 abbrev played : Ops
 played = before ++ calledOps (cleared .device) (write 0 8 aWord) 2
 
-wrong : CalledShowsOther (λ H. openedImage l111 H room) cleared (write 0 8 aWord) 2
+wrong : CalledShowsOther (λ H. openedImage l111 H longTrace) cleared (write 0 8 aWord) 2
 unfolding model-rules same small
 wrong = record {
   permitted = ((small-bytes aWord refl, λ served needs. absurd (false≢true needs)), lit< tt);
@@ -43,5 +43,5 @@ wrong = record {
   wrong = ⊎-elim (λ e. let z : _≡_ {A = ℕ} 40 1 = ap (λ (P : Page). getD P 0 0) e in omega arith) (λ w. no-checkpoint (w .0 .0));
 }
 
-pub cleared-marks : ClearedMarks (start l111 (one 0) room)
-cleared-marks = (calls-permitted, subst (λ (s : State). CalledShowsOther (λ H. openedImage l111 H room) s (write 0 8 aWord) 2) (sym clears) wrong)
+pub cleared-marks : ClearedMarks (start l111 (one 0) longTrace)
+cleared-marks = (calls-permitted, subst (λ (s : State). CalledShowsOther (λ H. openedImage l111 H longTrace) s (write 0 8 aWord) 2) (sym clears) wrong)

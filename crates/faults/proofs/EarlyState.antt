@@ -23,7 +23,7 @@ use Rattle.model.proofs.Argument.Settled.{Off}
 use Rattle.model.proofs.Laws.Crash.Floor.{durable-all}
 use Rattle.model.specs.CrashExact.{hasFence}
 use Rattle.model.proofs.Laws.Crash.Images.{unfenced-lost}
-use Rattle.cases.specs.Table.{room, writes, aWord}
+use Rattle.cases.specs.Table.{longTrace, writes, aWord}
 use Rattle.cases.proofs.Compute.{model-rules, same, same-equal, small, small-bytes}
 use Rattle.cases.proofs.Starts.{standing, started}
 use Rattle.faults.specs.Faults.{l111, one, earlyStateOps, earlyWriteOps, EarlyState, ShowsBackup, EarlyStateUnseen}
@@ -101,9 +101,9 @@ crash-after I H O E c = record { long = c .long ∙ length-replay O I; lines = �
 
 -- ---- from an unpaired main segment
 
-starts : start l111 (one unpaired) room .device ≡ standing l111 (one unpaired) (replicate 256 40) .device
+starts : start l111 (one unpaired) longTrace .device ≡ standing l111 (one unpaired) (replicate 256 40) .device
 unfolding model-rules same
-starts = ap (λ (s : State). s .device) (started l111 (one unpaired) (one unpaired) room (replicate 256 40) refl (same-equal _ _ refl) (same-equal _ _ refl))
+starts = ap (λ (s : State). s .device) (started l111 (one unpaired) (one unpaired) longTrace (replicate 256 40) refl (same-equal _ _ refl) (same-equal _ _ refl))
 
 refused : EarlyState (standing l111 (one unpaired) (replicate 256 40) .device)
 unfolding model-rules earlyWriteOps earlyStateOps hasFence avoids elsewhere small
@@ -117,7 +117,7 @@ refused = (
   },
 )
 
-pub early-state : EarlyState (start l111 (one unpaired) room .device)
+pub early-state : EarlyState (start l111 (one unpaired) longTrace .device)
 early-state = subst EarlyState (sym starts) refused
 
 -- ---- from a paired one
@@ -146,5 +146,5 @@ unseen = record {
   wrong = ⊎-elim (λ e. let z : _≡_ {A = ℕ} 40 1 = ap (λ (P : Page). getD P 0 0) e in omega arith) (λ w. no-checkpoint (w .0 .0));
 }
 
-pub early-state-unseen : EarlyStateUnseen (start l111 (one 0) room)
+pub early-state-unseen : EarlyStateUnseen (start l111 (one 0) longTrace)
 early-state-unseen = (calls-permitted, subst ShowsBackup (sym stands) unseen)

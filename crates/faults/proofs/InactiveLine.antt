@@ -9,7 +9,7 @@ use Rattle.model.specs.Format.{container}
 use Rattle.model.specs.Reference.{Page}
 use Rattle.model.specs.History.{State, start}
 use Rattle.model.proofs.Laws.Crash.Images.{newest}
-use Rattle.cases.specs.Table.{l211, room}
+use Rattle.cases.specs.Table.{l211, longTrace}
 use Rattle.cases.proofs.Compute.{model-rules, same, same-equal}
 use Rattle.cases.proofs.Starts.{standing, started}
 use Rattle.faults.specs.Faults.{two, inactivePlan, inactiveWriteOps, InactiveLine}
@@ -23,9 +23,9 @@ opened =
 abbrev page : Page
 page = replicate 256 90 ++ replicate 256 41
 
-starts : start l211 two room .device ≡ standing l211 opened page .device
+starts : start l211 two longTrace .device ≡ standing l211 opened page .device
 unfolding model-rules same
-starts = ap (λ (s : State). s .device) (started l211 two opened room page refl (same-equal _ _ refl) (same-equal _ _ refl))
+starts = ap (λ (s : State). s .device) (started l211 two opened longTrace page refl (same-equal _ _ refl) (same-equal _ _ refl))
 
 refused : InactiveLine (standing l211 opened page .device)
 unfolding model-rules inactivePlan inactiveWriteOps
@@ -39,5 +39,5 @@ refused = (
   },
 )
 
-pub inactive-line : InactiveLine (start l211 two room .device)
+pub inactive-line : InactiveLine (start l211 two longTrace .device)
 inactive-line = subst InactiveLine (sym starts) refused

@@ -1,3 +1,4 @@
+-- The counterexamples: what they share, one file a fault, and all of them together.
 pub mod Shown
 pub mod TwoCalls
 pub mod EarlyState

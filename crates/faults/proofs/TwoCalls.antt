@@ -17,7 +17,7 @@ use Rattle.model.specs.Checkpoint.{checkpointOps}
 use Rattle.model.specs.Reference.{Page}
 use Rattle.model.specs.History.{State, start, step, run, openedImage, AllPermitted}
 use Rattle.model.specs.CrashSafety.{Reads}
-use Rattle.cases.specs.Table.{room, writes, write, checkpoint, aWord}
+use Rattle.cases.specs.Table.{longTrace, writes, write, checkpoint, aWord}
 use Rattle.cases.proofs.Compute.{model-rules, same, same-equal, small, small-bytes}
 use Rattle.cases.proofs.Starts.{standing, started}
 use Rattle.faults.specs.Faults.{l111, one, twoCalls}
@@ -61,9 +61,9 @@ saved I s = record {
   model = record { working = new; checkpoint = new };
 }
 
-starts : start l111 (one 0) room ≡ standing l111 (image 0 1 0 old) old
+starts : start l111 (one 0) longTrace ≡ standing l111 (image 0 1 0 old) old
 unfolding model-rules same
-starts = started l111 (one 0) (image 0 1 0 old) room old refl (same-equal _ _ refl) (same-equal _ _ refl)
+starts = started l111 (one 0) (image 0 1 0 old) longTrace old refl (same-equal _ _ refl) (same-equal _ _ refl)
 
 writes-first : step (standing l111 (image 0 1 0 old) old) (write 0 0 aWord) ≡ written (image 0 2 0 new)
 unfolding model-rules same
@@ -73,7 +73,7 @@ saves : step (written (image 0 2 0 new)) checkpoint ≡ saved (image 1 2 1 new) 
 unfolding model-rules same
 saves = ap (λ (I : Image). saved I marked) (same-equal _ _ refl)
 
-pub stands : run (start l111 (one 0) room) twoCalls ≡ saved (image 1 2 1 new) marked
+pub stands : run (start l111 (one 0) longTrace) twoCalls ≡ saved (image 1 2 1 new) marked
 unfolding run
 stands =
     ap (λ (s : State). step (step s (write 0 0 aWord)) checkpoint) starts ∙ ap (λ (s : State). step s checkpoint) writes-first ∙ saves
@@ -83,7 +83,7 @@ pub replayed : replay before (image 0 1 0 old) ≡ image 1 2 1 new
 unfolding model-rules same
 replayed = same-equal _ _ refl
 
-pub calls-permitted : AllPermitted (start l111 (one 0) room) twoCalls
+pub calls-permitted : AllPermitted (start l111 (one 0) longTrace) twoCalls
 unfolding model-rules small
 calls-permitted =
     subst (λ (s : State). AllPermitted s twoCalls) (sym starts)
@@ -91,7 +91,7 @@ calls-permitted =
 
 -- ---- state 2 again, with the new bytes in the main segment and the old ones in its backup
 
-recovers : openedImage l111 (image 1 2 2 new) room ≡ image 1 2 2 old
+recovers : openedImage l111 (image 1 2 2 new) longTrace ≡ image 1 2 2 old
 unfolding model-rules same
 recovers = same-equal _ _ refl
 
@@ -99,5 +99,5 @@ old-reads : Reads l111 (image 1 2 2 old) old old
 unfolding model-rules
 old-reads = only-block (record { status = refl; working = refl; checkpoint = inl refl })
 
-pub old-shown : Reads l111 (openedImage l111 (image 1 2 2 new) room) old old
+pub old-shown : Reads l111 (openedImage l111 (image 1 2 2 new) longTrace) old old
 old-shown = subst (λ (I : Image). Reads l111 I old old) (sym recovers) old-reads

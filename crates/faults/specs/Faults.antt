@@ -26,16 +26,16 @@ use Rattle.model.specs.Crash.{CrashImage}
 use Rattle.model.specs.Reference.{Page}
 use Rattle.model.specs.History.{Call, Device, State, calledOps, start, run, openedImage, Permitted, AllPermitted}
 use Rattle.model.specs.CrashSafety.{Reads, during, PermittedAt, MayShow}
-use Rattle.cases.specs.Table.{sizes, l211, room, writes, write, checkpoint, aWord}
+use Rattle.cases.specs.Table.{sizes, l211, longTrace, writes, write, checkpoint, aWord}
 
 -- ---- how demand 3 fails
 
 -- what was durable on the device d is accepted, and a crash after the operations O may leave an image that opening refuses
 pub record Refuses (d : Device) (O : Ops) : Type 0 where
-  pub accepted : openStatus (d .layout) (d .durable) room ≡ 0
+  pub accepted : openStatus (d .layout) (d .durable) longTrace ≡ 0
   pub left : Image
   pub crash : CrashImage (d .durable) (d .played ++ O) left
-  pub refused : openStatus (d .layout) left room ≡ 4
+  pub refused : openStatus (d .layout) left longTrace ≡ 4
 
 -- a crash after O, the first p operations of the call c made in state s, may leave an image that opening accepts and
 -- `recover` takes to one whose reads show a page, and it is none of those that demand 3 permits
@@ -43,7 +43,7 @@ pub record ShowsOther (recover : Image → Image) (s : State) (c : Call) (p : �
   pub permitted : PermittedAt (s .device) (during c p)
   pub left : Image
   pub crash : CrashImage (s .device .durable) (s .device .played ++ O) left
-  pub accepted : openStatus (s .device .layout) left room ≡ 0
+  pub accepted : openStatus (s .device .layout) left longTrace ≡ 0
   pub page : Page
   pub shown : Reads (s .device .layout) (recover left) page page
   pub wrong : MayShow s (during c p) page → ⊥
@@ -71,7 +71,7 @@ earlyStateOps l I word i p =
 -- the operations of a write with this fault; what it refuses is not changed
 unfoldable pub earlyWriteOps : Session → Image → WriteArgs → ℕ → Ops
 earlyWriteOps s I w j =
-    cond (served (writeStatus s I w j room))
+    cond (served (writeStatus s I w j longTrace))
     (earlyStateOps (s .layout) I (dirtyWord s (w .main)) (w .main) (copyPlan s I (w .main) j) ++ spanOps (s .layout) I w)
     []
 
@@ -87,7 +87,7 @@ twoCalls = write 0 0 aWord ∷ checkpoint ∷ []
 -- after 37 of its 41 operations: opening accepts what is left and shows the backup's old bytes
 abbrev pub ShowsBackup : State → Type 0
 ShowsBackup s =
-    ShowsOther (λ H. openedImage l111 H room) s (write 0 8 aWord) 37 (take 37 (earlyWriteOps (s .device .session) (s .device .image) (writes 0 8 aWord) 0))
+    ShowsOther (λ H. openedImage l111 H longTrace) s (write 0 8 aWord) 37 (take 37 (earlyWriteOps (s .device .session) (s .device .image) (writes 0 8 aWord) 0))
 
 abbrev pub EarlyStateUnseen : State → Type 0
 EarlyStateUnseen s = AllPermitted s twoCalls × ShowsBackup (run s twoCalls)
@@ -109,7 +109,7 @@ marksCleared s = record {
 -- from a paired main segment: the two calls, another word written, this cut after 2 of its 5 operations
 abbrev pub ClearedMarks : State → Type 0
 ClearedMarks s =
-    AllPermitted s twoCalls × CalledShowsOther (λ H. openedImage l111 H room) (marksCleared (run s twoCalls)) (write 0 8 aWord) 2
+    AllPermitted s twoCalls × CalledShowsOther (λ H. openedImage l111 H longTrace) (marksCleared (run s twoCalls)) (write 0 8 aWord) 2
 
 -- ---- 3. opening skips the copy to the backup segment
 
@@ -162,13 +162,13 @@ two =
 -- a word written to main segment 1, which a right write refuses with 9; this one, cut after its first operation
 abbrev pub InactiveLine : Device → Type 0
 InactiveLine d =
-    (writeStatus (d .session) (d .image) (writes 1 0 aWord) 0 room ≡ 9)
+    (writeStatus (d .session) (d .image) (writes 1 0 aWord) 0 longTrace ≡ 9)
     × Refuses d (take 1 (inactiveWriteOps (d .session) (d .image) (writes 1 0 aWord)))
 
 -- THE FOUR FAULTS, the first both ways
 pub record Faults : Type 0 where
-  pub earlyState : EarlyState (start l111 (one unpaired) room .device)
-  pub earlyStateUnseen : EarlyStateUnseen (start l111 (one 0) room)
-  pub clearedMarks : ClearedMarks (start l111 (one 0) room)
+  pub earlyState : EarlyState (start l111 (one unpaired) longTrace .device)
+  pub earlyStateUnseen : EarlyStateUnseen (start l111 (one 0) longTrace)
+  pub clearedMarks : ClearedMarks (start l111 (one 0) longTrace)
   pub skippedCopy : SkippedCopy (skippingStart l111 (one 0))
-  pub inactiveLine : InactiveLine (start l211 two room .device)
+  pub inactiveLine : InactiveLine (start l211 two longTrace .device)

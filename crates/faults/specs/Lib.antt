@@ -1,1 +1,2 @@
+-- Document 01's faults.
 pub mod Faults

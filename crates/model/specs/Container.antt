@@ -20,7 +20,8 @@ use Rattle.model.specs.Status.{Errors}
 abbrev pub committedEpoch : Image → ℕ
 committedEpoch I = wordAt I epochAt
 
--- the line of states that the epoch's parity picks, and the other (document 01: active and idle line)
+-- the line of states that the epoch's parity picks, and the other (document 01: active and idle line); a line of states is named
+-- by the place of its first byte
 abbrev pub activeLine : Image → ℕ
 activeLine I = stateLine (committedEpoch I)
 

@@ -12,7 +12,7 @@ use Rattle.model.specs.Words.{Image, byteAt}
 use Rattle.model.specs.Layout.{lineSize}
 use Rattle.model.specs.Ops.{Ops, clwb, sfence, replay}
 
--- a line is named by its number ℓ here, which is the number of its first byte by 64
+-- a line is named here by its number ℓ, which is the place of each of its bytes by 64; lines of states elsewhere by their place
 
 -- the first k operations of O keep what is durable of line ℓ: every store before a clwb of the line that a later sfence
 -- followed; so k is not below the floor of the line (specs/CrashExact.antt: `FloorExact`)

@@ -37,7 +37,7 @@ callCheckpoint t = record { args = checkpointArgs; trace = t; choice = 0 }
 pub record Device : Type 0 where
   -- its sizes, those of the opening that the history started with
   pub layout : Layout
-  -- the image when all was last durable, and the operations played since
+  -- the image when all was last durable, and the operations played since (a list; `played` of a replay's answer is a number)
   pub durable : Image
   pub played : Ops
   -- the image as it stands, and the session last answered
@@ -59,7 +59,8 @@ answers s I checkpointArgs t j = checkpointOutcome s I t
 abbrev pub outcome : Device → Call → Outcome
 outcome d c = answers (d .session) (d .image) (c .args) (c .trace) (c .choice)
 
--- the part of the trace t that holds the reported operations O
+-- the part of the trace that holds the reported operations O, which a call leaves on the trace t: it is `encode O` whatever t is
+-- (`reported-is`)
 unfoldable pub reported : Ops → Trace → Trace
 reported O t = take (opNumbers * length O) (written O t)
 

@@ -123,6 +123,6 @@ mainAt l i = segmentAt l i
 abbrev pub backupAt : Layout → ℕ → ℕ
 backupAt l j = segmentAt l (l .mains + j)
 
--- the line of states for epoch e: one for even epochs, one for odd
+-- where the line of states for epoch e starts: one for even epochs, one for odd
 unfoldable pub stateLine : ℕ → ℕ
 stateLine e = statesAt + lineSize * (e % 2)

@@ -11,7 +11,8 @@ use Rattle.model.specs.Words.{Image, byteAt, wordOf, wordAt, storeWord, 
 use Rattle.model.specs.Layout.{wordSize, lineSize, blockSize, blockWords, blockLines}
 use Rattle.model.specs.Session.{isDirty}
 
--- store a word at a place; write the line of a place back; wait for what was written back (document 01: store, flush, fence)
+-- store a word at a place; write the line of a place back; wait for what was written back (document 01: store, flush, fence); a
+-- place is the number of a byte of the image
 pub data Op : Type 0 where
   store : ℕ → ℕ → Op
   clwb : ℕ → Op

@@ -9,8 +9,8 @@ use Rattle.model.specs.declared.Answer.{Answer}
 use Rattle.model.specs.Status.{codeOf, served}
 use Rattle.model.specs.Ops.{Ops, Trace, written}
 
--- the status, the session, and the operations that stand on the trace; the number of operations that is reported is their
--- length
+-- the status, the session, and the operations that stand on the trace: `ops` is their list here, and their number in the
+-- code's `Answer`
 pub record Outcome : Type 0 where
   pub status : ℕ
   pub session : Session

@@ -10,7 +10,7 @@ use Rattle.model.specs.Layout.{wordSize, lineSize}
 use Rattle.model.specs.Status.{Errors, firstError, served}
 use Rattle.model.specs.Ops.{opNumbers, Ops, Trace, opStore, opClwb, opSfence, decode, replay}
 
--- three numbers are an operation on an image of so many lines
+-- three numbers are an operation on an image of so many lines; p is a place, p / 64 the number of its line
 unfoldable pub wellFormed : ℕ → ℕ → ℕ → ℕ → Bool
 wellFormed lines kind p w =
     ltb (p / lineSize) lines
@@ -31,6 +31,7 @@ replayErrors I t n =
     (2, not (eqb (length I % lineSize) 0))
     ∷ (12, not (eqb (length t % opNumbers) 0) || not (allWellFormed (length I / lineSize) t (replayCount t n))) ∷ []
 
+-- the status, how many operations were played (a number; `played` of a module is a list), and the image
 pub record Replayed : Type 0 where
   pub status : ℕ
   pub played : ℕ

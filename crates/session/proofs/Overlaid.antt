@@ -4,22 +4,13 @@ use mathlib.Core.Path.{_≡_, refl, sym, _∙_}
 use mathlib.Core.Bool.{_&&_, _||_}
 use mathlib.Core.List.{List}
 use native.Mathlib.Omega.{arith}
-use native.Mathlib.Decide.{decLt, ℕ-discrete}
+use native.Mathlib.Decide.{decLt}
 use lib.Bits.{bitOr, and-le-l, and-le-r, or-add-and, or-lt}
 use lib.Dec.{eqb, ltb}
 use lib.ListN.{getD}
-use borrow.Author.Tests.{eq-eqb, ne-eqb, lt-ltb, le-ltb}
+use borrow.Author.Tests.{lt-ltb, le-ltb}
 use Rattle.model.specs.Range.{allB}
-use Rattle.model.proofs.Laws.Range.{all-more}
-
--- nothing is seen exactly if each word is 0
-or-zero : (a b : ℕ) → eqb (bitOr a b) 0 ≡ (eqb a 0 && eqb b 0)
-or-zero a b = go (ℕ-discrete a 0) (ℕ-discrete b 0)
-  where
-    go : Dec (a ≡ 0) → Dec (b ≡ 0) → eqb (bitOr a b) 0 ≡ (eqb a 0 && eqb b 0)
-    go (yes x) (yes y) = eq-eqb (bitOr a b) 0 (omega (arith, or-add-and a b, and-le-l a b, and-le-r a b)) ∙ sym (rw (x, y))
-    go (yes x) (no y) = ne-eqb (bitOr a b) 0 (λ z. omega (arith, or-add-and a b, and-le-l a b, and-le-r a b)) ∙ sym (rw (x, ne-eqb b 0 y))
-    go (no x) d = ne-eqb (bitOr a b) 0 (λ z. omega (arith, or-add-and a b, and-le-l a b, and-le-r a b)) ∙ sym (rw (ne-eqb a 0 x))
+use Rattle.model.proofs.Laws.Range.{or-zero, all-more}
 
 -- what is seen is below a power of two exactly if each word is
 or-within : (n a b : ℕ) → ltb (bitOr a b) (2 ^ n) ≡ (ltb a (2 ^ n) && ltb b (2 ^ n))

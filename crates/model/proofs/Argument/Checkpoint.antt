@@ -28,7 +28,7 @@ use Rattle.model.proofs.Argument.Phases.{epochPhase, beforeEpoch, check
 use Rattle.model.proofs.Argument.View.{Recoverable, recoverable-alike, recovers-at, fit-cong}
 use Rattle.model.proofs.Argument.Holds.{Contents, holds-next}
 use Rattle.model.proofs.Argument.Invariant.{Invariant}
-use Rattle.model.proofs.Argument.Checkpoint.BeforeEpoch.{lines, before-clear, before-off, idle-settles, dirty-settles, before-same, before-states}
+use Rattle.model.proofs.Argument.Checkpoint.BeforeEpoch.{lines, before-clear, before-off, inactive-settles, dirty-settles, before-same, before-states}
 
 module _ (O : Ops) (I₀ : Image) (s : Session) (P W : Contents) (held : Bytes I₀) (inv : Invariant (s .layout) O (replay O I₀) s P W) where
   abbrev lay : Layout
@@ -51,7 +51,7 @@ module _ (O : Ops) (I₀ : Image) (s : Session) (P W : Contents) (held : Bytes I
   settled-meta k h = go (ℕ-discrete (k / 64) (inactiveLine I / 64))
     where
       go : Dec (k / 64 ≡ inactiveLine I / 64) → Settled (k / 64) (O ++ F)
-      go (yes e) = rw e (idle-settles s I bytes O)
+      go (yes e) = rw e (inactive-settles s I bytes O)
       go (no e) = settled-more (k / 64) O F (inv .firmMeta k h) (before-off s I bytes (k / 64) e)
 
   settled-backup : (j x : ℕ) → j < lay .backups → x < segmentSize lay → Settled ((backupAt lay j + x) / 64) (O ++ F)

@@ -133,9 +133,9 @@ container-of l I P r = record { sizes = r .fit .sizes; long = r .fit .long; head
 
 module _ (l : Layout) (I : Image) (P W : Page) (wp : Whole l P) (ww : Whole l W) (r : Recoverable l I (contentsOf l P))
     (working : (i x : ℕ) → i < l .mains → x < segmentSize l → byteAt I (mainAt l i + x) ≡ contentsOf l W i x) where
-  served : (i b : ℕ) → i < l .mains → b < l .blocks → readStatus l I i b ≡ 0
+  read-served : (i b : ℕ) → i < l .mains → b < l .blocks → readStatus l I i b ≡ 0
   unfolding readStatus firstError
-  served i b h k = container-passes l I (mainErrors l i ++ blockErrors l b) (container-of l I (contentsOf l P) r) ∙ rw (lt-leb (l .mains) i h, lt-leb (l .blocks) b k)
+  read-served i b h k = container-passes l I (mainErrors l i ++ blockErrors l b) (container-of l I (contentsOf l P) r) ∙ rw (lt-leb (l .mains) i h, lt-leb (l .blocks) b k)
 
   -- a block of the image, from a segment that holds the contents of a page
   block-is : (Q : Page) (k i b : ℕ) → Whole l Q → k < l .mains + l .backups → i < l .mains → b < l .blocks
@@ -171,19 +171,19 @@ module _ (l : Layout) (I : Image) (P W : Page) (wp : Whole l P) (ww : Whole l W)
     where
       go : (st : ℕ) → activeState I i ≡ st → (checkpointBlock l I i b ≡ pageBlock l P i b)
           ⊎ ((segState I (activeLine I) i ≡ 0) × (checkpointBlock l I i b ≡ []) × (pageBlock l P i b ≡ replicate 256 0))
-      go zero e = inr (e, rw (served i b hi hb, e) refl, zero-block i b hi hb e)
-      go (suc zero) e = inl (rw (served i b hi hb, e) (block-is P i i b wp (omega arith) hi hb (λ x k. r .holds .own i x hi k e)))
+      go zero e = inr (e, rw (read-served i b hi hb, e) refl, zero-block i b hi hb e)
+      go (suc zero) e = inl (rw (read-served i b hi hb, e) (block-is P i i b wp (omega arith) hi hb (λ x k. r .holds .own i x hi k e)))
       go (suc (suc n)) e =
           let two : activeState I i ≡ 2 = omega (arith, r .holds .valid .states i hi) in
           let k = r .holds .valid .kept i hi two in
           let p = paired-at l (backupToMain I) i (paired-by l (backupToMain I) i (k .0) (k .1) (k .2)) in
-          inl (rw (served i b hi hb, e) (block-is P (l .mains + pairedBackup l (backupToMain I) i) i b wp (omega (arith, p .0)) hi hb
+          inl (rw (read-served i b hi hb, e) (block-is P (l .mains + pairedBackup l (backupToMain I) i) i b wp (omega (arith, p .0)) hi hb
           (λ x y. r .holds .backup i (pairedBackup l (backupToMain I) i) x hi (p .0) y two (p .1))))
 
   -- the two reads give the two pages
   pub reads : Reads l I W P
   reads i b hi hb = record {
-    status = served i b hi hb;
-    working = unfold workingPart in (rw (served i b hi hb) (block-is W i i b ww (omega arith) hi hb (λ x k. working i x hi k)));
+    status = read-served i b hi hb;
+    working = unfold workingPart in (rw (read-served i b hi hb) (block-is W i i b ww (omega arith) hi hb (λ x k. working i x hi k)));
     checkpoint = saved i b hi hb;
   }

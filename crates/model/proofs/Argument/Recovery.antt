@@ -23,7 +23,7 @@ use Rattle.model.proofs.Argument.Runs.{puts-clear, each-cat, neat-cat, 
 use Rattle.model.proofs.Laws.Layout.{segment-in-image, apart, state-line-high}
 use Rattle.model.proofs.Argument.View.{RecoverableBy, AlikeBy}
 use Rattle.model.proofs.Argument.Holds.{Contents}
-use Rattle.model.proofs.Argument.Recovery.Segment.{Treated, turn, neat-turn, treated, main, backup, idle}
+use Rattle.model.proofs.Argument.Recovery.Segment.{Treated, turn, neat-turn, turn-treated, main, backup, idle}
 
 -- nothing played leaves every line settled
 pub settled-nil : (ℓ : ℕ) → Settled ℓ []
@@ -67,7 +67,7 @@ module _ (l : Layout) (line : ℕ) (whole : StatesLine line) (I : Image) (P : Co
   pub recovery-clear : (k : ℕ) → Needed k → Clear k E
   unfolding recoveryOps
   recovery-clear k d = each-append (Misses k) (turns (l .mains)) (sfence ∷ [])
-      (each-cat (Misses k) (l .mains) (turn l line I) (λ i h. needed-clear i k _ h d (treated l line I P r i h))) tt
+      (each-cat (Misses k) (l .mains) (turn l line I) (λ i h. needed-clear i k _ h d (turn-treated l line I P r i h))) tt
 
   -- after the turns of segments below n, a turn of segment i among them left f there if every other leaves that byte alone
   turns-leave : (k y i n : ℕ) → i < n → n ≤ l .mains → ((m : ℕ) → m < l .mains → m ≢ i → Clear k (turn l line I m))
@@ -111,8 +111,8 @@ module _ (l : Layout) (line : ℕ) (whole : StatesLine line) (I : Image) (P : Co
       go : Dec (segState I line i ≡ 1) → byteAt (replay E I) (mainAt l i + x) ≡ P i x
       go (yes e) = replay-clear E I k (recovery-clear k (own i h e (omega arith) (omega arith))) ∙ r .holds .own i x h b e
       go (no e) = recovery-leave k (P i x) i h
-          (λ m y ne. other-clear i m k _ h ne (omega arith) (omega arith) (treated l line I P r m y))
-          (λ J n. main-turn i k _ J h n e (omega arith) (omega arith) (treated l line I P r i h) ∙ ap (P i) (omega arith))
+          (λ m y ne. other-clear i m k _ h ne (omega arith) (omega arith) (turn-treated l line I P r m y))
+          (λ J n. main-turn i k _ J h n e (omega arith) (omega arith) (turn-treated l line I P r i h) ∙ ap (P i) (omega arith))
 
   -- an image in which nothing that is needed differs
   alike-of : (H : Image) → length H ≡ length I → Bytes H → ((k : ℕ) → Needed k → byteAt H k ≡ byteAt I k) → AlikeBy l line I H
@@ -170,8 +170,8 @@ module _ (l : Layout) (line : ℕ) (whole : StatesLine line) (I : Image) (P : Co
       go : (st : ℕ) → segState I line i ≡ st → byteAt (replay E I) (backupAt l j + x) ≡ P i x
       go zero e = absurd (r .holds .valid .bare i h e j b q)
       go (suc zero) e = recovery-leave k (P i x) i h
-          (λ m y ne. backup-other i j m k _ y ne q (omega arith) (omega arith) (treated l line I P r m y))
-          (λ J n. backup-turn i j k _ J h b e q n (omega arith) (omega arith) (treated l line I P r i h) ∙ ap (P i) (omega arith))
+          (λ m y ne. backup-other i j m k _ y ne q (omega arith) (omega arith) (turn-treated l line I P r m y))
+          (λ J n. backup-turn i j k _ J h b e q n (omega arith) (omega arith) (turn-treated l line I P r i h) ∙ ap (P i) (omega arith))
       go (suc (suc n)) e = let two : segState I line i ≡ 2 = omega (arith, r .holds .valid .states i h) in
           replay-clear E I k (recovery-clear k (kept i j h b two q (omega arith) (omega arith))) ∙ r .holds .backup i j x h b c two q
 
@@ -183,7 +183,7 @@ module _ (l : Layout) (line : ℕ) (whole : StatesLine line) (I : Image) (P : Co
 
   pub turns-flushed : (i ℓ : ℕ) → i < l .mains → segState I line i ≢ 1 → mainAt l i ≤ 64 * ℓ → 64 * ℓ < mainAt l i + segmentSize l → Flushed ℓ (turns (l .mains))
   turns-flushed i ℓ h ne x y =
-      flushed-cat ℓ (l .mains) (turn l line I) (λ m z. neat-turn l line I m) i h (main-flushed i ℓ _ ne x y (treated l line I P r i h))
+      flushed-cat ℓ (l .mains) (turn l line I) (λ m z. neat-turn l line I m) i h (main-flushed i ℓ _ ne x y (turn-treated l line I P r i h))
 
 -- a turn and a fence leave every settled line settled
 pub recovery-keeps : (l : Layout) (line : ℕ) (I : Image) (ℓ : ℕ) → Keeps ℓ (recoveryOps l I line)

@@ -4,10 +4,12 @@ use mathlib.Core.Path.{_≡_, refl, sym, ap₂, _∙_, subst}
 use mathlib.Core.Bool.{Bool, true, false, _&&_, _||_, true≢false}
 use mathlib.Core.List.{List, _++_}
 use native.Mathlib.Omega.{arith}
-use native.Mathlib.Decide.{decLt}
+use native.Mathlib.Decide.{decLt, ℕ-discrete}
 use native.Mathlib.Nat.{zero-mul, suc-mul, mul-one, mul-add}
+use lib.Bits.{bitOr, or-add-and, and-le-l, and-le-r}
+use lib.Dec.{eqb}
 use lib.ListN.{length, length-append}
-use borrow.Author.Tests.{lt-ltb, le-ltb}
+use borrow.Author.Tests.{lt-ltb, le-ltb, eq-eqb, ne-eqb}
 use native.Mathlib.Numerals.{add-one}
 use Rattle.model.specs.Range.{sumTo, cat, allB, anyB, orNext, firstB}
 
@@ -41,6 +43,15 @@ pub same-test : (a b : Bool) → (a ≡ true → b ≡ true) → (b ≡ true →
 same-test true b f g = sym (f refl)
 same-test false true f g = g refl
 same-test false false f g = refl
+
+-- tests gathered in one number, which is 0 as long as each was
+pub or-zero : (a b : ℕ) → eqb (bitOr a b) 0 ≡ (eqb a 0 && eqb b 0)
+or-zero a b = go (ℕ-discrete a 0) (ℕ-discrete b 0)
+  where
+    go : Dec (a ≡ 0) → Dec (b ≡ 0) → eqb (bitOr a b) 0 ≡ (eqb a 0 && eqb b 0)
+    go (yes x) (yes y) = eq-eqb (bitOr a b) 0 (omega (arith, or-add-and a b, and-le-l a b, and-le-r a b)) ∙ sym (rw (x, y))
+    go (yes x) (no y) = ne-eqb (bitOr a b) 0 (λ z. omega (arith, or-add-and a b, and-le-l a b, and-le-r a b)) ∙ sym (rw (x, ne-eqb b 0 y))
+    go (no x) d = ne-eqb (bitOr a b) 0 (λ z. omega (arith, or-add-and a b, and-le-l a b, and-le-r a b)) ∙ sym (rw (ne-eqb a 0 x))
 
 -- ---- joined lists
 

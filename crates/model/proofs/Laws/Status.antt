@@ -24,9 +24,9 @@ condition n [] = false
 condition n (e ∷ es) = cond (eqb (e .0) n) (condition n es || e .1) (condition n es)
 
 -- the part of the list before number n
-abbrev pub before : ℕ → Errors → Errors
-before n [] = []
-before n (e ∷ es) = cond (eqb (e .0) n) [] (e ∷ before n es)
+abbrev pub earlier : ℕ → Errors → Errors
+earlier n [] = []
+earlier n (e ∷ es) = cond (eqb (e .0) n) [] (e ∷ earlier n es)
 
 -- ---- one entry after the other, as code judges them
 
@@ -135,16 +135,16 @@ given-condition n (e ∷ es) k h = go (e .1) h (given-condition n es k)
     go true h ih = rw (eq-eqb (e .0) n h) (or-right (condition n es) refl)
     go false h ih = both (eqb (e .0) n) (ih h)
 
-pub given-earlier : (n : ℕ) (es : Errors) → n ≢ 0 → firstError es ≡ n → (m : ℕ) → condition m (before n es) ≡ false
+pub given-earlier : (n : ℕ) (es : Errors) → n ≢ 0 → firstError es ≡ n → (m : ℕ) → condition m (earlier n es) ≡ false
 unfolding firstError
-given-earlier n es k h m = none-condition m (before n es) (none es h)
+given-earlier n es k h m = none-condition m (earlier n es) (none es h)
   where
-    none : (fs : Errors) → firstError fs ≡ n → NoneHolds (before n fs)
+    none : (fs : Errors) → firstError fs ≡ n → NoneHolds (earlier n fs)
     none [] h = tt
     none (e ∷ fs) h = go (eqb (e .0) n) refl (e .1) refl h (none fs)
       where
-        go : (c : Bool) → eqb (e .0) n ≡ c → (b : Bool) → e .1 ≡ b → cond b (e .0) (firstError fs) ≡ n → (firstError fs ≡ n → NoneHolds (before n fs))
-            → NoneHolds (cond c [] (e ∷ before n fs))
+        go : (c : Bool) → eqb (e .0) n ≡ c → (b : Bool) → e .1 ≡ b → cond b (e .0) (firstError fs) ≡ n → (firstError fs ≡ n → NoneHolds (earlier n fs))
+            → NoneHolds (cond c [] (e ∷ earlier n fs))
         go true p b q h ih = tt
         go false p true q h ih = absurd (eqb-false (e .0) n p h)
         go false p false q h ih = (q, ih h)

@@ -69,8 +69,8 @@ module _ (s : Session) where
   -- ---- the inactive line
 
   module _ (I : Image) (bytes : Bytes I) where
-    abbrev idle : ℕ
-    idle = inactiveLine I
+    abbrev inactive : ℕ
+    inactive = inactiveLine I
 
     next-small : (i : ℕ) → next (activeState I) i < 256
     next-small i = go (isDirty (s .«dirty_segments») i)
@@ -80,21 +80,21 @@ module _ (s : Session) where
         go false = unfold nextState in (bytes (activeLine I + i))
 
     -- the states' phase leaves the next states on the inactive line
-    states-put : Puts (statesPhase s I) idle 64 (λ k. next (activeState I) (k - idle))
+    states-put : Puts (statesPhase s I) inactive 64 (λ k. next (activeState I) (k - inactive))
     unfolding statesOps
     states-put =
-        puts-then (stores 8 idle w ++ clwb idle ∷ []) (sfence ∷ []) idle 64 g
-        (puts-then (stores 8 idle w) (clwb idle ∷ []) idle 64 g
-        (puts-stores 8 idle w g (λ k b x y. byte-of-word (next (activeState I)) (8 * k) b next-small y ∙ ap (next (activeState I)) (omega arith))) tt) tt
+        puts-then (stores 8 inactive w ++ clwb inactive ∷ []) (sfence ∷ []) inactive 64 g
+        (puts-then (stores 8 inactive w) (clwb inactive ∷ []) inactive 64 g
+        (puts-stores 8 inactive w g (λ k b x y. byte-of-word (next (activeState I)) (8 * k) b next-small y ∙ ap (next (activeState I)) (omega arith))) tt) tt
       where
         g : ℕ → ℕ
-        g k = next (activeState I) (k - idle)
+        g k = next (activeState I) (k - inactive)
 
         w : ℕ → ℕ
         w k = wordOf (next (activeState I)) (8 * k)
 
     -- where the two lines of states stand
-    pub lines : (idle % 64 ≡ 0) × (activeLine I % 64 ≡ 0) × (activeLine I + idle ≡ 320) × (128 ≤ idle) × (idle ≤ 192)
+    pub lines : (inactive % 64 ≡ 0) × (activeLine I % 64 ≡ 0) × (activeLine I + inactive ≡ 320) × (128 ≤ inactive) × (inactive ≤ 192)
     lines = (
       state-line-whole (suc (committedEpoch I)),
       state-line-whole (committedEpoch I),
@@ -106,21 +106,21 @@ module _ (s : Session) where
     abbrev X : Ops
     X = beforeEpoch s I
 
-    pub before-clear : (k : ℕ) → (k < idle) ⊎ (idle + 64 ≤ k) → Clear k X
+    pub before-clear : (k : ℕ) → (k < inactive) ⊎ (inactive + 64 ≤ k) → Clear k X
     before-clear k h = each-append (Misses k) (blocksPhase s) (statesPhase s I) (blocks-none (Misses k)) (puts-clear states-put k h)
 
-    pub before-off : (ℓ : ℕ) → ℓ ≢ idle / 64 → Off ℓ X
-    before-off ℓ h k e = before-clear k (go (decLt k idle))
+    pub before-off : (ℓ : ℕ) → ℓ ≢ inactive / 64 → Off ℓ X
+    before-off ℓ h k e = before-clear k (go (decLt k inactive))
       where
-        go : Dec (k < idle) → (k < idle) ⊎ (idle + 64 ≤ k)
+        go : Dec (k < inactive) → (k < inactive) ⊎ (inactive + 64 ≤ k)
         go (yes d) = inl d
-        go (no d) = inr (let p : idle % 64 ≡ 0 = lines .0 in omega arith)
+        go (no d) = inr (let p : inactive % 64 ≡ 0 = lines .0 in omega arith)
 
-    pub idle-settles : Settles (idle / 64) X
+    pub inactive-settles : Settles (inactive / 64) X
     unfolding statesOps
-    idle-settles = settles-after (idle / 64) (blocksPhase s) _
-        (settles-fence (idle / 64) (stores 8 idle w ++ clwb idle ∷ [])
-        (record { A = stores 8 idle w; C = []; p = idle; place = refl; off = λ i e. tt; is = refl }))
+    inactive-settles = settles-after (inactive / 64) (blocksPhase s) _
+        (settles-fence (inactive / 64) (stores 8 inactive w ++ clwb inactive ∷ [])
+        (record { A = stores 8 inactive w; C = []; p = inactive; place = refl; off = λ i e. tt; is = refl }))
       where
         w : ℕ → ℕ
         w k = wordOf (next (activeState I)) (8 * k)
@@ -133,10 +133,10 @@ module _ (s : Session) where
         (keeps-off ℓ (statesPhase s I) (λ m e. puts-clear states-put m (inr (omega (arith, lines)))))
 
     -- the image after the first two phases
-    pub before-same : (k : ℕ) → (k < idle) ⊎ (idle + 64 ≤ k) → byteAt (replay X I) k ≡ byteAt I k
+    pub before-same : (k : ℕ) → (k < inactive) ⊎ (inactive + 64 ≤ k) → byteAt (replay X I) k ≡ byteAt I k
     before-same k h = replay-clear X I k (before-clear k h)
 
-    pub before-states : (i : ℕ) → 512 ≤ length I → i < 64 → byteAt (replay X I) (idle + i) ≡ next (activeState I) i
-    before-states i n h = ap (λ (J : Image). byteAt J (idle + i)) (replay-append (blocksPhase s) (statesPhase s I) I)
-        ∙ states-put .leaves (replay (blocksPhase s) I) (idle + i) (omega (arith, length-replay (blocksPhase s) I, lines)) (omega arith) (omega arith)
+    pub before-states : (i : ℕ) → 512 ≤ length I → i < 64 → byteAt (replay X I) (inactive + i) ≡ next (activeState I) i
+    before-states i n h = ap (λ (J : Image). byteAt J (inactive + i)) (replay-append (blocksPhase s) (statesPhase s I) I)
+        ∙ states-put .leaves (replay (blocksPhase s) I) (inactive + i) (omega (arith, length-replay (blocksPhase s) I, lines)) (omega arith) (omega arith)
         ∙ ap (next (activeState I)) (omega arith)

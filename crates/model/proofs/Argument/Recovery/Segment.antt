@@ -1,5 +1,5 @@
 -- What recovery does about one main segment, by a line of states: its turn writes the contents into itself or into its backup,
--- or does nothing (`treated`).
+-- or does nothing (`turn-treated`).
 use Prim.Native.Nat.{ℕ, zero, suc, _+_, _-_, _*_, _%_, _≤_, _<_}
 use mathlib.Core.Path.{_≡_, refl, sym, ap, _∙_}
 use mathlib.Core.Logic.{_≢_}
@@ -75,9 +75,9 @@ unfolding recoverSegment
 neat-turn l line I i = neat-action l I i (pairedBackup l (backupToMain I) i) (recoveryAction (segState I line i) (isPaired l (backupToMain I) i))
 
 module _ (l : Layout) (line : ℕ) (I : Image) (P : Contents) (r : RecoverableBy l line I P) where
-  pub treated : (i : ℕ) → i < l .mains → Treated l line I P i (turn l line I i)
+  pub turn-treated : (i : ℕ) → i < l .mains → Treated l line I P i (turn l line I i)
   unfolding recoverSegment
-  treated i h = go (segState I line i) (isPaired l (backupToMain I) i) refl refl
+  turn-treated i h = go (segState I line i) (isPaired l (backupToMain I) i) refl refl
     where
       pr : ℕ → ℕ
       pr = backupToMain I
