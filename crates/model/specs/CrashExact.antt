@@ -1,6 +1,6 @@
 -- That the crash relation (specs/Crash.antt) is document 01's sentence, no more and no less: a stage of a line is a first part
 -- of the stores to that line, from its floor on; lines are independent; n waiting stores on n lines give exactly 2 ^ n images.
--- Demand 3 does not need this file. Proved in proofs/Laws/Crash/.
+-- Demand 3 does not need this file. Proved in proofs/Laws/Crash/. Assumes nothing.
 use Prim.Native.Nat.{ℕ, suc, _^_, _/_, _%_, _≤_, _<_, max}
 use mathlib.Core.Path.{_≡_}
 use mathlib.Core.Logic.{_↔_, _≢_}

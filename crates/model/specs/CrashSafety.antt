@@ -1,4 +1,5 @@
 -- DEMAND 3, as one statement over a whole history (`CrashSafety`), and what it is made of. Proved in proofs/CrashSafety.antt.
+-- Assumes what specs/Crash.antt does of the hardware.
 use Prim.Native.Nat.{ℕ, _<_}
 use mathlib.Core.Path.{_≡_}
 use mathlib.Core.Logic.{_≢_, _⊎_}

@@ -1,4 +1,4 @@
--- The epoch counts the checkpoints of a history. Proved in proofs/Sisters.antt.
+-- The epoch counts the checkpoints of a history. Proved in proofs/Sisters.antt. Assumes nothing.
 use Prim.Native.Nat.{ℕ, _+_}
 use mathlib.Core.Path.{_≡_}
 use mathlib.Core.Bool.{Bool, true, false, _&&_}

@@ -30,7 +30,7 @@ lineWords = 8
 
 -- operations that copy a block: its words stored, its lines written back
 abbrev pub blockOps : ℕ
-blockOps = 36
+blockOps = blockWords + blockLines
 
 -- the most main segments, backup segments or blocks
 abbrev pub most : ℕ
@@ -38,11 +38,11 @@ most = 64
 
 -- the most segments, main and backup
 abbrev pub mostSegments : ℕ
-mostSegments = 128
+mostSegments = most + most
 
 -- bytes of the largest image: 64 main segments and 64 backup segments of 64 blocks
 abbrev pub largestImage : ℕ
-largestImage = 2097664
+largestImage = metadataSize + blockSize * most * mostSegments
 
 -- where the metadata stands: the epoch, the three sizes, the two lines of states, the pairs
 abbrev pub epochAt : ℕ
@@ -65,13 +65,13 @@ pairsAt = 256
 
 -- where the line of states for odd epochs stands, where the sizes end, and where the pairs end
 abbrev pub oddStatesAt : ℕ
-oddStatesAt = 192
+oddStatesAt = statesAt + lineSize
 
 abbrev pub headerEnd : ℕ
-headerEnd = 88
+headerEnd = blocksAt + wordSize
 
 abbrev pub pairsEnd : ℕ
-pairsEnd = 320
+pairsEnd = pairsAt + most
 
 -- the pair byte of a backup segment that has no main segment
 abbrev pub unpaired : ℕ

@@ -1,6 +1,6 @@
 -- Demand 1: a call is served, or refused with the number of the first of its conditions that holds (document 01: "Refusals by
 -- number"). What is said of any list of refusals, the numbers that each call's list has, and the statements. Proved in
--- proofs/Laws/Refusals.antt.
+-- proofs/Laws/Refusals.antt. Assumes nothing.
 use Prim.Native.Nat.{ℕ, _≤_, _<_}
 use mathlib.Core.Path.{_≡_}
 use mathlib.Core.Logic.{_↔_, _≢_, _⊎_}

@@ -1,6 +1,6 @@
 -- Demand 2 over a whole history (`ReadsFollowModel`), and sisters of demand 3: replay serves every trace that a call writes, a
 -- finished opening leaves nothing open, openings alone are safe. Proved in proofs/Sisters.antt, `ReplayServesAll` in
--- proofs/Laws/Replay.antt.
+-- proofs/Laws/Replay.antt. Assumes what specs/Crash.antt does of the hardware, where a crash is spoken of.
 use Prim.Native.Nat.{ℕ, _%_}
 use mathlib.Core.Path.{_≡_}
 use mathlib.Core.Logic.{_≢_}

@@ -1,5 +1,5 @@
 -- Lengths of a trace that always suffice: with that many numbers no opening, no write and no checkpoint of these sizes is
--- refused with 11, whatever the image and the session. Proved in proofs/Laws/TraceLength.antt.
+-- refused with 11, whatever the image and the session. Proved in proofs/Laws/TraceLength.antt. Assumes nothing.
 use Prim.Native.Nat.{ℕ, _+_, _*_, _≤_}
 use mathlib.Core.Logic.{_≢_}
 use lib.ListN.{length}
