@@ -6,7 +6,6 @@ use mathlib.Core.Bool.{Bool, true, false, _&&_}
 use mathlib.Core.List.{List, [], _∷_}
 use lib.Dec.{eqb, ltb, lit<}
 use borrow.Author.Tests.{eqb-true, ltb-true}
-use Rattle.model.proofs.Laws.Range.{and-left, and-right}
 use Rattle.model.specs.Range.{cat, allB, anyB, orNext, firstB}
 use Rattle.model.specs.Words.{Bytes, littleEndian, wordOf, bytesOf, storeWord, overlay}
 use Rattle.model.specs.Layout.{inRange, sizesOk, imageSize, stateLine}
@@ -23,6 +22,7 @@ use Rattle.model.specs.Checkpoint.{flushDirty, nextState, statesOps, epochOps, 
 use Rattle.model.specs.Reads.{readStatus, workingPart, checkpointPart}
 use Rattle.model.specs.Reference.{modelStep}
 use Rattle.model.specs.History.{reported, playedOps, replayedImage, deviceStep, step, run, openedImage, start}
+use Rattle.model.proofs.Laws.Range.{and-left, and-right}
 
 unfoldable pub model-rules : Unit {0}
 unfolding cat allB anyB orNext firstB littleEndian wordOf bytesOf storeWord overlay inRange sizesOk imageSize stateLine firstError isPaired validMetadata pairedBackup isFree anyFree byState checkpointLocated checkpointSegment checkpointBytes headerOk bit setBit setBits dirtySegment dirtyBlock freshSession zeroSession withDirty withCheckpoint validSession encode opOf decode written traceShort apply replay stores clwbs putBlock persistCopy persistZero copySegment zeroSegment outcomeOf wellFormed allWellFormed replayCount replayedOps replayStatus replayOutcome container formatted formatOutcome recoveryAction actionOps recoverSegment recoveryOps openStatus openOutcome needsCopy needsBackup copyPlan pairOps copyDirty backupOps stateOps copyOnWriteOps spanOps writeOps writeSession spanBad writeStatus writeOutcome flushDirty nextState statesOps epochOps checkpointOps checkpointStatus checkpointOutcome readStatus workingPart checkpointPart modelStep reported playedOps replayedImage deviceStep step run openedImage start

@@ -17,11 +17,11 @@ use Rattle.model.specs.Crash.{CrashImage}
 use Rattle.model.specs.Reference.{Page}
 use Rattle.model.specs.History.{Call, State, outcome, start, deviceStep, step, run, openedImage, AllPermitted}
 use Rattle.model.specs.CrashSafety.{ReadsBlock, Reads, Recovers, Moment, between, during, PermittedAt, playedAt, Window, MayShow, none}
+use Rattle.cases.specs.Table.{l211, fresh, longTrace, fourBytes, writeFour, checkpoint}
+use Rattle.cases.specs.Cut.{beforeP4, afterP4, zeros, newBytes, MayLeave, OnlyShows, EitherPage, CutP4}
 use Rattle.model.proofs.Laws.Range.{or-right}
 use Rattle.model.proofs.Argument.Persist.{length-replay}
 use Rattle.model.proofs.CrashSafety.{crash-safety}
-use Rattle.cases.specs.Table.{l211, fresh, longTrace, fourBytes, writeFour, checkpoint}
-use Rattle.cases.specs.Cut.{beforeP4, afterP4, zeros, newBytes, MayLeave, OnlyShows, EitherPage, CutP4}
 use Rattle.cases.proofs.Compute.{model-rules, same, same-equal, small, small-bytes}
 use Rattle.cases.proofs.Starts.{standing, started}
 

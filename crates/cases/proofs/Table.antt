@@ -5,8 +5,8 @@ use mathlib.Core.Path.{_≡_, refl, ap, ap₂, subst, _∙_}
 use mathlib.Core.Bool.{Bool, true, _&&_}
 use mathlib.Core.List.{List, [], _∷_, _++_, map}
 use Rattle.model.specs.History.{State, start, step}
-use Rattle.model.proofs.Laws.Range.{and-left, and-right}
 use Rattle.cases.specs.Table.{Row, Case, l211, fresh, longTrace, rowOf, history, follow, sizeCases, openCases, copyCase, rows, TableHolds}
+use Rattle.model.proofs.Laws.Range.{and-left, and-right}
 use Rattle.cases.proofs.Compute.{model-rules, same, same-equal}
 
 -- ---- a test of rows

@@ -17,16 +17,16 @@ use Rattle.model.specs.Session.{freshSession}
 use Rattle.model.specs.Reference.{Page}
 use Rattle.model.specs.History.{State, start}
 use Rattle.model.specs.Crash.{KeepsDurable, CrashImage, Stage}
+use Rattle.model.specs.CrashExact.{hasFence}
+use Rattle.cases.specs.Table.{longTrace, writes, aWord}
+use Rattle.faults.specs.Faults.{l111, one, earlyStateOps, earlyWriteOps, EarlyState, ShowsBackup, EarlyStateUnseen}
 use Rattle.model.proofs.Laws.Range.{and-left, and-right}
 use Rattle.model.proofs.Argument.Persist.{Misses, length-apply, length-replay, replay-clear, replay-append, apply-cong}
 use Rattle.model.proofs.Argument.Settled.{Off}
 use Rattle.model.proofs.Laws.Crash.Floor.{durable-all}
-use Rattle.model.specs.CrashExact.{hasFence}
 use Rattle.model.proofs.Laws.Crash.Images.{unfenced-lost}
-use Rattle.cases.specs.Table.{longTrace, writes, aWord}
 use Rattle.cases.proofs.Compute.{model-rules, same, same-equal, small, small-bytes}
 use Rattle.cases.proofs.Starts.{standing, started}
-use Rattle.faults.specs.Faults.{l111, one, earlyStateOps, earlyWriteOps, EarlyState, ShowsBackup, EarlyStateUnseen}
 use Rattle.faults.proofs.Shown.{no-checkpoint}
 use Rattle.faults.proofs.TwoCalls.{image, old, new, marked, before, saved, stands, replayed, calls-permitted, old-shown}
 

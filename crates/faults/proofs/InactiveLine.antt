@@ -8,11 +8,11 @@ use Rattle.model.specs.Ops.{store, apply}
 use Rattle.model.specs.Format.{container}
 use Rattle.model.specs.Reference.{Page}
 use Rattle.model.specs.History.{State, start}
-use Rattle.model.proofs.Laws.Crash.Images.{newest}
 use Rattle.cases.specs.Table.{l211, longTrace}
+use Rattle.faults.specs.Faults.{two, inactivePlan, inactiveWriteOps, InactiveLine}
+use Rattle.model.proofs.Laws.Crash.Images.{newest}
 use Rattle.cases.proofs.Compute.{model-rules, same, same-equal}
 use Rattle.cases.proofs.Starts.{standing, started}
-use Rattle.faults.specs.Faults.{two, inactivePlan, inactiveWriteOps, InactiveLine}
 
 -- what opening leaves of `two`, and the page that it shows
 abbrev opened : Image

@@ -14,11 +14,11 @@ use Rattle.model.specs.Format.{container}
 use Rattle.model.specs.Reference.{Page}
 use Rattle.model.specs.History.{State, calledOps}
 use Rattle.model.specs.CrashSafety.{Reads}
-use Rattle.model.proofs.Laws.Crash.Images.{newest}
 use Rattle.cases.specs.Table.{write, aWord}
+use Rattle.faults.specs.Faults.{l111, one, skippingAction, skippingOps, skippingOpened, skippingStart, SkippedCopy}
+use Rattle.model.proofs.Laws.Crash.Images.{newest}
 use Rattle.cases.proofs.Compute.{model-rules, same, same-equal, small, small-bytes}
 use Rattle.cases.proofs.Starts.{standing}
-use Rattle.faults.specs.Faults.{l111, one, skippingAction, skippingOps, skippingOpened, skippingStart, SkippedCopy}
 use Rattle.faults.proofs.Shown.{only-block, no-checkpoint}
 
 abbrev stale : State

@@ -18,9 +18,9 @@ use Rattle.model.specs.Reference.{Page}
 use Rattle.model.specs.History.{State, start, step, run, openedImage, AllPermitted}
 use Rattle.model.specs.CrashSafety.{Reads}
 use Rattle.cases.specs.Table.{longTrace, writes, write, checkpoint, aWord}
+use Rattle.faults.specs.Faults.{l111, one, twoCalls}
 use Rattle.cases.proofs.Compute.{model-rules, same, same-equal, small, small-bytes}
 use Rattle.cases.proofs.Starts.{standing, started}
-use Rattle.faults.specs.Faults.{l111, one, twoCalls}
 use Rattle.faults.proofs.Shown.{only-block}
 
 -- an image of the history: epoch, the two states, the bytes of the main segment

@@ -12,9 +12,9 @@ use lib.ListN.{length, getD}
 use Rattle.model.specs.Range.{cat}
 use Rattle.model.specs.Words.{Image, byteAt, bytesOf, storeWord}
 use Rattle.model.specs.Ops.{store, clwb, sfence, Ops, apply, replay, stores, clwbs, putBlock}
+use Rattle.model.specs.CrashExact.{Each}
 use Rattle.model.proofs.Laws.Words.{length-bytesOf, sets-at}
 use Rattle.model.proofs.Argument.Persist.{Misses, Clear, each-append, each-mono, length-replay, replay-clear, replay-append}
-use Rattle.model.specs.CrashExact.{Each}
 use Rattle.model.proofs.Argument.Settled.{Off, Flushed, flushed-more, flushed-after, off-append, Keeps, keeps-off, settles-fence}
 
 -- ---- runs of stores

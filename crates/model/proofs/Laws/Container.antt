@@ -14,9 +14,9 @@ use Rattle.model.specs.Words.{Image}
 use Rattle.model.specs.Layout.{most, unpaired, ssInitial, ssBackup, InRange, SizesOk, inRange, sizesOk, imageSize}
 use Rattle.model.specs.Status.{Errors, firstError}
 use Rattle.model.specs.Container.{activeLine, segState, backupToMain, Valid, isPaired, validMetadata, pairedBackup, Free, isFree, anyFree, HeaderOk, headerOk, containerErrors}
+use Rattle.model.specs.Refusals.{NoneHolds}
 use Rattle.model.proofs.Laws.Range.{or-left, or-right, or-else, all-at, all-from, any-at, any-none, first-some}
 use Rattle.model.proofs.Laws.Status.{after-none, served-parts, served-condition}
-use Rattle.model.specs.Refusals.{NoneHolds}
 
 -- ---- sizes and header
 
