@@ -101,7 +101,7 @@ module _ (l : Layout) (I : Image) (i b : ℕ) where
 found-by : {I : Image} {p q : model.Part} {r : Part} → p ≡ q → Found I q r → Found I p r
 found-by {I} {r = r} e f = subst (λ (x : model.Part). Found I x r) (sym e) f
 
-pub found-nowhere : (I : Image) (p : model.Part) (r : Part) → (r .start ≡ 0) × (r .size ≡ 0) → p ≡ nowhere → Found I p r
+pub found-nowhere : (I : Image) (p : model.Part) (r : Part) → (r .start ≡ 0) × (r .size ≡ 0) → p ≡ noPart → Found I p r
 found-nowhere I p r h e = found-by e (record { start = h .0; size = h .1; inside = omega arith })
 
 pub found-block : (I : Image) (p : model.Part) (r : Part) (a c b : ℕ) → (r .start ≡ a + 256 * b) × (r .size ≡ 256) → a ≡ c → p ≡ blockPart c b
