@@ -5,6 +5,8 @@ import os, re
 # that is false.
 SHOWS = ("the two types differ", "the two types first differ", "differ only", "the two sides first differ", "the goal fails",
          "the part fails", "does not hold")
+# The same of two short types, which antt prints whole, in one line.
+BOTH = re.compile("expected type `[^`?]+`, but this has type `[^`?]+`$")
 # And what says nothing of a fact, whatever else stands there.
 HIDES = ("plain {n =", "has no `Need-", "is not in scope", "has no field")
 
@@ -56,7 +58,7 @@ def shown(log):
     head = block[0]
     place = re.search(r"/((?:proofs|specs|src)/\S+?):\d+", head)
     name = re.search(r"error(?:\[[^]]*\])?: `([^`]+)`", head)
-    words = next((line for line in block for shows in SHOWS if shows in line), None)
+    words = next((line for line in block for shows in SHOWS if shows in line), None) or next((line for line in block if BOTH.search(line)), None)
     shows = words is not None and not any(hides in line for line in block[:1] + [words] for hides in HIDES)
     words = words or head
     words = re.sub(r"^.*?error(?:\[[^]]*\])?: (?:`[^`]+`: )?", "", words).strip()

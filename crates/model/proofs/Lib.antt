@@ -1,4 +1,7 @@
--- The proofs of the model: laws of its definitions, the crash argument, demand 3, and its sisters.
+-- The proofs of the model: rules on small instances and what the statements permit, both from the definitions alone; laws of
+-- the definitions, the crash argument, demand 3, and its sisters.
+pub mod Anchors
+pub mod Allowed
 pub mod Laws
 pub mod Argument
 pub mod CrashSafety

@@ -1,0 +1,169 @@
+-- Single rules of document 01, each on an instance that is small enough to be computed: closed numbers, a container of one
+-- main segment, one backup segment and one block, an image of a few hundred bytes. They need the definitions alone, and no
+-- law rests on them. The checker takes modules by name, this one first: a definition that departs from its rule is refused
+-- here, with the two sides that then differ.
+use Prim.Native.Nat.{ℕ, zero, suc, _+_, _*_, _/_, _≤_, _<_}
+use mathlib.Core.Path.{_≡_, refl, sym, ap, _∙_}
+use mathlib.Core.Logic.{⊎-elim}
+use mathlib.Core.Bool.{true, false}
+use mathlib.Core.List.{[], _∷_, _++_}
+use native.Mathlib.Omega.{arith}
+use lib.ListN.{length, take, drop, replicate, length-append, List·getD-append}
+use Rattle.model.specs.declared.Layout.{Layout}
+use Rattle.model.specs.declared.Session.{Session}
+use Rattle.model.specs.declared.Plan.the-variants.{OwnBackup, NoneFree}
+use Rattle.model.specs.Range.{cat, allB, anyB}
+use Rattle.model.specs.Words.{Image, littleEndian, wordOf, wordAt, bytesOf}
+use Rattle.model.specs.Layout.{lineSize, most, unpaired, ssMain, layoutOf, inRange, sizesOk, imageSize, stateLine, epochAt}
+use Rattle.model.specs.Status.{firstError}
+use Rattle.model.specs.Container.{committedEpoch, activeLine, inactiveLine, isPaired, validMetadata, isFree, anyFree, byState, headerOk}
+use Rattle.model.specs.Session.{bit, setBit, setBits, dirtyWord, dirtySegment, freshSession, zeroSession, withDirty, withCheckpoint, validSession}
+use Rattle.model.specs.Ops.{store, clwb, sfence, Trace, encode, traceShort, replay, stores, clwbs, putBlock, persistCopy, copySegment, storeByte}
+use Rattle.model.specs.Outcome.{outcomeOf}
+use Rattle.model.specs.Replay.{wellFormed, allWellFormed, replayCount, replayStatus}
+use Rattle.model.specs.Format.{container, formatted}
+use Rattle.model.specs.Open.{recoveryAction, actionOps, openStatus, openOutcome}
+use Rattle.model.specs.Write.{WriteArgs, writeArgsOf, needsCopy, needsBackup, copyPlan, pairOps, copyDirty, backupOps, stateOps, copyOnWriteOps, spanOps, writeOps, spanBad, writeStatus, Chosen}
+use Rattle.model.specs.Checkpoint.{flushDirty, statesOps, epochOps, checkpointOps}
+use Rattle.model.specs.Reads.{readStatus}
+use Rattle.model.specs.Crash.{KeepsDurable, Stage, CrashImage}
+use Rattle.model.specs.Reference.{Model, openArgs, writeArgs, modelStep}
+use Rattle.model.specs.History.{Device, callOpen, deviceStep}
+
+-- one main segment at 512 and one backup segment at 768, of one block
+abbrev small : Layout
+small = layoutOf 1 1 1
+
+-- ---- words and operations
+
+-- the least significant byte of a word comes first: the bytes 1 to 8 are hexadecimal 0807060504030201
+pub least-byte-first : wordAt (1 ∷ 2 ∷ 3 ∷ 4 ∷ 5 ∷ 6 ∷ 7 ∷ 8 ∷ []) 0 ≡ 578437695752307201
+unfolding wordOf littleEndian
+least-byte-first = refl
+
+-- kind 1 stores a word at a place, kind 2 writes the line of a place back, kind 3 is a fence
+pub kinds : encode (store 8 5 ∷ clwb 64 ∷ sfence ∷ []) ≡ 1 ∷ 8 ∷ 5 ∷ 2 ∷ 64 ∷ 0 ∷ 3 ∷ 0 ∷ 0 ∷ []
+unfolding encode
+kinds = refl
+
+-- places are below the image length: on an image of one line a store at 56 is served, and one at 64 refused with 12
+pub places-end : (replayStatus (replicate 64 0) (1 ∷ 56 ∷ 5 ∷ []) 1 ≡ 0) × (replayStatus (replicate 64 0) (1 ∷ 64 ∷ 5 ∷ []) 1 ≡ 12)
+unfolding replayStatus firstError allWellFormed replayCount wellFormed allB
+places-end = (refl, refl)
+
+-- of three operations replay plays the first two where two are asked for, and all three where five are
+pub played-count : (replayCount (1 ∷ 8 ∷ 5 ∷ 2 ∷ 0 ∷ 0 ∷ 3 ∷ 0 ∷ 0 ∷ []) 2 ≡ 2) × (replayCount (1 ∷ 8 ∷ 5 ∷ 2 ∷ 0 ∷ 0 ∷ 3 ∷ 0 ∷ 0 ∷ []) 5 ≡ 3)
+unfolding replayCount
+played-count = (refl, refl)
+
+-- a copy reads at its first place and stores at its second, upward
+pub copy-direction : (I : Image) → take 2 (copySegment small I 512 768) ≡ store 768 (wordAt I 512) ∷ store 776 (wordAt I 520) ∷ []
+unfolding copySegment persistCopy putBlock stores cat
+copy-direction I = refl
+
+-- ---- what a crash may leave
+
+-- a store whose line was written back may be lost as long as no fence followed
+pub flush-alone-lost : (I : Image) (p w : ℕ) → CrashImage I (store p w ∷ clwb p ∷ []) I
+unfolding replay
+flush-alone-lost I p w = record {
+  long = refl;
+  lines = λ ℓ. record {
+    k = 0;
+    within = omega arith;
+    durable = λ A C D q l e. omega (arith, simp length-append at (ap length e));
+    agree = λ i e. refl;
+  };
+}
+
+-- once a fence followed, it is kept
+pub fenced-kept : (p w k : ℕ) → KeepsDurable (p / lineSize) (store p w ∷ clwb p ∷ sfence ∷ []) k → 1 ≤ k
+fenced-kept p w k h = h (store p w ∷ []) [] [] p refl refl
+
+-- each line on its own: the first line may be as it was, whatever stands on the others
+pub line-alone : (x y z : Image) (p w : ℕ) → length x ≡ lineSize → Stage 0 (x ++ y) (store p w ∷ []) (x ++ z)
+unfolding replay
+line-alone x y z p w long = record {
+  k = 0;
+  within = omega arith;
+  durable = λ A C D q l e. omega (arith, simp length-append at (ap length e));
+  agree = λ i e. List·getD-append x z 0 i (omega arith) ∙ sym (List·getD-append x y 0 i (omega arith));
+}
+
+-- ---- the order of operations
+
+-- copy on write, after the 36 operations of the copy: a fence, state 2 stored and written back, a fence; so state 2 does
+-- not arrive before the copy
+pub state-after-copy : (I : Image)
+    → drop 36 (copyOnWriteOps small I 1 0 (OwnBackup 0)) ≡ sfence ∷ storeByte I (activeLine I + 0) 2 ∷ clwb (activeLine I) ∷ sfence ∷ []
+unfolding copyOnWriteOps backupOps copyDirty stateOps persistCopy putBlock stores clwbs cat bit
+state-after-copy I = refl
+
+-- a checkpoint of one whose blocks are all clean, after its first fence and the 8 stores of states: written back, a fence, the epoch
+-- stored and written back, a fence; so the epoch does not arrive before the states
+pub epoch-after-states : (I : Image)
+    → drop 9 (checkpointOps (freshSession small) I) ≡ clwb (inactiveLine I) ∷ sfence ∷ store epochAt (suc (committedEpoch I)) ∷ clwb epochAt ∷ sfence ∷ []
+unfolding checkpointOps flushDirty statesOps epochOps stores cat freshSession bit
+epoch-after-states I = refl
+
+-- ---- opening
+
+-- it copies a paired main segment in state 1 to its backup, so that a half-made copy does not stay
+pub backup-renewed : (I : Image) → take 1 (actionOps small I 0 0 (recoveryAction ssMain true)) ≡ store 768 (wordAt I 512) ∷ []
+unfolding actionOps recoveryAction byState copySegment persistCopy putBlock stores cat
+backup-renewed I = refl
+
+-- refused, it answers a session of zeros
+pub refused-zeros : (I : Image) (t : Trace) → openOutcome (layoutOf 65 1 1) I t .session ≡ zeroSession
+unfolding openOutcome openStatus outcomeOf firstError sizesOk inRange freshSession zeroSession
+refused-zeros I t = refl
+
+-- which the next call is given
+pub zeros-count : (d : Device) (t : Trace) → deviceStep d (callOpen (layoutOf 65 1 1) t) .session ≡ zeroSession
+unfolding deviceStep openOutcome openStatus outcomeOf firstError sizesOk inRange freshSession zeroSession
+zeros-count d t = refl
+
+-- in the reference model it drops what was written and not checkpointed
+pub edits-dropped : (l k : Layout) (w : WriteArgs) (m : Model)
+    → modelStep l (openArgs k) true (modelStep l (writeArgs w) true m) ≡ record { working = m .checkpoint; checkpoint = m .checkpoint }
+unfolding modelStep
+edits-dropped l k w m = refl
+
+-- ---- checkpoint and write
+
+-- a block that was written is dirty also after the checkpoint, so that the next write copies it: 36 operations
+pub mark-copied : (I : Image) → length (copyDirty small I (dirtyWord (withCheckpoint (withDirty (freshSession small) 0 0 1 0)) 0) 0 0) ≡ 36
+unfolding withCheckpoint withDirty freshSession setBits setBit copyDirty persistCopy putBlock stores clwbs cat bit
+mark-copied I = refl
+
+-- two main segments: the first in state 2, with backup segment 0, the second in state 1 and unpaired; by the inactive line
+-- both are in state 1. So backup segment 0 holds a checkpoint, though it would be free by the inactive line
+abbrev taken : ℕ → Image
+taken backups =
+    container (layoutOf 2 backups 1) 0 (2 ∷ 1 ∷ replicate 62 0) (1 ∷ 1 ∷ replicate 62 0) (0 ∷ replicate 63 unpaired)
+    (replicate (256 * (2 + backups)) 0)
+
+abbrev second : WriteArgs
+second = writeArgsOf 1 0 0 (7 ∷ [])
+
+-- with no other backup segment a write to the second main segment finds none free
+pub none-free : copyPlan (freshSession (layoutOf 2 1 1)) (taken 1) 1 0 ≡ NoneFree
+unfolding copyPlan needsCopy dirtySegment freshSession bit isPaired anyFree isFree anyB container bytesOf stateLine wordOf littleEndian
+none-free = refl
+
+-- and with another one it does not take that one
+pub taken-not-chosen : Chosen (freshSession (layoutOf 2 2 1)) (taken 2) second (replicate 129 0) 0 → ⊥
+unfolding writeStatus firstError sizesOk inRange imageSize headerOk validMetadata allB isPaired validSession spanBad traceShort writeOps copyOnWriteOps backupOps pairOps copySegment persistCopy putBlock stores clwbs cat stateOps spanOps copyPlan needsCopy needsBackup dirtySegment freshSession bit anyFree isFree anyB container bytesOf stateLine wordOf littleEndian
+taken-not-chosen c = ⊎-elim (λ e. omega (arith, e)) (λ k. k refl) (c refl refl .1)
+
+-- ---- refusals
+
+-- a read gives 6 for a main segment and 7 for a block that is not there
+pub six-and-seven : (readStatus small (formatted small) 1 0 ≡ 6) × (readStatus small (formatted small) 0 1 ≡ 7)
+unfolding readStatus firstError sizesOk inRange imageSize headerOk validMetadata allB isPaired anyB formatted container bytesOf stateLine wordOf littleEndian
+six-and-seven = (refl, refl)
+
+-- and the lower of the two where both apply
+pub lower-first : readStatus small (formatted small) 1 1 ≡ 6
+unfolding readStatus firstError sizesOk inRange imageSize headerOk validMetadata allB isPaired anyB formatted container bytesOf stateLine wordOf littleEndian
+lower-first = refl
