@@ -1,2 +1,3 @@
 pub mod KeyLaws
-pub mod GoodLaws
+pub mod ValueLaws
+pub mod LineLaws

@@ -1,13 +1,13 @@
 -- One line of the bench sheet (document 01: "The bench sheet"): the keys in their order, what may stand behind each, and which
 -- line is good. Assumes nothing.
-use Prim.Native.Nat.{ℕ, _+_, _-_, min}
-use mathlib.Core.Path.{_≡_}
+use Prim.Native.Nat.{ℕ, _-_}
 use mathlib.Core.Bool.{Bool, false, _&&_}
 use mathlib.Core.List.{List, [], _∷_}
-use lib.Dec.{leb, ltb, eqb}
+use lib.Dec.{leb, eqb}
 use lib.ListN.{length, getD, take, drop}
-use Rattle.text.specs.Text.{text, startsWith, Line, lineEnd, noNumber, numberOf, hexPairs}
-use Rattle.lines.specs.declared.ValueAt.{ValueAt}
+use Rattle.text.specs.Text.{text, startsWith, Line, lineEnd, numberOf, hexPairs}
+use Rattle.text.specs.declared.Number.{Number}
+use Rattle.text.specs.declared.Number.the-variants.{None, Is}
 
 -- the most hexadecimal digits of a value
 abbrev pub mostDigits : ℕ
@@ -15,18 +15,30 @@ mostDigits = 512
 
 -- ---- a line
 
+-- the largest size, and the largest number of three digits
+abbrev pub mostSize : ℕ
+mostSize = 4
+
+abbrev pub mostNumber : ℕ
+mostNumber = 999
+
+-- whether there is a number from `least` to `most`
+abbrev pub within : ℕ → ℕ → Number → Bool
+within least most None = false
+within least most (Is n) = leb least n && leb n most
+
 -- what may stand behind a key: a size from 1 to 4, a number, an even count of hexadecimal digits, 0 or 1
 abbrev pub isSize : List ℕ → Bool
-isSize v = leb 1 (numberOf v) && leb (numberOf v) 4
+isSize v = within 1 mostSize (numberOf v)
 
 abbrev pub isNumber : List ℕ → Bool
-isNumber v = ltb (numberOf v) noNumber
+isNumber v = within 0 mostNumber (numberOf v)
 
 abbrev pub isBytes : List ℕ → Bool
 isBytes v = leb (length v) mostDigits && hexPairs v
 
 abbrev pub isFlag : List ℕ → Bool
-isFlag v = leb (numberOf v) 1
+isFlag v = within 0 1 (numberOf v)
 
 -- a key with its `=`, and the values that it takes
 pub record Key : Type 0 where
@@ -88,7 +100,10 @@ valueOf k l = take (length l - 1 - length (key k .name)) (drop (length (key k .n
 unfoldable pub goodLine : ℕ → Line → Bool
 goodLine k l = named k l && eqb (getD l (length l - 1) 0) lineEnd && key k .takes (valueOf k l)
 
--- where the value for key k stands in a line: behind the key, and before the last byte
-pub record ReadsValue (k «at» end : ℕ) (r : ValueAt) : Type 0 where
-  pub start : r .start ≡ min («at» + length (key k .name)) end
-  pub size : r .end ≡ r .start + (end - «at» - 1 - length (key k .name))
+-- a number, or 0 for none; the number that stands for key k in a line, which a good line has
+abbrev pub orZero : Number → ℕ
+orZero None = 0
+orZero (Is n) = n
+
+abbrev pub numberIn : ℕ → Line → ℕ
+numberIn k l = orZero (numberOf (valueOf k l))

@@ -13,7 +13,7 @@ use Rattle.model.proofs.Laws.Range.{and-left, and-right}
 use Rattle.text.specs.Text.{text, Line, linesOf, hexPairs}
 use Rattle.text.proofs.LineLaws.{total, total-lines, lines-none}
 use Rattle.lines.specs.Line.{isBytes, key, valueOf, goodLine}
-use Rattle.lines.proofs.GoodLaws.{good-value, good-long}
+use Rattle.lines.proofs.LineLaws.{good-value, good-long}
 use Rattle.parser.specs.Script.{groupKey, groupLines, firstBad, lineAt, groupOf, firstGroups, groupsOf}
 use Rattle.parser.specs.declared.GroupAt.{GroupAt}
 use Rattle.parser.specs.Read.{ReadsGroup}
@@ -23,10 +23,8 @@ use Rattle.parser.proofs.BadLaws.{step, end-at}
 
 -- what the first five lines are where a group may start and no line is bad
 pub record GoodGroup (n : ℕ) (ls : List Line) : Type 0 where
-  pub long : 5 ≤ length ls
   pub groups : groupsOf ls ≡ groupOf ls ∷ groupsOf (drop groupLines ls)
   pub rest : firstBad groupKey (5 + n) (drop groupLines ls) ≡ 0
-  pub bytes : isBytes (valueOf 6 (lineAt ls 3)) ≡ true
   pub short : length (valueOf 6 (lineAt ls 3)) ≤ 512
   pub pairs : hexPairs (valueOf 6 (lineAt ls 3)) ≡ true
   -- five keys, and a byte 10 behind each
@@ -49,10 +47,8 @@ five n a b c d e ls ga gb gc gd ge h =
     let v : 5 < length e = good-long 7 e ge (omega arith) refl in
     let w : isBytes (valueOf 6 d) ≡ true = good-value 6 d gd in
     record {
-      long = omega arith;
       groups = rw q;
       rest = rw m h;
-      bytes = w;
       short = leb-true (length (valueOf 6 d)) 512 (and-left (leb (length (valueOf 6 d)) 512) (hexPairs (valueOf 6 d)) w);
       pairs = and-right (leb (length (valueOf 6 d)) 512) (hexPairs (valueOf 6 d)) w;
       size = omega arith;

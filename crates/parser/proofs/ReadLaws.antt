@@ -12,13 +12,15 @@ use lib.Seq.{drop-drop, getD-drop}
 use borrow.Author.Tests.{not-true, not-false}
 use Rattle.model.specs.declared.Layout.{Layout}
 use Rattle.model.specs.Layout.{layoutOf}
-use Rattle.text.specs.Text.{Line, linesOf, lineLength, numberOf, lineAfter, lineStart}
-use Rattle.lines.specs.Line.{named, valueOf, ReadsValue}
-use Rattle.parser.specs.Script.{lineAt, numberIn, groupOf, defaultBackups, blocksLine, sizesOf}
+use Rattle.text.specs.Text.{Line, linesOf}
+use Rattle.text.specs.Read.{lineLength, lineAfter, lineStart}
+use Rattle.lines.specs.Line.{named, valueOf, numberIn}
+use Rattle.lines.specs.Read.{ReadsValue}
+use Rattle.parser.specs.Script.{lineAt, groupOf, defaultBackups, blocksLine, sizesOf}
 use Rattle.lines.specs.declared.ValueAt.{ValueAt}
 use Rattle.parser.specs.Read.{ReadsHeader, ReadsGroup}
 use Rattle.text.proofs.LineLaws.{next-rest, next-part}
-use Rattle.lines.proofs.KeyLaws.{value-part, value-inside}
+use Rattle.lines.proofs.ValueLaws.{value-part, value-inside}
 
 -- a line of the input that starts at p ends at r
 abbrev pub Ends : List ℕ → ℕ → ℕ → Type 0
@@ -34,13 +36,13 @@ module _ (input : List ℕ) (ls : List Line) (i p r : ℕ) (h : linesOf (drop p 
   line-part = next-part input p r (e .0) ∙ ap (λ (l : List Line). lineAt l 0) h ∙ getD-drop i ls 0 [] ∙ ap (lineAt ls) (add-zero i)
 
   -- the number in it
-  pub line-number : (k : ℕ) {n : ℕ} → n ≡ numberOf (valueOf k (take (r - p) (drop p input))) → n ≡ numberIn k (lineAt ls i)
+  pub line-number : (k : ℕ) {n : ℕ} → n ≡ numberIn k (take (r - p) (drop p input)) → n ≡ numberIn k (lineAt ls i)
   line-number k q = q ∙ ap (numberIn k) line-part
 
 -- ---- the sizes
 
 module _ (input : List ℕ) (s t m : ℕ) (es : Ends input 0 s) (et : Ends input s t)
-    (em : m ≡ numberOf (valueOf 0 (take (s - 0) (drop 0 input)))) {p : Bool} (ep : p ≡ named 1 (take (t - s) (drop s input))) where
+    (em : m ≡ numberIn 0 (take (s - 0) (drop 0 input))) {p : Bool} (ep : p ≡ named 1 (take (t - s) (drop s input))) where
   abbrev ls : List Line
   ls = linesOf input
 
@@ -57,7 +59,7 @@ module _ (input : List ℕ) (s t m : ℕ) (es : Ends input 0 s) (et : Ends input
   name = ep ∙ ap (named 1) (line-part input ls 1 s t second et)
 
   -- without a line of backups
-  pub header-short : {d n : ℕ} {l : Layout} → not p ≡ true → d ≡ defaultBackups m → n ≡ numberOf (valueOf 2 (take (t - s) (drop s input)))
+  pub header-short : {d n : ℕ} {l : Layout} → not p ≡ true → d ≡ defaultBackups m → n ≡ numberIn 2 (take (t - s) (drop s input))
       → l ≡ layoutOf m d n → ReadsHeader input (record { layout = l; next = t })
   unfolding sizesOf blocksLine
   header-short {n = n} h ed en el =
@@ -70,8 +72,8 @@ module _ (input : List ℕ) (s t m : ℕ) (es : Ends input 0 s) (et : Ends input
       }
 
   -- with one
-  pub header-long : (u : ℕ) {a n : ℕ} {l : Layout} → not p ≡ false → Ends input t u → a ≡ numberOf (valueOf 1 (take (t - s) (drop s input)))
-      → n ≡ numberOf (valueOf 2 (take (u - t) (drop t input))) → l ≡ layoutOf m a n → ReadsHeader input (record { layout = l; next = u })
+  pub header-long : (u : ℕ) {a n : ℕ} {l : Layout} → not p ≡ false → Ends input t u → a ≡ numberIn 1 (take (t - s) (drop s input))
+      → n ≡ numberIn 2 (take (u - t) (drop t input)) → l ≡ layoutOf m a n → ReadsHeader input (record { layout = l; next = u })
   unfolding sizesOf blocksLine
   header-long u {a} {n} h eu ea en el =
       let b : named 1 (lineAt ls 1) ≡ true = sym name ∙ not-false p h in
@@ -87,11 +89,11 @@ module _ (input : List ℕ) (s t m : ℕ) (es : Ends input 0 s) (et : Ends input
 
 pub group-read : (input : List ℕ) («at» s t u v w : ℕ) {m b o x : ℕ} {d : ValueAt}
     → Ends input «at» s → Ends input s t → Ends input t u → Ends input u v → Ends input v w
-    → m ≡ numberOf (valueOf 3 (take (s - «at») (drop «at» input)))
-    → b ≡ numberOf (valueOf 4 (take (t - s) (drop s input)))
-    → o ≡ numberOf (valueOf 5 (take (u - t) (drop t input)))
+    → m ≡ numberIn 3 (take (s - «at») (drop «at» input))
+    → b ≡ numberIn 4 (take (t - s) (drop s input))
+    → o ≡ numberIn 5 (take (u - t) (drop t input))
     → ReadsValue 6 u v d
-    → x ≡ numberOf (valueOf 7 (take (w - v) (drop v input)))
+    → x ≡ numberIn 7 (take (w - v) (drop v input))
     → ReadsGroup input «at» (record { main = m; block = b; offset = o; digits = d .start; «digits_end» = d .end; checkpoint = eqb x 1; next = w })
 unfolding groupOf lineStart
 group-read input «at» s t u v w {d = d} es et eu ev ew em eb eo ed ex =

@@ -5,9 +5,9 @@ use mathlib.Core.Bool.{Bool, true, false}
 use mathlib.Core.List.{List, [], _∷_}
 use native.Mathlib.Omega.{arith}
 use lib.ListN.{drop}
-use Rattle.text.specs.Text.{Line}
+use Rattle.text.specs.Text.{Line, numberOf}
 use Rattle.lines.specs.Line.{key, named, valueOf, goodLine}
-use Rattle.lines.proofs.GoodLaws.{good-value, size-bounds}
+use Rattle.lines.proofs.LineLaws.{good-value, size-bounds}
 use Rattle.parser.specs.Script.{groupKey, keyFor, following, firstBad, defaultBackups, blocksLine, sizesOf}
 use Rattle.parser.proofs.BadLaws.{step, end-at}
 
@@ -23,9 +23,9 @@ with-backups : (a b c : Line) (ls : List Line) → named 1 b ≡ true → goodLi
 unfolding key sizesOf blocksLine
 with-backups a b c ls t ga gb gc h =
     record {
-      mains = size-bounds (valueOf 0 a) (good-value 0 a ga);
-      backups = rw t (size-bounds (valueOf 1 b) (good-value 1 b gb));
-      blocks = rw t (size-bounds (valueOf 2 c) (good-value 2 c gc));
+      mains = size-bounds (numberOf (valueOf 0 a)) (good-value 0 a ga);
+      backups = rw t (size-bounds (numberOf (valueOf 1 b)) (good-value 1 b gb));
+      blocks = rw t (size-bounds (numberOf (valueOf 2 c)) (good-value 2 c gc));
       rest = rw t h;
     }
 
@@ -34,9 +34,9 @@ without-backups : (a b : Line) (ls : List Line) → named 1 b ≡ false → good
 unfolding key sizesOf blocksLine defaultBackups
 without-backups a b ls t ga gb h =
     record {
-      mains = size-bounds (valueOf 0 a) (good-value 0 a ga);
-      backups = rw t (size-bounds (valueOf 0 a) (good-value 0 a ga));
-      blocks = rw t (size-bounds (valueOf 2 b) (good-value 2 b gb));
+      mains = size-bounds (numberOf (valueOf 0 a)) (good-value 0 a ga);
+      backups = rw t (size-bounds (numberOf (valueOf 0 a)) (good-value 0 a ga));
+      blocks = rw t (size-bounds (numberOf (valueOf 2 b)) (good-value 2 b gb));
       rest = rw t h;
     }
 

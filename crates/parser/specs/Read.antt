@@ -1,11 +1,13 @@
--- What the contracts of the reading functions say of an input: the sizes, and one group.
--- Assumes nothing.
+-- What the contracts of the reading functions say of an input: the sizes, and one group. A helper's: nothing that users of the
+-- library rely on is said in its terms. Assumes nothing.
 use Prim.Native.Nat.{ℕ, suc, _-_, _≤_}
 use mathlib.Core.Path.{_≡_}
 use mathlib.Core.List.{List}
 use lib.ListN.{length, take, drop}
-use Rattle.text.specs.Text.{lineStart, linesOf}
-use Rattle.lines.specs.Line.{bytesKey, valueOf, ReadsValue}
+use Rattle.text.specs.Text.{linesOf}
+use Rattle.text.specs.Read.{lineStart}
+use Rattle.lines.specs.Line.{bytesKey, valueOf}
+use Rattle.lines.specs.Read.{ReadsValue}
 use Rattle.parser.specs.Script.{groupLines, lineAt, groupOf, blocksLine, sizesOf}
 use Rattle.parser.specs.declared.HeaderAt.{HeaderAt}
 use Rattle.parser.specs.declared.GroupAt.{GroupAt}

@@ -4,12 +4,12 @@ use Prim.Native.Nat.{ℕ, zero, suc, _/_}
 use mathlib.Core.Bool.{Bool, not, cond, _&&_}
 use mathlib.Core.List.{List, [], _∷_}
 use lib.Dec.{ltb, eqb}
-use lib.ListN.{length, getD, take, drop}
+use lib.ListN.{length, getD, drop}
 use Rattle.model.specs.declared.Layout.{Layout}
 use Rattle.model.specs.Layout.{layoutOf}
-use Rattle.text.specs.Text.{Line, linesOf, numberOf, hexBytes}
+use Rattle.text.specs.Text.{Line, linesOf, hexBytes}
 pub use Rattle.lines.specs.Line.{groupKey}
-use Rattle.lines.specs.Line.{mainsKey, backupsKey, blocksKey, blockKey, offsetKey, bytesKey, checkpointKey, named, valueOf, goodLine}
+use Rattle.lines.specs.Line.{mainsKey, backupsKey, blocksKey, blockKey, offsetKey, bytesKey, checkpointKey, named, valueOf, goodLine, numberIn}
 
 -- the most bytes of a sheet
 abbrev pub mostBytes : ℕ
@@ -45,12 +45,9 @@ pub record Group : Type 0 where
   pub bytes : List ℕ
   pub checkpoint : Bool
 
--- line i of some lines, empty where there is none, and the number in it for key k
+-- line i of some lines, empty where there is none
 abbrev pub lineAt : List Line → ℕ → Line
 lineAt ls i = getD ls i []
-
-abbrev pub numberIn : ℕ → Line → ℕ
-numberIn k l = numberOf (valueOf k l)
 
 -- the group of the first five lines
 unfoldable pub groupOf : List Line → Group

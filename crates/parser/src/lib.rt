@@ -4,6 +4,7 @@ ghost use mathlib.Core.Path.{_≡_};
 ghost use Prim.Native.Nat.{_≤_};
 ghost use lib.ListN.{length};
 ghost use Rattle.text.specs.Text.{linesOf};
+ghost use Rattle.lines.specs.Line.{mainsKey, checkpointKey};
 ghost use Rattle.parser.specs.Script.{keyFor, following, firstBad, defaultBackups};
 ghost use Rattle.parser.specs.Read.{ReadsHeader, ReadsGroup};
 
@@ -22,8 +23,8 @@ fn key_for(k: u64, line: &[u8]) -> u64
 
 // The key that comes after key k.
 fn key_after(k: u64) -> u64
-    requires { ⌜ k ≤ 7 ⌝ }
-    ensures { λ r. ⌜ (r ≡ following k) × (r ≤ 7) ⌝ }
+    requires { ⌜ k ≤ checkpointKey ⌝ }
+    ensures { λ r. ⌜ (r ≡ following k) × (r ≤ checkpointKey) ⌝ }
 {
     if k == lines::CHECKPOINT {
         return lines::MAIN;
@@ -33,7 +34,7 @@ fn key_after(k: u64) -> u64
 
 // The number of the first bad or missing line, or 0 if there is none.
 pub fn first_bad(input: &[u8]) -> u64
-    ensures { λ r. ⌜ r ≡ firstBad 0 0 (linesOf (now (input .entry))) ⌝ }
+    ensures { λ r. ⌜ r ≡ firstBad mainsKey 0 (linesOf (now (input .entry))) ⌝ }
 {
     let mut key = lines::MAINS;
     let mut count: u64 = 0;

@@ -1,3 +1,4 @@
 pub mod LineLaws
 pub mod NameLaws
 pub mod NumberLaws
+pub mod HexLaws

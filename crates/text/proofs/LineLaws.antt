@@ -10,7 +10,8 @@ use lib.Dec.{eqb}
 use lib.ListN.{length, getD, take, drop, length-drop}
 use lib.Seq.{drop-cons, drop-drop, drop-length}
 use borrow.Author.Tests.{ne-eqb}
-use Rattle.text.specs.Text.{Line, before, linesOf, lineLength}
+use Rattle.text.specs.Text.{Line, before, linesOf}
+use Rattle.text.specs.Read.{lineLength}
 
 -- ---- the first line
 

@@ -5,13 +5,11 @@ ghost use mathlib.Core.Bool.{true};
 ghost use mathlib.Core.List.{[], _∷_};
 ghost use Prim.Native.Nat.{_+_, _*_, _≤_, _<_};
 ghost use lib.ListN.{length, drop};
-ghost use Rattle.text.specs.Text.{startsWith, lineLength, isDigit, digitOf, numberOf, isHexDigit, hexDigitOf, hexPairs, Decodes};
+ghost use Rattle.text.specs.Text.{startsWith, isDigit, digitOf, numberIf, numberOf, isHexDigit, hexDigitOf, hexPairs};
+ghost use Rattle.text.specs.Read.{lineLength, Decodes};
 
 // The byte that ends a line.
-const LINE_END: u8 = 10;
-
-// What a value gives that is no number.
-const NO_NUMBER: u64 = 1000;
+pub const LINE_END: u8 = 10;
 
 // The end of the line that starts at a place: behind its byte 10, or where the input ends.
 pub fn next_line(input: &[u8], at: usize) -> usize
@@ -46,6 +44,22 @@ pub fn starts_with(line: &[u8], name: &[u8]) -> bool
     true
 }
 
+// What a value gives that is to be a number.
+pub enum Number {
+    None,
+    Is(u64),
+}
+
+// A number that is taken, or none.
+fn number_if(taken: bool, n: u64) -> Number
+    ensures { λ r. ⌜ r ≡ numberIf taken n ⌝ }
+{
+    if !taken {
+        return Number::None;
+    }
+    Number::Is(n)
+}
+
 // Whether a byte is a decimal digit.
 fn is_digit(b: u8) -> bool
     ensures { λ r. ⌜ r ≡ isDigit b ⌝ }
@@ -53,9 +67,9 @@ fn is_digit(b: u8) -> bool
     (b'0' <= b) & (b <= b'9')
 }
 
-// The number of a decimal digit.
+// The number of a decimal digit, and of any other byte one that fits a byte.
 fn digit_of(b: u8) -> u64
-    ensures { λ r. ⌜ (r ≡ digitOf b) × (r ≤ 207) ⌝ }
+    ensures { λ r. ⌜ (r ≡ digitOf b) × (r ≤ 255) ⌝ }
 {
     if b < b'0' {
         return 0;
@@ -64,37 +78,28 @@ fn digit_of(b: u8) -> u64
 }
 
 // The numbers that one, two and three bytes give.
-fn one_digit(a: u8) -> u64
+fn one_digit(a: u8) -> Number
     ensures { λ r. ⌜ r ≡ numberOf (a ∷ []) ⌝ }
 {
-    if !is_digit(a) {
-        return NO_NUMBER;
-    }
-    digit_of(a)
+    number_if(is_digit(a), digit_of(a))
 }
 
-fn two_digits(a: u8, b: u8) -> u64
+fn two_digits(a: u8, b: u8) -> Number
     ensures { λ r. ⌜ r ≡ numberOf (a ∷ b ∷ []) ⌝ }
 {
-    let good = is_digit(a) & is_digit(b) & (a != b'0');
-    if !good {
-        return NO_NUMBER;
-    }
-    10 * digit_of(a) + digit_of(b)
+    let taken = is_digit(a) & is_digit(b) & (a != b'0');
+    number_if(taken, 10 * digit_of(a) + digit_of(b))
 }
 
-fn three_digits(a: u8, b: u8, c: u8) -> u64
+fn three_digits(a: u8, b: u8, c: u8) -> Number
     ensures { λ r. ⌜ r ≡ numberOf (a ∷ b ∷ c ∷ []) ⌝ }
 {
-    let good = is_digit(a) & is_digit(b) & is_digit(c) & (a != b'0');
-    if !good {
-        return NO_NUMBER;
-    }
-    100 * digit_of(a) + 10 * digit_of(b) + digit_of(c)
+    let taken = is_digit(a) & is_digit(b) & is_digit(c) & (a != b'0');
+    number_if(taken, 100 * digit_of(a) + 10 * digit_of(b) + digit_of(c))
 }
 
 // The number that a value gives.
-pub fn number_of(value: &[u8]) -> u64
+pub fn number_of(value: &[u8]) -> Number
     ensures { λ r. ⌜ r ≡ numberOf (now (value .entry)) ⌝ }
 {
     if value.len() == 1 {
@@ -106,17 +111,14 @@ pub fn number_of(value: &[u8]) -> u64
     if value.len() == 3 {
         return three_digits(value[0], value[1], value[2]);
     }
-    NO_NUMBER
+    Number::None
 }
 
 // Whether a byte is a lower-case hexadecimal digit.
 fn is_hex_digit(b: u8) -> bool
     ensures { λ r. ⌜ r ≡ isHexDigit b ⌝ }
 {
-    if b <= b'9' {
-        return b'0' <= b;
-    }
-    (b'a' <= b) & (b <= b'f')
+    is_digit(b) | ((b'a' <= b) & (b <= b'f'))
 }
 
 // Whether a value is an even count of them.
@@ -139,14 +141,6 @@ pub fn hex_pairs(value: &[u8]) -> bool
     true
 }
 
-// The byte that two hexadecimal digits give.
-fn hex_byte(a: u8, b: u8) -> u8
-    requires { ⌜ (isHexDigit a ≡ true) × (isHexDigit b ≡ true) ⌝ }
-    ensures { λ r. ⌜ r ≡ 16 * hexDigitOf a + hexDigitOf b ⌝ }
-{
-    16 * hex_digit_of(a) + hex_digit_of(b)
-}
-
 // The number of a hexadecimal digit.
 fn hex_digit_of(b: u8) -> u8
     requires { ⌜ isHexDigit b ≡ true ⌝ }
@@ -155,7 +149,15 @@ fn hex_digit_of(b: u8) -> u8
     if b <= b'9' {
         return b - b'0';
     }
-    b - 87
+    b - b'a' + 10
+}
+
+// The byte that two hexadecimal digits give.
+fn hex_byte(a: u8, b: u8) -> u8
+    requires { ⌜ (isHexDigit a ≡ true) × (isHexDigit b ≡ true) ⌝ }
+    ensures { λ r. ⌜ r ≡ 16 * hexDigitOf a + hexDigitOf b ⌝ }
+{
+    16 * hex_digit_of(a) + hex_digit_of(b)
 }
 
 // Puts the bytes that pairs of hexadecimal digits give at the start of `bytes`, and answers with how many they are.

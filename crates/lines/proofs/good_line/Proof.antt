@@ -1,4 +1,4 @@
-use Rattle.lines.proofs.KeyLaws.{line-empty, line-unended, line-unnamed, line-named}
+use Rattle.lines.proofs.LineLaws.{line-empty, line-unended, line-unnamed, line-named}
 use borrow.Author.Needs.{needs}
 use Rattle.lines.proofs.good_line.Statement.{statement}
 use Rattle.lines.proofs.good_line.Tie as tie

@@ -1,4 +1,4 @@
-use Rattle.lines.proofs.KeyLaws.{value-whole}
+use Rattle.lines.proofs.ValueLaws.{value-whole}
 use borrow.Author.Needs.{needs}
 use Rattle.lines.proofs.value_of.Statement.{statement}
 use Rattle.lines.proofs.value_of.Tie as tie

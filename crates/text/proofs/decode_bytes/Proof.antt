@@ -1,4 +1,4 @@
-use Rattle.text.proofs.NumberLaws.{pair-at, decoded-more, left-more, decoded}
+use Rattle.text.proofs.HexLaws.{pair-at, decoded-more, left-more, decoded}
 use Rattle.text.specs.Text.{hexBytes}
 use lib.ListN.{length, take, drop, length-set}
 use native.Mathlib.Omega.{arith}

@@ -1,4 +1,4 @@
-use Rattle.text.proofs.NumberLaws.{pairs-done, pairs-odd, pairs-first, pairs-second, pairs-on}
+use Rattle.text.proofs.HexLaws.{pairs-done, pairs-odd, pairs-first, pairs-second, pairs-on}
 use Rattle.text.specs.Text.{hexPairs}
 use lib.ListN.{length, drop}
 use native.Mathlib.Omega.{arith}
@@ -15,7 +15,7 @@ abbrev μ-loop : tie.MeasureT-loop
 μ-loop value i₀ i = length value - i
 
 loop-holds : tie.Need-loop-holds Inv-loop μ-loop
-loop-holds c = (search needs, refl)
+loop-holds c = (omega arith, refl)
 
 add-if1 : tie.Need-add-if1 Inv-loop μ-loop
 add-if1 c = search needs

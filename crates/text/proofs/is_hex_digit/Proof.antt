@@ -1,12 +1,13 @@
-use Rattle.text.proofs.NumberLaws.{hex-low, hex-high}
+use Rattle.text.proofs.HexLaws.{hex-either}
+use borrow.Author.Needs.{needs}
 use Rattle.text.proofs.is_hex_digit.Statement.{statement}
 use Rattle.text.proofs.is_hex_digit.Tie as tie
 
-returns : tie.Need-returns
-returns c = hex-low _ (c .if1 .taken)
+is-digit-requires : tie.Need-is-digit-requires
+is-digit-requires c κs = search needs
 
-returns-2 : tie.Need-returns-2
-returns-2 c = hex-high _ (c .if1 .left)
+returns : tie.Need-returns
+returns c = hex-either (c .before .args .b) (c .is-digit .ensures)
 
 pub is-hex-digit-spec : {M : Type 1} → statement M
-is-hex-digit-spec = tie.close (tie.spec returns returns-2)
+is-hex-digit-spec = tie.close (tie.spec is-digit-requires returns)

@@ -3,7 +3,7 @@ use mathlib.Core.Path.{_≡_}
 use native.Mathlib.Omega.{arith}
 use native.Mathlib.Numerals.{add-one}
 use lib.ListN.{length, drop}
-use Rattle.text.specs.Text.{lineLength}
+use Rattle.text.specs.Read.{lineLength}
 use Rattle.text.proofs.LineLaws.{line-ends, line-goes-on, line-stops}
 use borrow.Author.Needs.{needs}
 use Rattle.text.proofs.next_line.Statement.{statement}

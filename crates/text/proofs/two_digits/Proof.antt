@@ -1,4 +1,4 @@
-use Rattle.text.proofs.NumberLaws.{two-refused, two-taken}
+use Rattle.text.proofs.NumberLaws.{two-number}
 use borrow.Author.Needs.{needs}
 use Rattle.text.proofs.two_digits.Statement.{statement}
 use Rattle.text.proofs.two_digits.Tie as tie
@@ -9,26 +9,26 @@ is-digit-requires c κs = search needs
 is-digit-requires-2 : tie.Need-is-digit-requires-2
 is-digit-requires-2 c κs = search needs
 
-returns : tie.Need-returns
-returns c = two-refused _ _ (c .before .before .is-digit .ensures) (c .before .is-digit2 .ensures) (c .if1 .taken)
-
 digit-of-requires : tie.Need-digit-of-requires
 digit-of-requires c κs = search needs
 
-mul-result : tie.Need-mul-result
-mul-result c = search needs
+mul-number-if : tie.Need-mul-number-if
+mul-number-if c = search needs
 
 digit-of-requires-2 : tie.Need-digit-of-requires-2
 digit-of-requires-2 c κs = search needs
 
-add-result : tie.Need-add-result
-add-result c = search needs
+add-number-if : tie.Need-add-number-if
+add-number-if c = search needs
 
-returns-2 : tie.Need-returns-2
-returns-2 c =
-    let b = c .before .before in
-    two-taken _ _ (b .before .before .is-digit .ensures) (b .before .is-digit2 .ensures) (b .if1 .left)
-    (c .before .digit-of .ensures .0) (c .digit-of2 .ensures .0)
+number-if-requires : tie.Need-number-if-requires
+number-if-requires c κs = search needs
+
+returns : tie.Need-returns
+returns c =
+    let d = c .before .before .before .before in
+    two-number _ _ (d .is-digit .ensures) (c .before .before .before .is-digit2 .ensures) (c .before .before .digit-of .ensures .0)
+    (c .before .digit-of2 .ensures .0) (c .number-if .ensures)
 
 pub two-digits-spec : {M : Type 1} → statement M
 two-digits-spec =
@@ -36,9 +36,9 @@ two-digits-spec =
     (tie.spec
     is-digit-requires
     is-digit-requires-2
-    returns
     digit-of-requires
-    mul-result
+    mul-number-if
     digit-of-requires-2
-    add-result
-    returns-2)
+    add-number-if
+    number-if-requires
+    returns)
