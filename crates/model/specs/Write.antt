@@ -123,12 +123,18 @@ spanErrors l w = (8, spanBad l w) ∷ []
 abbrev pub backupErrors : Plan → Errors
 backupErrors p = (9, noneFree p) ∷ []
 
+-- 1 to 8, which do not depend on the plan of the copy; 9 and 11, by the plan and the operations
+abbrev pub earlyErrors : Session → Image → WriteArgs → Errors
+earlyErrors s I w =
+    contextErrors s I ++ mainErrors (s .layout) (w .main) ++ blockErrors (s .layout) (w .block) ++ spanErrors (s .layout) w
+
+abbrev pub lateErrors : Plan → Ops → Trace → Errors
+lateErrors p O t = backupErrors p ++ traceErrors O t
+
 -- j stands here only through the plan, and neither whether that is `NoneFree` nor the number of operations depends on it
 -- (write-status-chosen)
 abbrev pub writeErrors : Session → Image → WriteArgs → ℕ → Trace → Errors
-writeErrors s I w j t =
-    contextErrors s I ++ mainErrors (s .layout) (w .main) ++ blockErrors (s .layout) (w .block) ++ spanErrors (s .layout) w
-    ++ backupErrors (copyPlan s I (w .main) j) ++ traceErrors (writeOps s I w j) t
+writeErrors s I w j t = earlyErrors s I w ++ lateErrors (copyPlan s I (w .main) j) (writeOps s I w j) t
 
 unfoldable pub writeStatus : Session → Image → WriteArgs → ℕ → Trace → ℕ
 writeStatus s I w j t = firstError (writeErrors s I w j t)

@@ -25,7 +25,7 @@ use Rattle.model.specs.TraceLength.{TraceSuffices, WriteTraceSuffices, C
 use Rattle.model.proofs.Laws.Status.{given-condition, given-earlier}
 use Rattle.model.proofs.Laws.Counts.{recovery-most}
 use Rattle.model.proofs.Laws.Counts.Checkpoint.{length-checkpoint-ops}
-use Rattle.model.proofs.Laws.Counts.Write.{spanCount, planCount, length-write}
+use Rattle.model.proofs.Laws.Counts.Write.{copyCount, spanCount, length-write}
 use Rattle.model.proofs.Laws.Range.{sum-most}
 use Rattle.model.proofs.Laws.Write.{span-good}
 
@@ -52,15 +52,15 @@ dirty-most word n = omega (arith, sum-most n 1 (λ b. oneIf (isDirty word b)) (�
 span-most : (l : Layout) (w : WriteArgs) → spanBad l w ≡ false → spanCount l w ≤ blockWords
 span-most l w h = let g = span-good l w h in omega (arith, g .0, g .1)
 
-plan-most : (s : Session) (I : Image) (w : WriteArgs) (p : Plan) → planCount s I w p ≤ 36 * s .layout .blocks + 6
-plan-most s I w NoCopy = omega arith
-plan-most s I w (OwnBackup j) = omega (arith, dirty-most (dirtyWord s (w .main)) (s .layout .blocks))
-plan-most s I w (NewBackup j) = omega arith
-plan-most s I w NoneFree = omega arith
+copy-most : (l : Layout) (word : ℕ) (p : Plan) → copyCount l word p ≤ 36 * l .blocks + 6
+copy-most l word NoCopy = omega arith
+copy-most l word (OwnBackup j) = omega (arith, dirty-most word (l .blocks))
+copy-most l word (NewBackup j) = omega arith
+copy-most l word NoneFree = omega arith
 
 write-most : (s : Session) (I : Image) (w : WriteArgs) (j : ℕ) → spanBad (s .layout) w ≡ false
     → length (writeOps s I w j) ≤ 36 * s .layout .blocks + 6 + blockWords
-write-most s I w j h = omega (arith, span-most (s .layout) w h, length-write s I w j, plan-most s I w (copyPlan s I (w .main) j))
+write-most s I w j h = omega (arith, span-most (s .layout) w h, length-write s I w j, copy-most (s .layout) (dirtyWord s (w .main)) (copyPlan s I (w .main) j))
 
 pub write-trace-suffices : WriteTraceSuffices
 unfolding writeStatus

@@ -132,6 +132,15 @@ overlay-before f a bs i h = rw (lt-leb a i h)
 pub overlay-after : (f : ℕ → ℕ) (a : ℕ) (bs : List ℕ) (i : ℕ) → a + length bs ≤ i → overlay f a bs i ≡ f i
 overlay-after f a bs i h = overlay-in f a bs i (omega arith) ∙ List·getD-eq-default bs (f i) (omega arith)
 
+-- an element that is there does not depend on the default
+any-default : (bs : List ℕ) (k d : ℕ) → k < length bs → getD bs k 0 ≡ getD bs k d
+any-default [] k d h = absurd (omega arith)
+any-default (b ∷ bs) zero d h = refl
+any-default (b ∷ bs) (suc k) d h = any-default bs k d (omega arith)
+
+pub overlay-inside : (f : ℕ → ℕ) (a : ℕ) (bs : List ℕ) (i : ℕ) → a ≤ i → i - a < length bs → getD bs (i - a) 0 ≡ overlay f a bs i
+overlay-inside f a bs i h l = any-default bs (i - a) (f i) l ∙ sym (overlay-in f a bs i h)
+
 small-getD : (bs : List ℕ) (j d : ℕ) → d < 256 → Bytes bs → getD bs j d < 256
 small-getD [] j d h k = h
 small-getD (b ∷ bs) zero d h k = k 0
@@ -178,9 +187,4 @@ overlay-sets l a bs i h = go (decLt i a) (decLt i (a + length bs))
     go (no q) (yes d) =
         let e : a + (i - a) ≡ i = omega arith in
         sym (ap (λ (n : ℕ). getD (sets l a bs) n 0) e) ∙ sets-at bs l a (i - a) h (omega arith)
-        ∙ in-range bs (i - a) (byteAt l i) (omega arith) ∙ sym (overlay-in (byteAt l) a bs i (omega arith))
-      where
-        in-range : (bs : List ℕ) (k d : ℕ) → k < length bs → getD bs k 0 ≡ getD bs k d
-        in-range [] k d h = absurd (omega arith)
-        in-range (b ∷ bs) zero d h = refl
-        in-range (b ∷ bs) (suc k) d h = in-range bs k d (omega arith)
+        ∙ overlay-inside (byteAt l) a bs i (omega arith) (omega arith)

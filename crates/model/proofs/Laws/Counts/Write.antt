@@ -1,7 +1,7 @@
 -- How many operations a write has, by its plan, and that the choice of a new backup segment changes neither their number nor the
 -- status.
 use Prim.Native.Nat.{ℕ, _+_, _*_}
-use mathlib.Core.Path.{_≡_, refl, sym, _∙_, ap}
+use mathlib.Core.Path.{_≡_, refl, sym, _∙_, ap, ap₂}
 use mathlib.Core.Bool.{Bool, true, false, cond}
 use mathlib.Core.List.{_++_, [], _∷_}
 use native.Mathlib.Omega.{arith}
@@ -20,6 +20,33 @@ use Rattle.model.specs.Counts.{dirtyCount}
 use Rattle.model.proofs.Argument.Phases.{statePhase, copy-phases}
 use Rattle.model.proofs.Laws.Counts.{length-stores, length-put-block, length-copy-segment, length-dirty}
 
+-- ---- by the plan
+
+-- a copy on write: nothing is copied; the dirty blocks to the backup segment that it has; all blocks to a new one
+abbrev pub copyCount : Layout → ℕ → Plan → ℕ
+copyCount l word NoCopy = 0
+copyCount l word (OwnBackup j) = 36 * dirtyCount word (l .blocks) + 4
+copyCount l word (NewBackup j) = 36 * l .blocks + 6
+copyCount l word NoneFree = 0
+
+module _ (l : Layout) (I : Image) (word i : ℕ) where
+  -- it is its backup's operations and four
+  length-copied : (p : Plan) (n : ℕ) → copies p ≡ true → length (backupOps l I word i p) ≡ n → length (copyOnWriteOps l I word i p) ≡ n + 4
+  length-copied p n e h =
+      let B : Ops = backupOps l I word i p in
+      rw (copy-phases, e) (omega (arith, h, length-append (B ++ sfence ∷ []) (statePhase I i), length-append B (sfence ∷ [])))
+
+  pub length-copy : (p : Plan) → length (copyOnWriteOps l I word i p) ≡ copyCount l word p
+  unfolding copyOnWriteOps backupOps copyDirty persistCopy pairOps
+  length-copy NoCopy = refl
+  length-copy (OwnBackup j) =
+      length-copied (OwnBackup j) (36 * dirtyCount word (l .blocks)) refl (length-dirty word (l .blocks) 36 _ (λ b. length-put-block _ _))
+  length-copy (NewBackup j) =
+      length-copied (NewBackup j) (2 + 36 * l .blocks) refl (omega (arith, length-copy-segment l I (mainAt l i) (backupAt l j))) ∙ omega arith
+  length-copy NoneFree = refl
+
+-- ---- the whole write
+
 -- how many words the span meets
 abbrev pub spanCount : Layout → WriteArgs → ℕ
 spanCount l w = spanWords (spanAt l w) (length (w .bytes))
@@ -29,45 +56,14 @@ module _ (s : Session) (I : Image) (w : WriteArgs) where
   unfolding spanOps
   length-span = length-stores _ _ _
 
-  abbrev ops : Plan → Ops
-  ops p = copyOnWriteOps (s .layout) I (dirtyWord s (w .main)) (w .main) p ++ spanOps (s .layout) I w
+  abbrev planCount : Plan → ℕ
+  planCount p = copyCount (s .layout) (dirtyWord s (w .main)) p
 
-  -- the operations of a copy are its backup's and four
-  length-copied : (p : Plan) (n : ℕ) → copies p ≡ true → length (backupOps (s .layout) I (dirtyWord s (w .main)) (w .main) p) ≡ n
-      → length (ops p) ≡ n + 4 + spanCount (s .layout) w
-  length-copied p n e h =
-      let B : Ops = backupOps (s .layout) I (dirtyWord s (w .main)) (w .main) p in
-      rw (copy-phases, e) (omega (
-        arith,
-        h,
-        length-span,
-        length-append ((B ++ sfence ∷ []) ++ statePhase I (w .main)) (spanOps (s .layout) I w),
-        length-append (B ++ sfence ∷ []) (statePhase I (w .main)),
-        length-append B (sfence ∷ []),
-      ))
-
-  -- by the plan: nothing is copied; the dirty blocks to the backup segment that it has; the whole segment to a new one
-  abbrev pub planCount : Plan → ℕ
-  planCount NoCopy = 0
-  planCount (OwnBackup j) = 36 * dirtyCount (dirtyWord s (w .main)) (s .layout .blocks) + 4
-  planCount (NewBackup j) = 36 * s .layout .blocks + 6
-  planCount NoneFree = 0
-
-  length-plan : (p : Plan) → length (ops p) ≡ planCount p + spanCount (s .layout) w
-  unfolding copyOnWriteOps backupOps copyDirty persistCopy pairOps
-  length-plan NoCopy = omega (arith, length-span)
-  length-plan (OwnBackup j) =
-      length-copied (OwnBackup j) (36 * dirtyCount (dirtyWord s (w .main)) (s .layout .blocks)) refl
-      (length-dirty (dirtyWord s (w .main)) (s .layout .blocks) 36 _ (λ b. length-put-block _ _))
-  length-plan (NewBackup j) =
-      length-copied (NewBackup j) (2 + 36 * s .layout .blocks) refl
-      (omega (arith, length-copy-segment (s .layout) I (mainAt (s .layout) (w .main)) (backupAt (s .layout) j)))
-      ∙ omega arith
-  length-plan NoneFree = omega (arith, length-span)
-
-  pub length-write : (j : ℕ) → length (writeOps s I w j) ≡ planCount (copyPlan s I (w .main) j) + spanCount (s .layout) w
+  pub length-write : (j : ℕ) → length (writeOps s I w j) ≡ copyCount (s .layout) (dirtyWord s (w .main)) (copyPlan s I (w .main) j) + spanCount (s .layout) w
   unfolding writeOps
-  length-write j = length-plan (copyPlan s I (w .main) j)
+  length-write j =
+      length-append (copyOnWriteOps (s .layout) I (dirtyWord s (w .main)) (w .main) (copyPlan s I (w .main) j)) (spanOps (s .layout) I w)
+      ∙ ap₂ _+_ (length-copy (s .layout) I (dirtyWord s (w .main)) (w .main) (copyPlan s I (w .main) j)) length-span
 
   -- the choice of a new backup segment changes neither the number of operations nor the status
   abbrev planBy : ℕ → Bool → Bool → Bool → Plan
