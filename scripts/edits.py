@@ -60,6 +60,9 @@ def shown(log):
     name = re.search(r"error(?:\[[^]]*\])?: `([^`]+)`", head)
     words = next((line for line in block for shows in SHOWS if shows in line), None) or next((line for line in block if BOTH.search(line)), None)
     shows = words is not None and not any(hides in line for line in block[:1] + [words] for hides in HIDES)
+    computed = next((i for i, line in enumerate(block) if line.startswith("  computed as far as they go, the two types ")), None)
+    if shows and computed is not None:
+        words = " ".join(line.strip() for line in block[computed:computed + 2] if line is block[computed] or "(found)" in line[-8:])
     words = words or head
     words = re.sub(r"^.*?error(?:\[[^]]*\])?: (?:`[^`]+`: )?", "", words).strip()
     where = " ".join(filter(None, [place.group(1) if place else "", "`%s`" % name.group(1) if name else ""]))
