@@ -1,20 +1,19 @@
 -- Single rules of document 01, each on an instance that is small enough to be computed: closed numbers, a container of one
 -- main segment, one backup segment and one block, an image of a few hundred bytes. They need the definitions alone, and no
--- law rests on them. The checker takes modules by name, this one first: a definition that departs from its rule is refused
--- here, with the two sides that then differ.
-use Prim.Native.Nat.{ℕ, zero, suc, _+_, _*_, _/_, _≤_, _<_}
+-- law rests on them. The checker takes modules by name, this one before all laws: a definition that departs from its rule is
+-- refused here, with the two sides that then differ.
+use Prim.Native.Nat.{ℕ, suc, _+_, _*_, _/_, _≤_}
 use mathlib.Core.Path.{_≡_, refl, sym, ap, _∙_}
 use mathlib.Core.Logic.{⊎-elim}
-use mathlib.Core.Bool.{true, false}
+use mathlib.Core.Bool.{true}
 use mathlib.Core.List.{[], _∷_, _++_}
 use native.Mathlib.Omega.{arith}
 use lib.ListN.{length, take, drop, replicate, length-append, List·getD-append}
 use Rattle.model.specs.declared.Layout.{Layout}
-use Rattle.model.specs.declared.Session.{Session}
 use Rattle.model.specs.declared.Plan.the-variants.{OwnBackup, NoneFree}
 use Rattle.model.specs.Range.{cat, allB, anyB}
 use Rattle.model.specs.Words.{Image, littleEndian, wordOf, wordAt, bytesOf}
-use Rattle.model.specs.Layout.{lineSize, most, unpaired, ssMain, layoutOf, inRange, sizesOk, imageSize, stateLine, epochAt}
+use Rattle.model.specs.Layout.{lineSize, unpaired, ssMain, layoutOf, inRange, sizesOk, imageSize, stateLine, epochAt}
 use Rattle.model.specs.Status.{firstError}
 use Rattle.model.specs.Container.{committedEpoch, activeLine, inactiveLine, isPaired, validMetadata, isFree, anyFree, byState, headerOk}
 use Rattle.model.specs.Session.{bit, setBit, setBits, dirtyWord, dirtySegment, freshSession, zeroSession, withDirty, withCheckpoint, validSession}
@@ -99,7 +98,7 @@ pub state-after-copy : (I : Image)
 unfolding copyOnWriteOps backupOps copyDirty stateOps persistCopy putBlock stores clwbs cat bit
 state-after-copy I = refl
 
--- a checkpoint of one whose blocks are all clean, after its first fence and the 8 stores of states: written back, a fence, the epoch
+-- a checkpoint with no dirty block, after its first fence and the 8 stores of states: written back, a fence, the epoch
 -- stored and written back, a fence; so the epoch does not arrive before the states
 pub epoch-after-states : (I : Image)
     → drop 9 (checkpointOps (freshSession small) I) ≡ clwb (inactiveLine I) ∷ sfence ∷ store epochAt (suc (committedEpoch I)) ∷ clwb epochAt ∷ sfence ∷ []
