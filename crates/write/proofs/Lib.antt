@@ -1,4 +1,1 @@
-pub mod SpanLaws
-pub mod PlanLaws
-pub mod CopyLaws
 pub mod OutcomeLaws

@@ -19,7 +19,7 @@ use Rattle.model.specs.Status.{codeOf, firstError, served}
 use Rattle.model.specs.Container.{activeState, backupToMain, isPaired, pairedBackup, anyFree, Free}
 use Rattle.model.specs.Session.{dirtyWord, withDirty}
 use Rattle.model.specs.Ops.{Ops, Trace, traceShort}
-use Rattle.model.specs.Write.{WriteArgs, needsCopy, needsBackup, copies, noneFree, copyPlan, copyOnWriteOps, spanAt, spanWords, spanBlocks, spanOps, writeOps, writeSession, writeStatus, writeOutcome, Chosen, spanStores}
+use Rattle.model.specs.Write.{WriteArgs, needsCopy, needsBackup, copies, noneFree, copyPlan, copyOnWriteOps, spanAt, spanWords, spanBlocks, spanStores, spanOps, writeOps, writeSession, earlyErrors, lateErrors, writeStatus, writeOutcome, Chosen}
 use Rattle.model.proofs.Laws.Layout.{image-lines, metadata-inside, segment-in-image}
 use Rattle.model.proofs.Laws.Status.{served-cons, served-condition, after-served, stage-refused}
 use Rattle.model.proofs.Laws.Container.{container-then}
@@ -30,14 +30,15 @@ use Rattle.trace.proofs.EmitLaws.{fits-as, emitted-as}
 use Rattle.trace.proofs.CallLaws.{gives-refused, gives-served}
 use Rattle.session.proofs.Laws.{words-within}
 use Rattle.metadata.proofs.Laws.{image-bound}
-use Rattle.write.specs.Steps.{Writes, earlyErrors, lateErrors, ReadySpan, CopiesTo, Planned}
+use Rattle.copy.specs.Steps.{CopiesTo, Planned}
+use Rattle.write.specs.Steps.{Writes, SpanWritable}
 
 -- ---- refusals 1 to 8
 
 -- what they leave, where the code found none of them
-pub ready : (s : Session) (I : Image) (w : WriteArgs) (n : ℕ) → n ≡ firstError (earlyErrors s I w) → served n ≡ true → ReadySpan s I w
+pub writable : (s : Session) (I : Image) (w : WriteArgs) (n : ℕ) → n ≡ firstError (earlyErrors s I w) → served n ≡ true → SpanWritable s I w
 unfolding imageSize
-ready s I w n e q =
+writable s I w n e q =
     let h = sym e ∙ eqb-true n 0 q in
     let c = container-then (s .layout) I _ h .0 in
     let r = served-condition (earlyErrors s I w) (omega arith) h in
@@ -75,7 +76,7 @@ module _ (s : Session) (I : Image) (w : WriteArgs) (t : Trace) where
       let n : writeStatus s I w 0 t ≢ 0 = (λ z. eqb-false _ _ r (x ∙ z)) in
       (0, λ z. absurd (n z), gives-refused _ s _ _ t a h x r refl)
 
-  module _ (p : Plan) (at : ℕ) (ok : ReadySpan s I w) (plan : Planned (s .layout) (s .«dirty_segments») I (w .main) p) (place : at ≡ spanAt (s .layout) w) where
+  module _ (p : Plan) (at : ℕ) (ok : SpanWritable s I w) (plan : Planned (s .layout) (s .«dirty_segments») I (w .main) p) (place : at ≡ spanAt (s .layout) w) where
     -- the operations of the write, as the code writes them
     abbrev pub ops : Ops
     ops = copyOnWriteOps (s .layout) I (dirtyWord s (w .main)) (w .main) p ++ spanStores I at (w .bytes)

@@ -1,0 +1,32 @@
+use native.Mathlib.Omega.{arith}
+use borrow.Author.Needs.{needs}
+use Rattle.model.specs.Write.{pairOps}
+use Rattle.trace.proofs.EmitLaws.{fits-first, fits-then, emitted-then}
+use Rattle.copy.proofs.put_pair.Statement.{statement}
+use Rattle.copy.proofs.put_pair.Tie as tie
+
+add-pair : tie.Need-add-pair
+add-pair c = search needs
+
+cast-put-byte : tie.Need-cast-put-byte
+cast-put-byte c = search needs
+
+put-byte-requires : tie.Need-put-byte-requires
+unfolding pairOps
+put-byte-requires c κs = (omega arith, fits-first _ (c .before .before .before .pre .1))
+
+put-clwb-requires : tie.Need-put-clwb-requires
+unfolding pairOps
+put-clwb-requires c κs = fits-then (c .before .before .before .before .before .before .before .pre .1) (c .before .before .before .put-byte .ensures)
+
+same-length : tie.Need-same-length
+same-length c = search needs
+
+returns : tie.Need-returns
+unfolding pairOps
+returns c = emitted-then (c .before .before .before .before .before .before .put-byte .ensures) (c .before .before .put-clwb .ensures)
+
+pub put-pair-spec : {M : Type 1} → statement M
+put-pair-spec =
+    tie.close
+    (tie.spec add-pair cast-put-byte put-byte-requires put-clwb-requires same-length returns)

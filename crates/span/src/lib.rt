@@ -1,0 +1,170 @@
+// The span of a write (document 01: level, frame, offset and bytes): its limits, its place, the words and blocks that it
+// meets, and the stores of its bytes, laid over what stands in the image. Every function `put_..` writes its operations from
+// number n on and answers the number of the next one.
+use model::Layout;
+ghost use mathlib.Core.Path.{_≡_};
+ghost use mathlib.Core.List.{List, [], _∷_};
+ghost use Prim.Native.Nat.{ℕ, _+_, _-_, _*_, _/_, _%_, _^_, _≤_, _<_};
+ghost use lib.ListN.{length};
+ghost use Rattle.model.specs.Words.{byteAt, wordOf, overlay};
+ghost use Rattle.model.specs.Layout.{most, lineSize, wordSize, blockSize, largestImage, mainAt};
+ghost use Rattle.model.specs.Ops.{storeByte, wordPlace};
+ghost use Rattle.model.specs.Write.{spanWords, spanBad, spanStores};
+ghost use Rattle.trace.specs.Emit.{Fits, Emitted};
+ghost use Rattle.span.specs.Steps.{argsOf, wordStores};
+
+// Bytes of a word, as indexes count them.
+const WORD_SIZE: usize = Layout::WORD_SIZE as usize;
+
+// The bytes that a write is about: a main segment, a block of it, the offset in the block, and how many.
+pub struct Span {
+    pub main: u64,
+    pub block: u64,
+    pub offset: u64,
+    pub len: usize,
+}
+
+// ---- bytes laid over an image
+
+// Byte i of the image with the bytes laid over it from a place on.
+fn overlaid(image: &[u8], at: usize, bytes: &[u8], i: usize) -> u8
+    requires { ⌜ i < length (now image) ⌝ }
+    ensures { λ r. ⌜ r ≡ overlay (byteAt (now (image .entry))) at (now (bytes .entry)) i ⌝ }
+{
+    if i < at {
+        return image[i];
+    }
+    let j = i - at;
+    if j < bytes.len() {
+        return bytes[j];
+    }
+    image[i]
+}
+
+// The word at a place of the image with the bytes laid over it.
+fn overlaid_word(image: &[u8], at: usize, bytes: &[u8], place: usize) -> u64
+    requires { ⌜ place + wordSize ≤ length (now image) ⌝ }
+    ensures { λ r. ⌜ r ≡ wordOf (overlay (byteAt (now (image .entry))) at (now (bytes .entry))) place ⌝ }
+{
+    words::join(
+        overlaid(image, at, bytes, place),
+        overlaid(image, at, bytes, place + 1),
+        overlaid(image, at, bytes, place + 2),
+        overlaid(image, at, bytes, place + 3),
+        overlaid(image, at, bytes, place + 4),
+        overlaid(image, at, bytes, place + 5),
+        overlaid(image, at, bytes, place + 6),
+        overlaid(image, at, bytes, place + 7),
+    )
+}
+
+// The same, where a word that lies whole among the bytes is read from them.
+fn span_word(image: &[u8], at: usize, bytes: &[u8], place: usize) -> u64
+    requires { ⌜ place + wordSize ≤ length (now image) ⌝ }
+    ensures { λ r. ⌜ r ≡ wordOf (overlay (byteAt (now (image .entry))) at (now (bytes .entry))) place ⌝ }
+{
+    if at <= place {
+        let from = place - at;
+        if from + WORD_SIZE <= bytes.len() {
+            return words::word_at(bytes, from);
+        }
+    }
+    overlaid_word(image, at, bytes, place)
+}
+
+// ---- limits and place
+
+// Whether a span is empty or leaves its block (refusal 8).
+pub fn span_bad(layout: Layout, span: Span) -> bool
+    ensures { λ r. ⌜ ((bytes : List ℕ) → length bytes ≡ span .len → r ≡ spanBad layout (argsOf span bytes)) ⌝ }
+{
+    if span.len == 0 {
+        return true;
+    }
+    if Layout::BLOCK_SIZE < span.offset {
+        return true;
+    }
+    Layout::BLOCK_SIZE - span.offset < span.len as u64
+}
+
+// Where a span starts in the image.
+pub fn span_at(layout: Layout, span: Span) -> usize
+    requires { ⌜ (span .main < most) × (layout .blocks ≤ most) × (span .block < layout .blocks) × (span .offset ≤ blockSize) ⌝ }
+    ensures { λ r. ⌜ r ≡ mainAt layout (span .main) + (blockSize * span .block + span .offset) ⌝ }
+{
+    metadata::main_at(layout, span.main) + (Layout::BLOCK_SIZE * span.block + span.offset) as usize
+}
+
+// How many words bytes at a place meet.
+pub fn span_words(at: usize, len: usize) -> usize
+    requires { ⌜ (1 ≤ len) × (at + len ≤ 2 ^ 32) ⌝ }
+    ensures { λ r. ⌜ r ≡ spanWords at len ⌝ }
+{
+    (at + len - 1) / WORD_SIZE - at / WORD_SIZE + 1
+}
+
+// How many blocks a span meets.
+pub fn span_blocks(span: Span) -> u64
+    requires { ⌜ (1 ≤ span .len) × (span .offset + span .len ≤ 2 ^ 32) ⌝ }
+    ensures { λ r. ⌜ r ≡ (span .offset + span .len - 1) / blockSize + 1 ⌝ }
+{
+    (span.offset + span.len as u64 - 1) / Layout::BLOCK_SIZE + 1
+}
+
+// ---- stores
+
+// Stores one byte in its word.
+pub fn put_byte(image: &[u8], at: usize, byte: u8, trace: &mut [u64], n: usize) -> usize
+    requires { ⌜ wordPlace at + wordSize ≤ length (now image) ⌝ }
+    requires { ⌜ Fits (now trace) n (storeByte (now image) at byte ∷ []) ⌝ }
+    ensures { λ r. ⌜ Emitted (now (trace .entry)) n (storeByte (now (image .entry)) at byte ∷ []) (now (trace .exit)) r ⌝ }
+{
+    let place = WORD_SIZE * (at / WORD_SIZE);
+    let one = [byte];
+    let word = overlaid_word(image, at, &one, place);
+    trace::put_store(trace, n, place as u64, word)
+}
+
+// Stores bytes that are whole words from a place on, upward; they are not written back.
+fn put_words(at: usize, bytes: &[u8], trace: &mut [u64], n: usize) -> usize
+    requires { ⌜ at + length (now bytes) ≤ 2 ^ 32 ⌝ }
+    requires { ⌜ Fits (now trace) n (wordStores at (now bytes)) ⌝ }
+    ensures { λ r. ⌜ Emitted (now (trace .entry)) n (wordStores at (now (bytes .entry))) (now (trace .exit)) r ⌝ }
+{
+    let count = bytes.len() / WORD_SIZE;
+    let mut next = n;
+    let mut k: usize = 0;
+    while k < count {
+        let from = WORD_SIZE * k;
+        next = trace::put_store(trace, next, (at + from) as u64, words::word_at(bytes, from));
+        k += 1;
+    }
+    next
+}
+
+// Stores the words that bytes at a place meet, upward, with the bytes laid over what stands there; they are not written back.
+pub fn put_span(image: &[u8], at: usize, bytes: &[u8], trace: &mut [u64], n: usize) -> usize
+    requires { ⌜ (1 ≤ length (now bytes)) × (at + length (now bytes) ≤ length (now image)) ⌝ }
+    requires { ⌜ (length (now image) % lineSize ≡ 0) × (length (now image) ≤ largestImage) ⌝ }
+    requires { ⌜ Fits (now trace) n (spanStores (now image) at (now bytes)) ⌝ }
+    ensures { λ r. ⌜ Emitted (now (trace .entry)) n (spanStores (now (image .entry)) at (now (bytes .entry))) (now (trace .exit)) r ⌝ }
+{
+    if (at % WORD_SIZE == 0) & (bytes.len() % WORD_SIZE == 0) {
+        return put_words(at, bytes, trace, n);
+    }
+    let count = span_words(at, bytes.len());
+    let start = WORD_SIZE * (at / WORD_SIZE);
+    let mut next = n;
+    let mut k: usize = 0;
+    while k < count {
+        let place = start + WORD_SIZE * k;
+        next = trace::put_store(
+            trace,
+            next,
+            place as u64,
+            span_word(image, at, bytes, place),
+        );
+        k += 1;
+    }
+    next
+}
