@@ -19,7 +19,7 @@ use Rattle.model.specs.Outcome.{Gives}
 use Rattle.model.specs.Write.{WriteArgs, copyPlan, spanErrors, backupErrors, writeOutcome, Chosen}
 use Rattle.metadata.specs.declared.Found.{Found}
 use Rattle.metadata.specs.declared.Found.the-variants.{Missing, Backup}
-use Rattle.metadata.specs.Scan.{freeBackup}
+use Rattle.metadata.specs.Find.{freeBackup}
 use Rattle.session.specs.Parts.{sessionOf}
 
 -- what a write answers, for some backup segment that it may take

@@ -114,7 +114,7 @@ pub fn span_at(layout: Layout, main: u64, block: u64, offset: u64) -> usize
     requires { ⌜ (main < most) × (layout .blocks ≤ most) × (block < layout .blocks) × (offset ≤ blockSize) ⌝ }
     ensures { λ r. ⌜ r ≡ mainAt layout main + (blockSize * block + offset) ⌝ }
 {
-    metadata::main_at(layout, main) + (Layout::BLOCK_SIZE * block + offset) as usize
+    places::main_at(layout, main) + (Layout::BLOCK_SIZE * block + offset) as usize
 }
 
 // Stores bytes that are whole words from a place on, upward; they are not written back.
@@ -272,15 +272,15 @@ pub fn put_backup(
     requires { ⌜ Fits (now trace) n (backupOps layout (now image) word main plan) ⌝ }
     ensures { λ r. ⌜ Emitted (now (trace .entry)) n (backupOps layout (now (image .entry)) word main plan) (now (trace .exit)) r ⌝ }
 {
-    let from = metadata::main_at(layout, main);
+    let from = places::main_at(layout, main);
     match plan {
         Plan::NoCopy => n,
         Plan::OwnBackup(j) => {
-            let to = metadata::backup_at(layout, j);
+            let to = places::backup_at(layout, j);
             segments::put_dirty_copies(image, layout.blocks, word, from, to, trace, n)
         }
         Plan::NewBackup(j) => {
-            let to = metadata::backup_at(layout, j);
+            let to = places::backup_at(layout, j);
             let next = put_pair(image, main, j, trace, n);
             segments::put_segment_copy(image, layout, from, to, trace, next)
         }
