@@ -237,12 +237,12 @@ fn p1() {
     let mut shorter = [7u8; IMAGE - 1];
     let mut fitting = [7u8; IMAGE];
     let mut longer = [7u8; IMAGE + 1];
-    let image = metadata::image_size(Layout {
+    let image = places::image_size(Layout {
         mains: MAINS,
         backups: BACKUPS,
         blocks: BLOCKS,
     });
-    let largest = metadata::image_size(Layout {
+    let largest = places::image_size(Layout {
         mains: 64,
         backups: 64,
         blocks: 64,

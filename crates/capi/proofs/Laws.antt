@@ -26,7 +26,7 @@ use Rattle.model.specs.Replay.{replayOutcome}
 use Rattle.model.specs.Reads.{Part, noPart, readStatus, workingPart, checkpointPart}
 use Rattle.write.specs.Steps.{Writes}
 use Rattle.reads.specs.declared.Part as code
-use Rattle.reads.specs.Found.{Found}
+use Rattle.reads.specs.Answered.{Answered}
 use Rattle.capi.specs.Interface.{Words, wordsOf, sessionOf, outSized, bothSized, Returned, answered, misused, returned, openReturned, writeReturned, checkpointReturned, Returns, WriteReturns, told, Tells, replayImage, workingTold, checkpointTold}
 
 -- ---- a session and its words
@@ -199,14 +199,14 @@ module _ (l : Layout) (I : Image) (i b : ℕ) where
 -- so the number of a part that is found is told, in a layout that is made of the sizes
 module _ (l : Layout) (I : Image) (i b : ℕ) (out : Words) (x : Layout) (r : x ≡ l) (e : length out ≡ 2)
     (part : code.Part) (number : ℕ) (out′ : Words) (n : number ≡ readStatus x I i b) (p : out′ ≡ part .start ∷ part .size ∷ []) where
-  tells : (y : Part) → Found I y part → Tells (told out (readStatus x I i b) (y .start) (y .size)) number out′
+  tells : (y : Part) → Answered I y part → Tells (told out (readStatus x I i b) (y .start) (y .size)) number out′
   tells y f =
       tells-told out (readStatus x I i b) (y .start) (y .size) number out′ e n (p ∙ ap₂ (λ (k m : ℕ). k ∷ m ∷ []) (f .start) (f .size))
 
-  pub working-tells : Found I (workingPart x I i b) part → Tells (workingTold l I i b out) number out′
+  pub working-tells : Answered I (workingPart x I i b) part → Tells (workingTold l I i b out) number out′
   working-tells f = subst (λ (y : Layout). Tells (workingTold y I i b out) number out′) r (tells (workingPart x I i b) f)
 
-  pub checkpoint-tells : Found I (checkpointPart x I i b) part → Tells (checkpointTold l I i b out) number out′
+  pub checkpoint-tells : Answered I (checkpointPart x I i b) part → Tells (checkpointTold l I i b out) number out′
   checkpoint-tells f = subst (λ (y : Layout). Tells (checkpointTold y I i b out) number out′) r (tells (checkpointPart x I i b) f)
 
 -- ---- refusals

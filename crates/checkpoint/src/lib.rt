@@ -61,7 +61,7 @@ fn put_flushes(
     let mut next = n;
     let mut i = 0;
     while i < mains {
-        let at = metadata::main_at(layout, i);
+        let at = places::main_at(layout, i);
         next = segments::put_dirty_clwbs(layout.blocks, words[i as usize], at, trace, next);
         i += 1;
     }

@@ -15,8 +15,8 @@ use Rattle.model.specs.Write.{needsCopy, copyPlan}
 use Rattle.model.proofs.Laws.Container.{any-free}
 use Rattle.session.specs.Parts.{sessionOf}
 use Rattle.metadata.specs.declared.Found.the-variants.{Missing, Backup}
-use Rattle.metadata.specs.Scan.{freeBackup, foundBelow}
-use Rattle.metadata.proofs.Laws.{is-paired, found-backup, found-missing, free-is-free, free-none}
+use Rattle.metadata.specs.Find.{freeBackup, foundBelow}
+use Rattle.metadata.proofs.FindLaws.{is-paired, found-backup, found-missing, free-is-free, free-none}
 use Rattle.copy.specs.Steps.{Planned}
 
 module _ (l : Layout) (segments : ℕ) (I : Image) (i : ℕ) where

@@ -11,7 +11,7 @@ use Rattle.model.specs.Words.{Image}
 use Rattle.model.specs.Layout.{most, lineSize, metadataSize, largestImage, segmentSize, mainAt}
 use Rattle.model.specs.Container.{activeState, backupToMain, Valid, Free}
 use Rattle.model.specs.Write.{copyPlan}
-use Rattle.metadata.specs.Scan.{freeBackup}
+use Rattle.metadata.specs.Find.{freeBackup}
 use Rattle.session.specs.Parts.{sessionOf}
 
 -- main segment i of the layout may be written to: the sizes, the image and the segment are as refusals 1 to 6 leave them

@@ -127,15 +127,15 @@ fn put_backup(image: &[u8], segment: Segment, plan: Plan, trace: &mut [u64], n: 
     ensures { λ r. ⌜ Emitted (now (trace .entry)) n (backupOps (segment .layout) (now (image .entry)) (segment .word) (segment .main) plan) (now (trace .exit)) r ⌝ }
 {
     let layout = segment.layout;
-    let from = metadata::main_at(layout, segment.main);
+    let from = places::main_at(layout, segment.main);
     match plan {
         Plan::NoCopy => n,
         Plan::OwnBackup(j) => {
-            let to = metadata::backup_at(layout, j);
+            let to = places::backup_at(layout, j);
             segments::put_dirty_copies(image, layout.blocks, segment.word, from, to, trace, n)
         }
         Plan::NewBackup(j) => {
-            let to = metadata::backup_at(layout, j);
+            let to = places::backup_at(layout, j);
             let next = put_pair(image, segment.main, j, trace, n);
             segments::put_segment_copy(image, layout, from, to, trace, next)
         }

@@ -38,7 +38,7 @@ pub fn crpm_format(image: &mut [u8], mains: u64, backups: u64, blocks: u64) -> S
     ensures { λ _. ⌜ now (image .exit) ≡ formatOutcome (layoutOf mains backups blocks) (now (image .entry)) .image ⌝ }
 {
     let layout = Layout::new(mains, backups, blocks);
-    let status = metadata::size_status(image, layout);
+    let status = places::size_status(image, layout);
     if !status.is_served() {
         return status;
     }

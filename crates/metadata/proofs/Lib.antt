@@ -1,1 +1,3 @@
-pub mod Laws
+pub mod FirstLaws
+pub mod FindLaws
+pub mod LocatedLaws

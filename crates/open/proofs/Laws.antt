@@ -22,9 +22,9 @@ use Rattle.model.specs.Session.{freshSession, zeroSession}
 use Rattle.model.specs.Outcome.{Outcome, outcomeOf, Gives}
 use Rattle.model.proofs.Laws.Container.{paired-at, valid-means}
 use Rattle.model.proofs.Laws.Status.{first-holds, first-fails, first-of-none, stage-refused, stage-passed}
-use Rattle.metadata.specs.declared.Examined.{Examined}
-use Rattle.metadata.specs.Scan.{entryOf, ExaminedBy}
-use Rattle.metadata.proofs.Laws.{entry-some, slot-found}
+use Rattle.container.specs.declared.Examined.{Examined}
+use Rattle.container.specs.Scan.{entryOf, ExaminedBy}
+use Rattle.container.proofs.ScanLaws.{entry-some, slot-found}
 use Rattle.open.specs.Recovery.{ValidBy, takesBackup, BackupsOf, recoveryErrors, recoveryOutcome}
 
 -- ---- the table

@@ -15,7 +15,7 @@ use Rattle.model.specs.Session.{freshSession, zeroSession}
 use Rattle.model.specs.Ops.{Trace, traceErrors}
 use Rattle.model.specs.Open.{recoveryOps}
 use Rattle.model.specs.Outcome.{Outcome, outcomeOf}
-use Rattle.metadata.specs.Scan.{entryOf}
+use Rattle.container.specs.Scan.{entryOf}
 
 -- what recovery goes by: an image of the layout's size, and a line of states that is valid with the pairs
 pub record ValidBy (l : Layout) (I : Image) (line : ℕ) : Type 0 where

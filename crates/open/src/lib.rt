@@ -1,6 +1,6 @@
 // Opening, which recovers (document 01: opening): each main segment is treated by the table of states and pairs, so that its
 // bytes are the checkpoint again. What recovery does is given a line of states; an opening goes by the active one.
-use metadata::SLOTS;
+use container::SLOTS;
 use model::Action;
 use model::Answer;
 use model::Layout;
@@ -81,18 +81,18 @@ fn put_action(
         Action::Nothing => n,
         Action::ZeroMain => segments::put_segment_zero(
             layout,
-            metadata::main_at(layout, i),
+            places::main_at(layout, i),
             trace,
             n,
         ),
         Action::CopyToBackup => {
-            let from = metadata::main_at(layout, i);
-            let to = metadata::backup_at(layout, j);
+            let from = places::main_at(layout, i);
+            let to = places::backup_at(layout, j);
             segments::put_segment_copy(image, layout, from, to, trace, n)
         }
         Action::CopyToMain => {
-            let from = metadata::backup_at(layout, j);
-            let to = metadata::main_at(layout, i);
+            let from = places::backup_at(layout, j);
+            let to = places::main_at(layout, i);
             segments::put_segment_copy(image, layout, from, to, trace, n)
         }
     }
@@ -180,7 +180,7 @@ fn recover(image: &[u8], layout: Layout, line: usize, trace: &mut [u64]) -> Answ
     requires { ⌜ SizesOk layout × (length (now image) ≡ imageSize layout) × (line + most ≤ length (now image)) ⌝ }
     ensures { λ r. ⌜ Gives (recoveryOutcome layout (now (image .entry)) line (now (trace .entry))) (now (trace .entry)) r (now (trace .exit)) ⌝ }
 {
-    let found = metadata::examine(image, layout, line);
+    let found = container::examine(image, layout, line);
     if !found.valid {
         return refused(Status::Invalid);
     }
@@ -199,7 +199,7 @@ pub fn crpm_open(image: &[u8], mains: u64, backups: u64, blocks: u64, trace: &mu
     ensures { λ r. ⌜ Gives (openOutcome (layoutOf mains backups blocks) (now (image .entry)) (now (trace .entry))) (now (trace .entry)) r (now (trace .exit)) ⌝ }
 {
     let layout = Layout::new(mains, backups, blocks);
-    let status = metadata::layout_status(image, layout);
+    let status = places::layout_status(image, layout);
     if !status.is_served() {
         return refused(status);
     }

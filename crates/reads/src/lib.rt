@@ -5,10 +5,10 @@ use model::Located;
 use model::Status;
 ghost use mathlib.Core.Path.{_≡_};
 ghost use Prim.Native.Nat.{_+_, _*_, _≤_, _<_};
-ghost use Rattle.model.specs.Layout.{layoutOf};
+ghost use Rattle.model.specs.Layout.{blockSize, most, largestImage, layoutOf};
 ghost use Rattle.model.specs.Status.{codeOf};
 ghost use Rattle.model.specs.Reads.{readStatus, workingPart, checkpointPart, workingBlock, checkpointBlock};
-ghost use Rattle.reads.specs.Found.{Found};
+ghost use Rattle.reads.specs.Answered.{Answered};
 
 // A part of an image: where it starts and how many bytes it has.
 pub struct Part {
@@ -18,16 +18,16 @@ pub struct Part {
 
 impl Part {
     // The part of length 0, for a refusal or a segment in state 0.
-    pub fn nowhere() -> Part
+    fn empty() -> Part
         ensures { λ r. ⌜ (r .start ≡ 0) × (r .size ≡ 0) ⌝ }
     {
         Part { start: 0, size: 0 }
     }
 
     // A block of the segment that starts at a place.
-    pub fn of_block(at: u64, block: u64) -> Part
-        requires { ⌜ (at ≤ 2097664) × (block < 64) ⌝ }
-        ensures { λ r. ⌜ (r .start ≡ at + 256 * block) × (r .size ≡ 256) ⌝ }
+    fn of_block(at: u64, block: u64) -> Part
+        requires { ⌜ (at ≤ largestImage) × (block < most) ⌝ }
+        ensures { λ r. ⌜ (r .start ≡ at + blockSize * block) × (r .size ≡ blockSize) ⌝ }
     {
         Part {
             start: at + Layout::BLOCK_SIZE * block,
@@ -40,39 +40,33 @@ impl Part {
 pub fn read_status(image: &[u8], layout: Layout, main: u64, block: u64) -> Status
     ensures { λ r. ⌜ codeOf r ≡ readStatus layout (now (image .entry)) main block ⌝ }
 {
-    let status = metadata::container_status(image, layout);
+    let status = container::container_status(image, layout);
     if !status.is_served() {
         return status;
     }
-    if layout.mains <= main {
-        return Status::NoSuchMain;
-    }
-    if layout.blocks <= block {
-        return Status::NoSuchBlock;
-    }
-    Status::Served
+    places::place_status(layout, main, block)
 }
 
 // The part of the image that holds a block of a main segment.
 pub fn working_part(image: &[u8], layout: Layout, main: u64, block: u64) -> Part
-    ensures { λ r. ⌜ Found (now (image .entry)) (workingPart layout (now (image .entry)) main block) r ⌝ }
+    ensures { λ r. ⌜ Answered (now (image .entry)) (workingPart layout (now (image .entry)) main block) r ⌝ }
 {
     if !read_status(image, layout, main, block).is_served() {
-        return Part::nowhere();
+        return Part::empty();
     }
-    Part::of_block(metadata::main_at(layout, main) as u64, block)
+    Part::of_block(places::main_at(layout, main) as u64, block)
 }
 
 // The part of the image that holds a block of the checkpoint, which stands where the active line of states says.
 pub fn checkpoint_part(image: &[u8], layout: Layout, main: u64, block: u64) -> Part
-    ensures { λ r. ⌜ Found (now (image .entry)) (checkpointPart layout (now (image .entry)) main block) r ⌝ }
+    ensures { λ r. ⌜ Answered (now (image .entry)) (checkpointPart layout (now (image .entry)) main block) r ⌝ }
 {
     if !read_status(image, layout, main, block).is_served() {
-        return Part::nowhere();
+        return Part::empty();
     }
     let located = metadata::checkpoint_located(image, layout, metadata::active_at(image), main);
     match located {
-        Located::Nowhere => Part::nowhere(),
+        Located::Nowhere => Part::empty(),
         Located::At(at) => Part::of_block(at, block),
     }
 }

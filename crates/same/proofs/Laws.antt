@@ -23,7 +23,7 @@ use Rattle.model.proofs.Laws.Layout.{metadata-inside}
 use Rattle.model.proofs.Laws.Status.{served-parts}
 use Rattle.model.proofs.Laws.Container.{container-ok}
 use Rattle.model.proofs.Argument.Pages.{checkpoint-at}
-use Rattle.metadata.proofs.Laws.{Inside, located-inside}
+use Rattle.metadata.proofs.LocatedLaws.{Inside, located-inside}
 
 -- ---- tests in runs of c
 

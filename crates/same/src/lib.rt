@@ -99,11 +99,11 @@ pub fn same_checkpoint(a: &[u8], b: &[u8], layout: Layout) -> bool
 pub fn same_status(a: &[u8], b: &[u8], layout: Layout) -> Status
     ensures { λ r. ⌜ codeOf r ≡ sameStatus layout (now (a .entry)) (now (b .entry)) ⌝ }
 {
-    let first = metadata::container_status(a, layout);
+    let first = container::container_status(a, layout);
     if !first.is_served() {
         return first;
     }
-    metadata::container_status(b, layout)
+    container::container_status(b, layout)
 }
 
 // Whether two images of these sizes have the same checkpoint; no where either is refused.

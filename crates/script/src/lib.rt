@@ -308,7 +308,7 @@ fn run_good(input: &[u8], out: &mut [u8]) -> usize
 {
     let header = parser::header(input);
     let layout = header.layout;
-    let size = metadata::image_size(layout);
+    let size = places::image_size(layout);
     let mut image = [0u8; IMAGE_SIZE];
     let mut trace = [0u64; TRACE_SIZE];
     run_script(

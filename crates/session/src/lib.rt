@@ -150,7 +150,7 @@ pub fn context_status(
 ) -> Status
     ensures { λ r. ⌜ codeOf r ≡ firstError (contextErrors (sessionOf layout segments (now (words .entry))) (now (image .entry))) ⌝ }
 {
-    let container = metadata::container_status(image, layout);
+    let container = container::container_status(image, layout);
     if !container.is_served() {
         return container;
     }

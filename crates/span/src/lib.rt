@@ -92,7 +92,7 @@ pub fn span_at(layout: Layout, span: Span) -> usize
     requires { ⌜ (span .main < most) × (layout .blocks ≤ most) × (span .block < layout .blocks) × (span .offset ≤ blockSize) ⌝ }
     ensures { λ r. ⌜ r ≡ mainAt layout (span .main) + (blockSize * span .block + span .offset) ⌝ }
 {
-    metadata::main_at(layout, span.main) + (Layout::BLOCK_SIZE * span.block + span.offset) as usize
+    places::main_at(layout, span.main) + (Layout::BLOCK_SIZE * span.block + span.offset) as usize
 }
 
 // How many words bytes at a place meet.

@@ -29,7 +29,7 @@ use Rattle.trace.specs.Emit.{Fits, Emitted}
 use Rattle.trace.proofs.EmitLaws.{fits-as, emitted-as}
 use Rattle.trace.proofs.CallLaws.{gives-refused, gives-served}
 use Rattle.session.proofs.Laws.{words-within}
-use Rattle.metadata.proofs.Laws.{image-bound}
+use Rattle.places.proofs.PlaceLaws.{image-bound}
 use Rattle.copy.specs.Steps.{CopiesTo, Planned}
 use Rattle.write.specs.Steps.{Writes, SpanWritable}
 

@@ -39,7 +39,7 @@ fn early_status(
     if !context.is_served() {
         return context;
     }
-    let place = metadata::place_status(layout, span.main, span.block);
+    let place = places::place_status(layout, span.main, span.block);
     if !place.is_served() {
         return place;
     }

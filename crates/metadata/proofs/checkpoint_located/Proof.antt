@@ -5,7 +5,8 @@ use borrow.Author.Needs.{needs}
 use Rattle.model.specs.declared.Located.the-variants.{At}
 use Rattle.model.specs.Layout.{backupAt}
 use Rattle.model.specs.Container.{segState}
-use Rattle.metadata.proofs.Laws.{located-nowhere, located-main, located-backup, backup-there, found-backup, found-missing}
+use Rattle.metadata.proofs.LocatedLaws.{located-nowhere, located-main, located-backup, backup-there}
+use Rattle.metadata.proofs.FindLaws.{found-backup, found-missing}
 use Rattle.metadata.proofs.checkpoint_located.Statement.{statement}
 use Rattle.metadata.proofs.checkpoint_located.Tie as tie
 

@@ -6,8 +6,8 @@ use borrow.Author.Needs.{needs}
 use Rattle.model.specs.Layout.{stateLine}
 use Rattle.model.specs.Range.{firstB}
 use Rattle.model.specs.Container.{activeLine, activeState, backupToMain, segState}
-use Rattle.metadata.specs.Scan.{foundBelow}
-use Rattle.metadata.proofs.Laws.{found-backup, found-missing, free-alone, free-idle, idle, none-alone}
+use Rattle.metadata.specs.Find.{foundBelow}
+use Rattle.metadata.proofs.FindLaws.{found-backup, found-missing, free-alone, free-idle, idle, none-alone}
 use Rattle.metadata.proofs.find_free_backup.Statement.{statement}
 use Rattle.metadata.proofs.find_free_backup.Tie as tie
 

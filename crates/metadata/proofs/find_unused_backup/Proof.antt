@@ -8,7 +8,8 @@ use borrow.Author.Count.{below-none, below-more}
 use borrow.Author.Needs.{needs}
 use Rattle.model.proofs.Laws.Range.{first-none}
 use Rattle.model.specs.Container.{backupToMain, segState}
-use Rattle.metadata.proofs.Laws.{first-found, found-at, found-none}
+use Rattle.metadata.proofs.FirstLaws.{first-found}
+use Rattle.metadata.proofs.FindLaws.{found-at, found-none}
 use Rattle.metadata.proofs.find_unused_backup.Statement.{statement}
 use Rattle.metadata.proofs.find_unused_backup.Tie as tie
 

@@ -4,7 +4,7 @@ use native.Mathlib.Omega.{arith}
 use borrow.Author.Needs.{needs}
 use Rattle.model.specs.Container.{segState, backupToMain}
 use Rattle.model.specs.Open.{recoveryAction}
-use Rattle.metadata.proofs.Laws.{entry-paired}
+use Rattle.container.proofs.ScanLaws.{entry-paired}
 use Rattle.open.proofs.segment_action.Statement.{statement}
 use Rattle.open.proofs.segment_action.Tie as tie
 

@@ -5,7 +5,7 @@ use borrow.Author.Tests.{not-true, not-false}
 use borrow.Author.Needs.{needs}
 use Rattle.model.specs.declared.Located.the-variants.{Nowhere}
 use Rattle.model.specs.Container.{segState, backupToMain, Valid, checkpointLocated}
-use Rattle.reads.proofs.Laws.{read-judged, readable, located-block, checkpoint-refused, checkpoint-served, found-nowhere, found-block}
+use Rattle.reads.proofs.ReadLaws.{read-judged, readable, located-block, checkpoint-refused, checkpoint-served, answered-none, answered-block}
 use Rattle.reads.proofs.checkpoint_part.Statement.{statement}
 use Rattle.reads.proofs.checkpoint_part.Tie as tie
 
@@ -15,15 +15,15 @@ read-status-requires c κs = search needs
 is-served-requires : tie.Need-is-served-requires
 is-served-requires c κs = search needs
 
-nowhere-requires : tie.Need-nowhere-requires
-nowhere-requires c κs = search needs
+empty-requires : tie.Need-empty-requires
+empty-requires c κs = search needs
 
 returns : tie.Need-returns
 returns c =
     let b = c .before .before in
     let a = b .before .before .before .args in
     let s = read-judged (a .layout) (a .image .now) (a .main) (a .block) _ _ (b .before .read-status .ensures) (b .is-served .ensures) in
-    found-nowhere (a .image .now) _ _ (c .nowhere .ensures) (checkpoint-refused (a .layout) (a .image .now) (a .main) (a .block) (s ∙ not-true _ (c .before .if1 .taken)))
+    answered-none (a .image .now) _ _ (c .empty .ensures) (checkpoint-refused (a .layout) (a .image .now) (a .main) (a .block) (s ∙ not-true _ (c .before .if1 .taken)))
 
 active-at-requires : tie.Need-active-at-requires
 active-at-requires c κs =
@@ -45,8 +45,8 @@ checkpoint-located-requires c κs =
 enum-told : tie.Need-enum-told
 enum-told c = search needs
 
-nowhere-requires-2 : tie.Need-nowhere-requires-2
-nowhere-requires-2 c κs = search needs
+empty-requires-2 : tie.Need-empty-requires-2
+empty-requires-2 c κs = search needs
 
 returns-2 : tie.Need-returns-2
 returns-2 c =
@@ -57,7 +57,7 @@ returns-2 c =
     let s = read-judged (a .layout) (a .image .now) (a .main) (a .block) _ _ (b .before .read-status .ensures) (b .is-served .ensures) in
     let z = s ∙ not-false _ (v .before .if1 .left) in
     let e = sym (c .before .enum-told .given .1) ∙ d .checkpoint-located .ensures ∙ ap (λ (n : ℕ). checkpointLocated (a .layout) (a .image .now) n (a .main)) (v .active-at .ensures .0) in
-    found-nowhere (a .image .now) _ _ (c .nowhere2 .ensures) (checkpoint-served (a .layout) (a .image .now) (a .main) (a .block) Nowhere z e)
+    answered-none (a .image .now) _ _ (c .empty2 .ensures) (checkpoint-served (a .layout) (a .image .now) (a .main) (a .block) Nowhere z e)
 
 enum-known-located : tie.Need-enum-known-located
 enum-known-located c = search needs
@@ -84,7 +84,7 @@ returns-3 c =
     let z = s ∙ not-false _ (v .before .if1 .left) in
     let r = readable (a .layout) (a .image .now) (a .main) (a .block) z in
     let e = sym (c .before .before .located .given .1) ∙ d .checkpoint-located .ensures ∙ ap (λ (n : ℕ). checkpointLocated (a .layout) (a .image .now) n (a .main)) (v .active-at .ensures .0) in
-    found-block (a .image .now) _ _ _ _ (a .block) (c .of-block .ensures) refl (checkpoint-served (a .layout) (a .image .now) (a .main) (a .block) _ z e) (located-block (a .layout) (a .image .now) (a .main) (a .block) r _ e)
+    answered-block (a .image .now) _ _ _ _ (a .block) (c .of-block .ensures) refl (checkpoint-served (a .layout) (a .image .now) (a .main) (a .block) _ z e) (located-block (a .layout) (a .image .now) (a .main) (a .block) r _ e)
 
 pub checkpoint-part-spec : {M : Type 1} → statement M
 checkpoint-part-spec =
@@ -92,12 +92,12 @@ checkpoint-part-spec =
     (tie.spec
     read-status-requires
     is-served-requires
-    nowhere-requires
+    empty-requires
     returns
     active-at-requires
     checkpoint-located-requires
     enum-told
-    nowhere-requires-2
+    empty-requires-2
     enum-known-located
     of-block-requires
     returns-2

@@ -2,7 +2,7 @@ use mathlib.Core.Path.{_∙_}
 use native.Mathlib.Omega.{arith}
 use borrow.Author.Tests.{not-true, not-false}
 use borrow.Author.Needs.{needs}
-use Rattle.reads.proofs.Laws.{read-judged, readable, main-inside, working-refused, working-served, found-nowhere, found-block}
+use Rattle.reads.proofs.ReadLaws.{read-judged, readable, main-inside, working-refused, working-served, answered-none, answered-block}
 use Rattle.reads.proofs.working_part.Statement.{statement}
 use Rattle.reads.proofs.working_part.Tie as tie
 
@@ -12,15 +12,15 @@ read-status-requires c κs = search needs
 is-served-requires : tie.Need-is-served-requires
 is-served-requires c κs = search needs
 
-nowhere-requires : tie.Need-nowhere-requires
-nowhere-requires c κs = search needs
+empty-requires : tie.Need-empty-requires
+empty-requires c κs = search needs
 
 returns : tie.Need-returns
 returns c =
     let b = c .before .before in
     let a = b .before .before .before .args in
     let s = read-judged (a .layout) (a .image .now) (a .main) (a .block) _ _ (b .before .read-status .ensures) (b .is-served .ensures) in
-    found-nowhere (a .image .now) _ _ (c .nowhere .ensures) (working-refused (a .layout) (a .image .now) (a .main) (a .block) (s ∙ not-true _ (c .before .if1 .taken)))
+    answered-none (a .image .now) _ _ (c .empty .ensures) (working-refused (a .layout) (a .image .now) (a .main) (a .block) (s ∙ not-true _ (c .before .if1 .taken)))
 
 main-at-requires : tie.Need-main-at-requires
 main-at-requires c κs =
@@ -45,7 +45,7 @@ returns-2 c =
     let s = read-judged (a .layout) (a .image .now) (a .main) (a .block) _ _ (b .before .read-status .ensures) (b .is-served .ensures) in
     let z = s ∙ not-false _ (c .before .before .if1 .left) in
     let r = readable (a .layout) (a .image .now) (a .main) (a .block) z in
-    found-block (a .image .now) _ _ _ _ (a .block) (c .of-block .ensures) (c .before .main-at .ensures .0) (working-served (a .layout) (a .image .now) (a .main) (a .block) z) (main-inside (a .layout) (a .image .now) (a .main) (a .block) r)
+    answered-block (a .image .now) _ _ _ _ (a .block) (c .of-block .ensures) (c .before .main-at .ensures .0) (working-served (a .layout) (a .image .now) (a .main) (a .block) z) (main-inside (a .layout) (a .image .now) (a .main) (a .block) r)
 
 pub working-part-spec : {M : Type 1} → statement M
 working-part-spec =
@@ -53,7 +53,7 @@ working-part-spec =
     (tie.spec
     read-status-requires
     is-served-requires
-    nowhere-requires
+    empty-requires
     returns
     main-at-requires
     of-block-requires

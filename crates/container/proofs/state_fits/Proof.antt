@@ -1,0 +1,14 @@
+use Rattle.container.specs.Scan.{stateFits}
+use Rattle.container.proofs.state_fits.Statement.{statement}
+use Rattle.container.proofs.state_fits.Tie as tie
+
+returns : tie.Need-returns
+unfolding stateFits
+returns c = rw (c .if1 .taken)
+
+returns-2 : tie.Need-returns-2
+unfolding stateFits
+returns-2 c = rw (c .if1 .left)
+
+pub state-fits-spec : {M : Type 1} → statement M
+state-fits-spec = tie.close (tie.spec returns returns-2)
