@@ -179,9 +179,9 @@ fn checkpoint_status(
 ) -> Status
     ensures { λ r. ⌜ codeOf r ≡ firstError (contextErrors (sessionOf layout segments (now (words .entry))) (now (image .entry)) ++ epochErrors (now (image .entry))) ⌝ }
 {
-    let status = session::context_status(image, layout, segments, words);
-    if !status.is_served() {
-        return status;
+    let context = session::context_status(image, layout, segments, words);
+    if !context.is_served() {
+        return context;
     }
     if words::word_at(image, EPOCH_AT) == LAST_EPOCH {
         return Status::EpochLimit;

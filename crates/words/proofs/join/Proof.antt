@@ -1,3 +1,4 @@
+use native.Mathlib.Omega.{arith}
 use borrow.Author.Needs.{needs}
 use Rattle.model.specs.Words.{wordOf, littleEndian}
 use Rattle.words.proofs.join.Statement.{statement}
@@ -47,7 +48,7 @@ add-result-7 c = search needs
 
 returns : tie.Need-returns
 unfolding wordOf littleEndian
-returns c = search needs
+returns c = omega arith
 
 pub join-spec : {M : Type 1} → statement M
 join-spec =

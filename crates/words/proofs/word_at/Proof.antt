@@ -1,6 +1,7 @@
 use mathlib.Core.Path.{_∙_}
+use native.Mathlib.Omega.{arith}
 use borrow.Author.Needs.{needs}
-use Rattle.words.proofs.Joined.{word-joined}
+use Rattle.words.proofs.WordLaws.{word-joined}
 use Rattle.words.proofs.word_at.Statement.{statement}
 use Rattle.words.proofs.word_at.Tie as tie
 
@@ -47,7 +48,7 @@ add-join-7 : tie.Need-add-join-7
 add-join-7 c = search needs
 
 shared-slice-read-join-8 : tie.Need-shared-slice-read-join-8
-shared-slice-read-join-8 c = search needs
+shared-slice-read-join-8 c = omega arith
 
 join-requires : tie.Need-join-requires
 join-requires c κs = search needs
