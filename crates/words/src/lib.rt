@@ -1,29 +1,41 @@
 // Words of an image: 8 bytes, the least significant first.
 ghost use mathlib.Core.Path.{_≡_};
-ghost use mathlib.Core.List.{[], _∷_};
-ghost use Prim.Native.Nat.{_+_, _≤_};
+ghost use Prim.Native.Nat.{_+_, _≤_, _<_};
 ghost use lib.ListN.{length};
 ghost use Rattle.model.specs.Words.{wordAt, storeWord};
 ghost use Rattle.model.specs.Layout.{wordSize};
+use model::Layout;
 
 // The values of a byte.
 const BYTE: u64 = 256;
 
-// The word that eight bytes make, the least significant first.
-pub fn join(a: u8, b: u8, c: u8, d: u8, e: u8, f: u8, g: u8, h: u8) -> u64
-    ensures { λ r. ⌜ r ≡ wordAt (a ∷ b ∷ c ∷ d ∷ e ∷ f ∷ g ∷ h ∷ []) 0 ⌝ }
+// Bytes of a word, as the length of an array.
+const WORD_LEN: usize = Layout::WORD_SIZE as usize;
+
+// A byte as a number.
+fn wide(byte: u8) -> u64
+    ensures { λ r. ⌜ (r ≡ byte) × (r < 256) ⌝ }
 {
-    a as u64
+    byte as u64
+}
+
+// The word that eight bytes make, the least significant first.
+pub fn join(bytes: [u8; WORD_LEN]) -> u64
+    ensures { λ r. ⌜ r ≡ wordAt bytes 0 ⌝ }
+{
+    wide(bytes[0])
         + BYTE
-            * (b as u64
+            * (wide(bytes[1])
                 + BYTE
-                    * (c as u64
+                    * (wide(bytes[2])
                         + BYTE
-                            * (d as u64
+                            * (wide(bytes[3])
                                 + BYTE
-                                    * (e as u64
+                                    * (wide(bytes[4])
                                         + BYTE
-                                            * (f as u64 + BYTE * (g as u64 + BYTE * (h as u64)))))))
+                                            * (wide(bytes[5])
+                                                + BYTE
+                                                    * (wide(bytes[6]) + BYTE * wide(bytes[7])))))))
 }
 
 // The word at a place of an image.
@@ -31,7 +43,7 @@ pub fn word_at(image: &[u8], at: usize) -> u64
     requires { ⌜ at + wordSize ≤ length (now image) ⌝ }
     ensures { λ r. ⌜ r ≡ wordAt (now (image .entry)) at ⌝ }
 {
-    join(
+    join([
         image[at],
         image[at + 1],
         image[at + 2],
@@ -40,7 +52,7 @@ pub fn word_at(image: &[u8], at: usize) -> u64
         image[at + 5],
         image[at + 6],
         image[at + 7],
-    )
+    ])
 }
 
 // Stores a word at a place of an image.
