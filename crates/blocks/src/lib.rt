@@ -100,8 +100,8 @@ pub fn put_zero(to: u64, trace: &mut [u64], n: usize) -> usize
     requires { ⌜ Fits (now trace) n (persistZero to) ⌝ }
     ensures { λ r. ⌜ Emitted (now (trace .entry)) n (persistZero to) (now (trace .exit)) r ⌝ }
 {
-    let words = [0u64; BLOCK_WORDS];
-    put_block(true, to, words, trace, n)
+    let zeros = [0u64; BLOCK_WORDS];
+    put_block(true, to, zeros, trace, n)
 }
 
 // ---- tests of bytes

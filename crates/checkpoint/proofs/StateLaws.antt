@@ -11,7 +11,7 @@ use Rattle.model.specs.Container.{activeLine, inactiveLine, segState}
 use Rattle.model.specs.Session.{bit}
 use Rattle.model.specs.Ops.{clwb, stores}
 use Rattle.model.specs.Checkpoint.{nextState, nextStates, statesOps}
-use Rattle.words.proofs.Joined.{word-joined}
+use Rattle.words.proofs.WordLaws.{word-joined}
 
 -- ---- the next states
 

@@ -92,7 +92,7 @@ fn next_word(image: &[u8], line: usize, segments: u64, k: usize) -> u64
     if (segments >> i) % EIGHT_BITS == 0 {
         return words::word_at(image, line + i);
     }
-    words::join(
+    words::join([
         next_state(image, line, segments, i),
         next_state(image, line, segments, i + 1),
         next_state(image, line, segments, i + 2),
@@ -101,7 +101,7 @@ fn next_word(image: &[u8], line: usize, segments: u64, k: usize) -> u64
         next_state(image, line, segments, i + 5),
         next_state(image, line, segments, i + 6),
         next_state(image, line, segments, i + 7),
-    )
+    ])
 }
 
 // Stores the next states on the inactive line, upward, and writes it back.
@@ -179,9 +179,9 @@ fn checkpoint_status(
 ) -> Status
     ensures { λ r. ⌜ codeOf r ≡ firstError (contextErrors (sessionOf layout segments (now (words .entry))) (now (image .entry)) ++ epochErrors (now (image .entry))) ⌝ }
 {
-    let status = session::context_status(image, layout, segments, words);
-    if !status.is_served() {
-        return status;
+    let context = session::context_status(image, layout, segments, words);
+    if !context.is_served() {
+        return context;
     }
     if words::word_at(image, EPOCH_AT) == LAST_EPOCH {
         return Status::EpochLimit;

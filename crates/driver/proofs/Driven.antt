@@ -22,7 +22,7 @@ use Rattle.model.proofs.CrashSafety.{crash-safety}
 use Rattle.model.proofs.Sisters.{reads-follow-model, opening-safety}
 use Rattle.driver.specs.Stepped.{Called, Stepped}
 use Rattle.driver.specs.Driven.{savedModel, opened, after, Driven, done, next, Made, rests, makes, CutDriven, none, again, ShowsAfter, DrivenSafety, DrivenOpeningSafety}
-use Rattle.driver.proofs.Laws.{part-image, part-played, called-played, stepped-device}
+use Rattle.driver.proofs.SteppedLaws.{part-image, part-played, called-played, stepped-device}
 
 -- ---- the program's state is the history's
 

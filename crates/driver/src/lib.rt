@@ -9,19 +9,20 @@ ghost use lib.ListN.{length, take};
 ghost use Rattle.model.specs.declared.Session.{Session};
 ghost use Rattle.model.specs.Layout.{layoutOf};
 ghost use Rattle.model.specs.Status.{codeOf};
+ghost use Rattle.model.specs.Ops.{opNumbers};
 ghost use Rattle.model.specs.Replay.{replayOutcome};
 ghost use Rattle.model.specs.History.{callOpen, callWrite, callCheckpoint};
 ghost use Rattle.model.specs.Write.{writeArgsOf};
 ghost use Rattle.driver.specs.Stepped.{Stepped};
 
 // Replays the first `ops` operations of a trace: all that a call reports. How the replay ends, and how many it played.
-pub fn play_reported(image: &mut [u8], trace: &[u64], ops: u64) -> Replayed
-    requires { ⌜ 3 * ops ≤ length (now trace) ⌝ }
-    ensures { λ r. ⌜ codeOf (r .status) ≡ replayOutcome (now (image .entry)) (take (3 * ops) (now (trace .entry))) ops .status ⌝ }
-    ensures { λ r. ⌜ r .played ≡ replayOutcome (now (image .entry)) (take (3 * ops) (now (trace .entry))) ops .played ⌝ }
-    ensures { λ _. ⌜ now (image .exit) ≡ replayOutcome (now (image .entry)) (take (3 * ops) (now (trace .entry))) ops .image ⌝ }
+fn play_reported(image: &mut [u8], trace: &[u64], ops: u64) -> Replayed
+    requires { ⌜ opNumbers * ops ≤ length (now trace) ⌝ }
+    ensures { λ r. ⌜ codeOf (r .status) ≡ replayOutcome (now (image .entry)) (take (opNumbers * ops) (now (trace .entry))) ops .status ⌝ }
+    ensures { λ r. ⌜ r .played ≡ replayOutcome (now (image .entry)) (take (opNumbers * ops) (now (trace .entry))) ops .played ⌝ }
+    ensures { λ _. ⌜ now (image .exit) ≡ replayOutcome (now (image .entry)) (take (opNumbers * ops) (now (trace .entry))) ops .image ⌝ }
 {
-    let end = 3 * ops as usize;
+    let end = trace::OP_NUMBERS * ops as usize;
     replay::crpm_replay(image, &trace[..end], ops)
 }
 

@@ -1,1 +1,2 @@
-pub mod Laws
+pub mod ActionLaws
+pub mod RecoveryLaws

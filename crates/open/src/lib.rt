@@ -10,7 +10,7 @@ ghost use mathlib.Core.Path.{_≡_};
 ghost use mathlib.Core.Bool.{true};
 ghost use Prim.Native.Nat.{_+_, _^_, _≤_, _<_};
 ghost use lib.ListN.{length};
-ghost use Rattle.model.specs.Layout.{layoutOf, most, SizesOk, imageSize};
+ghost use Rattle.model.specs.Layout.{layoutOf, most, ssBackup, SizesOk, imageSize};
 ghost use Rattle.model.specs.Container.{segState, backupToMain, isPaired};
 ghost use Rattle.model.specs.Session.{zeroSession};
 ghost use Rattle.model.specs.Outcome.{Gives};
@@ -28,7 +28,7 @@ const RECOVERY_ACTION: [[Action; 2]; 3] = [
 
 // The action for a state, and whether the main segment is paired.
 fn recovery_action(state: u8, paired: bool) -> Action
-    requires { ⌜ state ≤ 2 ⌝ }
+    requires { ⌜ state ≤ ssBackup ⌝ }
     ensures { λ r. ⌜ r ≡ recoveryAction state paired ⌝ }
 {
     let row = RECOVERY_ACTION[state as usize];
@@ -203,5 +203,6 @@ pub fn crpm_open(image: &[u8], mains: u64, backups: u64, blocks: u64, trace: &mu
     if !status.is_served() {
         return refused(status);
     }
-    recover(image, layout, metadata::active_at(image), trace)
+    let active = metadata::active_at(image);
+    recover(image, layout, active, trace)
 }

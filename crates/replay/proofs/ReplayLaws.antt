@@ -74,11 +74,12 @@ pub thirds-refused : (I : Image) (t : Trace) (n : ℕ) → length I % lineSize �
 unfolding replayStatus firstError
 thirds-refused I t n h k = rw (h, ne-eqb (length t % opNumbers) 0 k)
 
--- ill is what the first pass finds
-pub judged-status : (I : Image) (t : Trace) (n : ℕ) (ill : Bool) {count : ℕ} {ok : Bool} → length I % lineSize ≡ 0 → length t % opNumbers ≡ 0
-    → count ≡ replayCount t n → ok ≡ allWellFormed (length I / lineSize) t count → not ok ≡ ill → cond ill 12 0 ≡ replayStatus I t n
+-- ok is what the first pass finds
+pub judged-status : (I : Image) (t : Trace) (n : ℕ) (good : Bool) {count : ℕ} {ok : Bool} → length I % lineSize ≡ 0 → length t % opNumbers ≡ 0
+    → count ≡ replayCount t n → ok ≡ allWellFormed (length I / lineSize) t count → ok ≡ good → cond good 0 12 ≡ replayStatus I t n
 unfolding replayStatus firstError
-judged-status I t n ill h k e p q = rw (h, k, ← e, ← p, q)
+judged-status I t n true h k e p q = rw (h, k, ← e, ← p, q)
+judged-status I t n false h k e p q = rw (h, k, ← e, ← p, q)
 
 -- ---- the whole call
 

@@ -67,10 +67,10 @@ fn replay_status(image: &[u8], trace: &[u64], n: u64) -> Status
         return Status::TraceBad;
     }
     let lines = image.len() as u64 / Layout::LINE_SIZE;
-    if !all_well_formed(lines, trace, replay_count(trace, n)) {
-        return Status::TraceBad;
+    if all_well_formed(lines, trace, replay_count(trace, n)) {
+        return Status::Served;
     }
-    Status::Served
+    Status::TraceBad
 }
 
 // Plays one operation: a store changes the image, the others do not.

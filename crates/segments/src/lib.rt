@@ -84,30 +84,35 @@ pub fn put_dirty_copies(
     let mut b: usize = 0;
     while b < count {
         if (word >> b) & 1 == 1 {
-            let start = from + BLOCK_SIZE * b;
-            let place = to + BLOCK_SIZE * b;
-            next = blocks::put_copy(&image[start..start + BLOCK_SIZE], place as u64, trace, next);
+            let source = from + BLOCK_SIZE * b;
+            let target = to + BLOCK_SIZE * b;
+            next = blocks::put_copy(
+                &image[source..source + BLOCK_SIZE],
+                target as u64,
+                trace,
+                next,
+            );
         }
         b += 1;
     }
     next
 }
 
-// Writes back the dirty blocks of the segment at a place, upward; bit b of the word says that block b is dirty.
-pub fn put_dirty_clwbs(blocks: u64, word: u64, at: usize, trace: &mut [u64], n: usize) -> usize
+// Writes back the dirty blocks of the segment at a place, upward; bit b of the word `dirty` says that block b is.
+pub fn put_dirty_clwbs(blocks: u64, dirty: u64, at: usize, trace: &mut [u64], n: usize) -> usize
     requires { ⌜ blocks ≤ most ⌝ }
     requires { ⌜ at + blockSize * blocks < 2 ^ 64 ⌝ }
-    requires { ⌜ Fits (now trace) n (eachDirty word blocks (λ b. clwbs blockLines (at + blockSize * b))) ⌝ }
-    ensures { λ r. ⌜ Emitted (now (trace .entry)) n (eachDirty word blocks (λ b. clwbs blockLines (at + blockSize * b))) (now (trace .exit)) r ⌝ }
+    requires { ⌜ Fits (now trace) n (eachDirty dirty blocks (λ b. clwbs blockLines (at + blockSize * b))) ⌝ }
+    ensures { λ r. ⌜ Emitted (now (trace .entry)) n (eachDirty dirty blocks (λ b. clwbs blockLines (at + blockSize * b))) (now (trace .exit)) r ⌝ }
 {
-    if word == 0 {
+    if dirty == 0 {
         return n;
     }
     let count = blocks as usize;
     let mut next = n;
     let mut k: usize = 0;
     while k < count {
-        if (word >> k) & 1 == 1 {
+        if (dirty >> k) & 1 == 1 {
             let place = at + BLOCK_SIZE * k;
             next = blocks::put_clwbs(place as u64, trace, next);
         }

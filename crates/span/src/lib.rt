@@ -46,7 +46,7 @@ fn overlaid_word(image: &[u8], at: usize, bytes: &[u8], place: usize) -> u64
     requires { ⌜ place + wordSize ≤ length (now image) ⌝ }
     ensures { λ r. ⌜ r ≡ wordOf (overlay (byteAt (now (image .entry))) at (now (bytes .entry))) place ⌝ }
 {
-    words::join(
+    words::join([
         overlaid(image, at, bytes, place),
         overlaid(image, at, bytes, place + 1),
         overlaid(image, at, bytes, place + 2),
@@ -55,7 +55,7 @@ fn overlaid_word(image: &[u8], at: usize, bytes: &[u8], place: usize) -> u64
         overlaid(image, at, bytes, place + 5),
         overlaid(image, at, bytes, place + 6),
         overlaid(image, at, bytes, place + 7),
-    )
+    ])
 }
 
 // The same, where a word that lies whole among the bytes is read from them.

@@ -7,7 +7,7 @@ use mathlib.Core.List.{List, [], _∷_, _++_}
 use native.Mathlib.Omega.{arith}
 use native.Mathlib.Decide.{decLt}
 use native.Mathlib.Nat.{zero-add}
-use native.Mathlib.Numerals.{add-one}
+use native.Mathlib.Numerals.{add-one, add-two}
 use lib.ListN.{length, set, drop, length-append}
 use lib.Seq.{sets, sets-eq, length-sets}
 use Rattle.model.specs.Range.{cat}
@@ -16,6 +16,10 @@ use Rattle.model.proofs.Laws.Ops.{length-encode, encode-append}
 use Rattle.trace.specs.Emit.{emit, Fits, Emitted}
 
 -- ---- the trace alone
+
+-- three numbers, one after the other
+pub three-set : (t : Trace) (i k p w : ℕ) → set (set (set t i k) (i + 1) p) (i + 2) w ≡ sets t i (k ∷ p ∷ w ∷ [])
+three-set t i k p w = simp (add-one, add-two)
 
 emit-nil : (t : Trace) (n : ℕ) → emit t n [] ≡ t
 unfolding emit encode

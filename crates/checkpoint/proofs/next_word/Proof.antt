@@ -3,7 +3,7 @@ use mathlib.Core.Path.{_≡_, _∙_}
 use mathlib.Core.List.{[], _∷_}
 use borrow.Author.Needs.{needs}
 use Rattle.model.specs.Words.{wordOf, wordAt}
-use Rattle.words.proofs.Joined.{word-joined}
+use Rattle.words.proofs.WordLaws.{word-joined}
 use Rattle.checkpoint.proofs.StateLaws.{word-stays}
 use Rattle.checkpoint.proofs.next_word.Statement.{statement}
 use Rattle.checkpoint.proofs.next_word.Tie as tie

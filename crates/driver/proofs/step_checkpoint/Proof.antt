@@ -1,7 +1,7 @@
 use native.Mathlib.Omega.{arith}
 use borrow.Author.Needs.{needs}
 use Rattle.model.specs.Checkpoint.{checkpointOutcome}
-use Rattle.driver.proofs.Laws.{part-inside}
+use Rattle.driver.proofs.SteppedLaws.{part-inside}
 use Rattle.driver.proofs.step_checkpoint.Statement.{statement}
 use Rattle.driver.proofs.step_checkpoint.Tie as tie
 

@@ -2,7 +2,7 @@ use native.Mathlib.Omega.{arith}
 use borrow.Author.Needs.{needs}
 use Rattle.model.specs.Layout.{layoutOf}
 use Rattle.model.specs.Open.{openOutcome}
-use Rattle.driver.proofs.Laws.{part-inside}
+use Rattle.driver.proofs.SteppedLaws.{part-inside}
 use Rattle.driver.proofs.step_open.Statement.{statement}
 use Rattle.driver.proofs.step_open.Tie as tie
 

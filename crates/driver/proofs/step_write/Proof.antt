@@ -2,7 +2,7 @@ use native.Mathlib.Omega.{arith}
 use borrow.Author.Needs.{needs}
 use Rattle.model.specs.Write.{writeOutcome}
 use Rattle.model.specs.Write.{writeArgsOf}
-use Rattle.driver.proofs.Laws.{part-inside}
+use Rattle.driver.proofs.SteppedLaws.{part-inside}
 use Rattle.driver.proofs.step_write.Statement.{statement}
 use Rattle.driver.proofs.step_write.Tie as tie
 

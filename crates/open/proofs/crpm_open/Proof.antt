@@ -12,7 +12,7 @@ use Rattle.model.specs.Open.{recoveryOps, openStatus, openOutcome}
 use Rattle.model.proofs.Laws.Layout.{metadata-inside}
 use Rattle.trace.proofs.CallLaws.{gives-refused}
 use Rattle.places.proofs.PlaceLaws.{sized}
-use Rattle.open.proofs.Laws.{open-refused, open-gives}
+use Rattle.open.proofs.RecoveryLaws.{open-refused, open-gives}
 use Rattle.open.proofs.crpm_open.Statement.{statement}
 use Rattle.open.proofs.crpm_open.Tie as tie
 

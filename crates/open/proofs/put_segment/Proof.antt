@@ -3,7 +3,7 @@ use native.Mathlib.Omega.{arith}
 use borrow.Author.Needs.{needs}
 use Rattle.model.specs.Container.{segState}
 use Rattle.trace.proofs.EmitLaws.{fits-as, emitted-as, emitted-length}
-use Rattle.open.proofs.Laws.{takes-there, takes-entry, entry-ops}
+use Rattle.open.proofs.ActionLaws.{takes-there, takes-entry, entry-ops}
 use Rattle.open.proofs.put_segment.Statement.{statement}
 use Rattle.open.proofs.put_segment.Tie as tie
 

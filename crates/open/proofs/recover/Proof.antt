@@ -11,7 +11,7 @@ use Rattle.model.proofs.Laws.Status.{stage-passed}
 use Rattle.trace.proofs.EmitLaws.{emitted-length}
 use Rattle.trace.proofs.CallLaws.{fits-whole, gives-refused, gives-served}
 use Rattle.open.specs.Recovery.{recoveryOutcome}
-use Rattle.open.proofs.Laws.{recovers-by, recovery-invalid, recovery-valid}
+use Rattle.open.proofs.RecoveryLaws.{recovers-by, recovery-invalid, recovery-valid}
 use Rattle.open.proofs.recover.Statement.{statement}
 use Rattle.open.proofs.recover.Tie as tie
 

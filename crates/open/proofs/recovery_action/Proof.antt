@@ -2,7 +2,7 @@ use mathlib.Core.Path.{sym, ap, _∙_}
 use native.Mathlib.Omega.{arith}
 use borrow.Author.Needs.{needs}
 use Rattle.model.specs.Open.{recoveryAction}
-use Rattle.open.proofs.Laws.{paired-cell, unpaired-cell}
+use Rattle.open.proofs.ActionLaws.{paired-cell, unpaired-cell}
 use Rattle.open.proofs.recovery_action.Statement.{statement}
 use Rattle.open.proofs.recovery_action.Tie as tie
 

@@ -3,7 +3,7 @@ use mathlib.Core.Path.{sym, ap, _∙_}
 use native.Mathlib.Omega.{arith}
 use borrow.Author.Needs.{needs}
 use Rattle.model.proofs.Laws.Counts.{length-recovery}
-use Rattle.open.proofs.Laws.{recovery-bound}
+use Rattle.open.proofs.RecoveryLaws.{recovery-bound}
 use Rattle.open.proofs.recovery_length.Statement.{statement}
 use Rattle.open.proofs.recovery_length.Tie as tie
 

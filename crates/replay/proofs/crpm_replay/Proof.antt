@@ -19,7 +19,8 @@ returns : tie.Need-returns
 unfolding replayOutcome
 returns c =
     let s = c .before .before .replay-status .ensures in
-    (s, refused _ _ _ (λ e. eqb-false _ _ (sym (c .before .is-served .ensures) ∙ not-true _ (c .if1 .taken)) (s ∙ e)))
+    let x = refused _ _ _ (λ e. eqb-false _ _ (sym (c .before .is-served .ensures) ∙ not-true _ (c .if1 .taken)) (s ∙ e)) in
+    (s, (x .0, x .1))
 
 replay-count-requires : tie.Need-replay-count-requires
 replay-count-requires c κs = search needs
@@ -42,7 +43,7 @@ returns-2 c =
     let s = b .before .before .replay-status .ensures in
     let z = eqb-true _ _ (sym (b .before .is-served .ensures) ∙ not-false _ (b .if1 .left)) in
     let x = all-played _ _ _ (sym s ∙ z) (p .before .before .replay-count .ensures) (p .play .ensures) in
-    (sym z ∙ s, x)
+    (sym z ∙ s, (x .0, x .1))
 
 pub crpm-replay-spec : {M : Type 1} → statement M
 crpm-replay-spec =

@@ -40,7 +40,7 @@ put-clwbs-requires : tie.Need-put-clwbs-requires Inv-loop μ-loop
 put-clwbs-requires c κs =
     let l = c .before .before .before .loop in
     let a = c .before .before .before .before .before .before in
-    (search needs, dirty-fits (a .args .word) (l .k) _ (l .inv .2) (a .args .blocks) (omega arith) (sym (bit-tested (a .args .word) (l .k)) ∙ c .before .if2 .taken) (a .pre .1 .1))
+    (search needs, dirty-fits (a .args .dirty) (l .k) _ (l .inv .2) (a .args .blocks) (omega arith) (sym (bit-tested (a .args .dirty) (l .k)) ∙ c .before .if2 .taken) (a .pre .1 .1))
 
 add-k : tie.Need-add-k Inv-loop μ-loop
 add-k c = search needs
@@ -51,7 +51,7 @@ loop-less c = search needs
 loop-again : tie.Need-loop-again Inv-loop μ-loop
 loop-again c =
     let l = c .before .before .loop in
-    let word = c .before .before .before .before .before .args .word in
+    let word = c .before .before .before .before .before .args .dirty in
     let t = bit-tested word (l .k) in
     ⊎-elim
     (λ w. (omega arith, omega (arith, ap length (w .5)), rw (w .5, w .6) (dirty-set word (l .k) _ (l .inv .2) (sym t ∙ w .0 .taken) (w .2 .ensures))))

@@ -31,17 +31,17 @@ loop-holds c = (search needs, search needs, emitted-none _)
 shr-if2 : tie.Need-shr-if2 Inv-loop μ-loop
 shr-if2 c = search needs
 
-mul-start : tie.Need-mul-start Inv-loop μ-loop
-mul-start c = search needs
+mul-source : tie.Need-mul-source Inv-loop μ-loop
+mul-source c = search needs
 
-add-start : tie.Need-add-start Inv-loop μ-loop
-add-start c = search needs
+add-source : tie.Need-add-source Inv-loop μ-loop
+add-source c = search needs
 
-mul-place : tie.Need-mul-place Inv-loop μ-loop
-mul-place c = search needs
+mul-target : tie.Need-mul-target Inv-loop μ-loop
+mul-target c = search needs
 
-add-place : tie.Need-add-place Inv-loop μ-loop
-add-place c = search needs
+add-target : tie.Need-add-target Inv-loop μ-loop
+add-target c = search needs
 
 add-put-copy : tie.Need-add-put-copy Inv-loop μ-loop
 add-put-copy c = search needs
@@ -108,10 +108,10 @@ put-dirty-copies-spec =
     returns
     loop-holds
     shr-if2
-    mul-start
-    add-start
-    mul-place
-    add-place
+    mul-source
+    add-source
+    mul-target
+    add-target
     add-put-copy
     sub-put-copy
     part-put-copy-start

@@ -1,6 +1,6 @@
 use mathlib.Core.Path.{_∙_}
 use borrow.Author.Needs.{needs}
-use Rattle.words.proofs.Joined.{word-joined}
+use Rattle.words.proofs.WordLaws.{word-joined}
 use Rattle.span.proofs.overlaid_word.Statement.{statement}
 use Rattle.span.proofs.overlaid_word.Tie as tie
 

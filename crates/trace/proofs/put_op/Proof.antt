@@ -1,8 +1,10 @@
+use Prim.Native.Nat.{_*_}
 use mathlib.Core.Path.{refl}
-use native.Mathlib.Numerals.{add-one, add-two}
 use native.Mathlib.Omega.{arith}
 use lib.ListN.{length-set}
 use borrow.Author.Needs.{needs}
+use Rattle.model.specs.Ops.{opNumbers}
+use Rattle.trace.proofs.EmitLaws.{three-set}
 use Rattle.trace.proofs.put_op.Statement.{statement}
 use Rattle.trace.proofs.put_op.Tie as tie
 
@@ -40,7 +42,7 @@ same-length : tie.Need-same-length
 same-length c = search needs
 
 returns : tie.Need-returns
-returns c = (simp (add-one, add-two), refl)
+returns c = let g = c .args in (three-set (g .trace .now) (opNumbers * g .n) (g .kind) (g .place) (g .word), refl)
 
 pub put-op-spec : {M : Type 1} → statement M
 put-op-spec =

@@ -1,8 +1,7 @@
-use native.Mathlib.Numerals.{towards-suc}
 use native.Mathlib.Omega.{arith}
 use lib.ListN.{length-set}
 use borrow.Author.Needs.{needs}
-use Rattle.model.specs.Words.{bytesOf, storeWord}
+use Rattle.words.proofs.WordLaws.{word-stored}
 use Rattle.words.proofs.store_word.Statement.{statement}
 use Rattle.words.proofs.store_word.Tie as tie
 
@@ -79,8 +78,7 @@ same-length : tie.Need-same-length
 same-length c = search needs
 
 returns : tie.Need-returns
-unfolding storeWord bytesOf
-returns c = simp towards-suc
+returns c = word-stored _ _ _
 
 pub store-word-spec : {M : Type 1} → statement M
 store-word-spec =

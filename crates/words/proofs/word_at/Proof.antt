@@ -1,53 +1,55 @@
 use mathlib.Core.Path.{_∙_}
+use native.Mathlib.Omega.{arith}
 use borrow.Author.Needs.{needs}
-use Rattle.words.proofs.Joined.{word-joined}
+use Rattle.words.proofs.WordLaws.{word-joined}
 use Rattle.words.proofs.word_at.Statement.{statement}
 use Rattle.words.proofs.word_at.Tie as tie
+use Rattle.words.proofs.join.Reads as join-reads
 
-shared-slice-read-join : tie.Need-shared-slice-read-join
-shared-slice-read-join c = search needs
+shared-slice-read-t4 : tie.Need-shared-slice-read-t4
+shared-slice-read-t4 c = search needs
 
-add-join : tie.Need-add-join
-add-join c = search needs
+add-t5 : tie.Need-add-t5
+add-t5 c = search needs
 
-shared-slice-read-join-2 : tie.Need-shared-slice-read-join-2
-shared-slice-read-join-2 c = search needs
+shared-slice-read-t7 : tie.Need-shared-slice-read-t7
+shared-slice-read-t7 c = search needs
 
-add-join-2 : tie.Need-add-join-2
-add-join-2 c = search needs
+add-t8 : tie.Need-add-t8
+add-t8 c = search needs
 
-shared-slice-read-join-3 : tie.Need-shared-slice-read-join-3
-shared-slice-read-join-3 c = search needs
+shared-slice-read-t10 : tie.Need-shared-slice-read-t10
+shared-slice-read-t10 c = search needs
 
-add-join-3 : tie.Need-add-join-3
-add-join-3 c = search needs
+add-t11 : tie.Need-add-t11
+add-t11 c = search needs
 
-shared-slice-read-join-4 : tie.Need-shared-slice-read-join-4
-shared-slice-read-join-4 c = search needs
+shared-slice-read-t13 : tie.Need-shared-slice-read-t13
+shared-slice-read-t13 c = search needs
 
-add-join-4 : tie.Need-add-join-4
-add-join-4 c = search needs
+add-t14 : tie.Need-add-t14
+add-t14 c = search needs
 
-shared-slice-read-join-5 : tie.Need-shared-slice-read-join-5
-shared-slice-read-join-5 c = search needs
+shared-slice-read-t16 : tie.Need-shared-slice-read-t16
+shared-slice-read-t16 c = search needs
 
-add-join-5 : tie.Need-add-join-5
-add-join-5 c = search needs
+add-t17 : tie.Need-add-t17
+add-t17 c = search needs
 
-shared-slice-read-join-6 : tie.Need-shared-slice-read-join-6
-shared-slice-read-join-6 c = search needs
+shared-slice-read-t19 : tie.Need-shared-slice-read-t19
+shared-slice-read-t19 c = search needs
 
-add-join-6 : tie.Need-add-join-6
-add-join-6 c = search needs
+add-t20 : tie.Need-add-t20
+add-t20 c = search needs
 
-shared-slice-read-join-7 : tie.Need-shared-slice-read-join-7
-shared-slice-read-join-7 c = search needs
+shared-slice-read-t22 : tie.Need-shared-slice-read-t22
+shared-slice-read-t22 c = search needs
 
-add-join-7 : tie.Need-add-join-7
-add-join-7 c = search needs
+add-t23 : tie.Need-add-t23
+add-t23 c = search needs
 
-shared-slice-read-join-8 : tie.Need-shared-slice-read-join-8
-shared-slice-read-join-8 c = search needs
+shared-slice-read-t25 : tie.Need-shared-slice-read-t25
+shared-slice-read-t25 c = search needs
 
 join-requires : tie.Need-join-requires
 join-requires c κs = search needs
@@ -59,20 +61,20 @@ pub word-at-spec : {M : Type 1} → statement M
 word-at-spec =
     tie.close
     (tie.spec
-    shared-slice-read-join
-    add-join
-    shared-slice-read-join-2
-    add-join-2
-    shared-slice-read-join-3
-    add-join-3
-    shared-slice-read-join-4
-    add-join-4
-    shared-slice-read-join-5
-    add-join-5
-    shared-slice-read-join-6
-    add-join-6
-    shared-slice-read-join-7
-    add-join-7
-    shared-slice-read-join-8
+    shared-slice-read-t4
+    add-t5
+    shared-slice-read-t7
+    add-t8
+    shared-slice-read-t10
+    add-t11
+    shared-slice-read-t13
+    add-t14
+    shared-slice-read-t16
+    add-t17
+    shared-slice-read-t19
+    add-t20
+    shared-slice-read-t22
+    add-t23
+    shared-slice-read-t25
     join-requires
     returns)
