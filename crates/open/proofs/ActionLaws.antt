@@ -13,8 +13,8 @@ use Rattle.model.specs.Layout.{ssBackup}
 use Rattle.model.specs.Container.{segState, backupToMain, isPaired, pairedBackup, byState}
 use Rattle.model.specs.Open.{recoveryAction, actionOps, recoverSegment}
 use Rattle.model.proofs.Laws.Container.{paired-at}
-use Rattle.metadata.specs.Scan.{entryOf}
-use Rattle.metadata.proofs.Laws.{entry-some}
+use Rattle.container.specs.Scan.{entryOf}
+use Rattle.container.proofs.ScanLaws.{entry-some}
 use Rattle.open.specs.Recovery.{takesBackup}
 
 -- ---- the table

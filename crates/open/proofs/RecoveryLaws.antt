@@ -20,8 +20,8 @@ use Rattle.model.specs.Outcome.{Outcome, outcomeOf, Gives}
 use Rattle.model.proofs.Laws.Container.{valid-means}
 use Rattle.model.proofs.Laws.Status.{first-holds, first-fails, first-of-none, stage-refused, stage-passed}
 use Rattle.container.specs.declared.Examined.{Examined}
-use Rattle.metadata.specs.Scan.{ExaminedBy}
-use Rattle.metadata.proofs.Laws.{slot-found}
+use Rattle.container.specs.Scan.{ExaminedBy}
+use Rattle.container.proofs.ScanLaws.{slot-found}
 use Rattle.open.specs.Recovery.{ValidBy, BackupsOf, recoveryErrors, recoveryOutcome}
 
 -- ---- the number of operations
