@@ -137,11 +137,11 @@ fn put_epoch(image: &[u8], trace: &mut [u64], n: usize) -> usize
 
 // ---- all operations
 
-// Their number.
-fn checkpoint_length(layout: Layout, segments: u64, words: &[u64; Layout::MOST_LEN]) -> u64
+// Their number, whatever the dirty segments and the image.
+fn checkpoint_length(layout: Layout, words: &[u64; Layout::MOST_LEN]) -> u64
     requires { ⌜ layout .mains ≤ most ⌝ }
     requires { ⌜ ((i : ℕ) → i < layout .mains → getD (now words) i 0 < 2 ^ layout .blocks) ⌝ }
-    ensures { λ r. ⌜ ((I : Image) → r ≡ length (checkpointOps (sessionOf layout segments (now (words .entry))) I)) × (r < 2 ^ 32) ⌝ }
+    ensures { λ r. ⌜ ((segments : ℕ) (I : Image) → r ≡ length (checkpointOps (sessionOf layout segments (now (words .entry))) I)) × (r < 2 ^ 32) ⌝ }
 {
     Layout::BLOCK_LINES * session::dirty_total(layout, words) + FIXED_OPS
 }
@@ -199,7 +199,7 @@ pub fn crpm_checkpoint(image: &[u8], session: Session, trace: &mut [u64]) -> Ans
     if !status.is_served() {
         return Answer::refused(status, session);
     }
-    let ops = checkpoint_length(layout, segments, &session.dirty_blocks);
+    let ops = checkpoint_length(layout, &session.dirty_blocks);
     let room = trace::trace_status(trace.len(), ops);
     if !room.is_served() {
         return Answer::refused(room, session);

@@ -17,7 +17,7 @@ add-result c = search needs
 returns : tie.Need-returns
 returns c =
     let g = c .before .args in
-    ((λ I. omega (arith, c .dirty-total .ensures .0, length-checkpoint-ops (sessionOf (g .layout) (g .segments) (g .words .now)) I)), omega arith)
+    ((λ segments I. omega (arith, c .dirty-total .ensures .0, length-checkpoint-ops (sessionOf (g .layout) segments (g .words .now)) I)), omega arith)
 
 pub checkpoint-length-spec : {M : Type 1} → statement M
 checkpoint-length-spec = tie.close (tie.spec dirty-total-requires mul-result add-result returns)

@@ -54,7 +54,7 @@ returns-2 c =
     let g = s .before .before .before .before .before .before .args in
     let O = checkpointOps (g .t2) (g .image .now) in
     let z = sym (i .before .is-served .ensures) ∙ not-false _ (i .if1 .left) in
-    let e = t .trace-status .ensures O (g .trace .now) (sym (n .checkpoint-length .ensures .0 (g .image .now))) refl in
+    let e = t .trace-status .ensures O (g .trace .now) (sym (n .checkpoint-length .ensures .0 (g .t2 .«dirty_segments») (g .image .now))) refl in
     gives-refused _ _ _ _ _ _ (c .refused2 .ensures)
     (e ∙ sym (stage-passed _ _ (traceErrors O (g .trace .now)) (omega arith) (s .checkpoint-status .ensures) z))
     (sym (c .before .before .is-served2 .ensures) ∙ not-true _ (c .before .if2 .taken)) refl
@@ -69,7 +69,7 @@ put-checkpoint-requires c κs =
     let g = s .before .before .before .before .before .before .args in
     let O = checkpointOps (g .t2) (g .image .now) in
     let z = sym (i .before .is-served .ensures) ∙ not-false _ (i .if1 .left) in
-    let e = t .trace-status .ensures O (g .trace .now) (sym (n .checkpoint-length .ensures .0 (g .image .now))) refl in
+    let e = t .trace-status .ensures O (g .trace .now) (sym (n .checkpoint-length .ensures .0 (g .t2 .«dirty_segments») (g .image .now))) refl in
     let p = sym (eqb-true _ 0 (sym (j .before .is-served2 .ensures) ∙ not-false _ (j .if2 .left))) ∙ e in
     (advancing (g .t2) (g .image .now) _ (s .checkpoint-status .ensures) z, fits-whole O (g .trace .now) p)
 
@@ -93,7 +93,7 @@ returns-3 c =
     let s = i .before .before in
     let g = s .before .before .before .before .before .before .args in
     let O = checkpointOps (g .t2) (g .image .now) in
-    let m = n .checkpoint-length .ensures .0 (g .image .now) in
+    let m = n .checkpoint-length .ensures .0 (g .t2 .«dirty_segments») (g .image .now) in
     let z = sym (i .before .is-served .ensures) ∙ not-false _ (i .if1 .left) in
     let p = sym (eqb-true _ 0 (sym (j .before .is-served2 .ensures) ∙ not-false _ (j .if2 .left))) ∙ t .trace-status .ensures O (g .trace .now) (sym m) refl in
     gives-served _ _ _ _ _ _ (c .served .ensures)

@@ -3,7 +3,6 @@ use borrow.Author.Needs.{needs}
 use Rattle.model.specs.Words.{wordOf, littleEndian}
 use Rattle.words.proofs.join.Statement.{statement}
 use Rattle.words.proofs.join.Tie as tie
-use Rattle.words.proofs.wide.Reads as wide-reads
 
 array-read-wide : tie.Need-array-read-wide
 array-read-wide c = search needs

@@ -4,7 +4,6 @@ use borrow.Author.Needs.{needs}
 use Rattle.words.proofs.WordLaws.{word-joined}
 use Rattle.words.proofs.word_at.Statement.{statement}
 use Rattle.words.proofs.word_at.Tie as tie
-use Rattle.words.proofs.join.Reads as join-reads
 
 shared-slice-read-t4 : tie.Need-shared-slice-read-t4
 shared-slice-read-t4 c = search needs
@@ -49,7 +48,7 @@ add-t23 : tie.Need-add-t23
 add-t23 c = search needs
 
 shared-slice-read-t25 : tie.Need-shared-slice-read-t25
-shared-slice-read-t25 c = search needs
+shared-slice-read-t25 c = omega arith
 
 join-requires : tie.Need-join-requires
 join-requires c κs = search needs
