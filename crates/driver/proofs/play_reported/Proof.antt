@@ -18,7 +18,7 @@ same-length : tie.Need-same-length
 same-length c = search needs
 
 returns : tie.Need-returns
-returns c = c .before .crpm-replay .ensures
+returns c = c .before .before .crpm-replay .ensures
 
 pub play-reported-spec : {M : Type 1} → statement M
 play-reported-spec =
