@@ -4,7 +4,8 @@
  * The calls of the proved library, as C sees them. Link with
  * target/staticlib/libcapi.a, which `rt staticlib capi` writes (x86-64 Linux).
  * What each call returns and leaves is a contract of crates/capi/src/lib.rt;
- * the definitions are in crates/capi/specs/ and crates/model/specs/.
+ * the definitions are in crates/interface/specs/ and crates/model/specs/.
+ * scripts/declarations holds this file against the sources.
  *
  * An image is the contents of the memory. A call reads the image and writes
  * what is to be done to it on a tape: operations, three words each. On a

@@ -1,16 +1,16 @@
 //! The C interface of the proved library, with safe wrappers.
 //!
-//! Nothing checks these declarations against the library's source; the
-//! `differential` program compares every call with the reference. A slice is a
-//! pointer and a length, all other numbers are 64 bits, each function returns
-//! the answer's number. The names are the library's: main (document 01:
+//! `scripts/declarations` holds these declarations against the library's source
+//! and include/crpm.h; the `differential` program compares every call with the
+//! reference. A slice is a pointer and a length, all other numbers are 64 bits,
+//! each function returns the answer's number. The names are the library's: main (document 01:
 //! level), backup (spare), block (frame), checkpoint (save, saved), replay
 //! (player), format (laying-out).
 
 use crate::calls::*;
 
 extern "C" {
-    fn crpm_format(image: *mut u8, length: usize, mains: u64, backups: u64, blocks: u64) -> u64;
+    fn crpm_format(image: *mut u8, image_length: usize, mains: u64, backups: u64, blocks: u64) -> u64;
     fn crpm_open(
         image: *const u8,
         image_length: usize,
@@ -210,12 +210,15 @@ pub fn same(first: &[u8], second: &[u8], sizes: Sizes, out: &mut [u64]) -> u64 {
 /// The proved library behind the common interface.
 pub struct Library;
 
+/// Words of the results.
+const OUT_WORDS: usize = 2;
+
 /// What the results hold before a call; both words must be written.
-const UNWRITTEN: [u64; 2] = [u64::MAX; 2];
+const UNWRITTEN: [u64; OUT_WORDS] = [u64::MAX; OUT_WORDS];
 
 /// The first result, where the second must be 0; else a number that no call
 /// can mean.
-fn only(out: [u64; 2]) -> u64 {
+fn only(out: [u64; OUT_WORDS]) -> u64 {
     if out[1] == 0 {
         out[0]
     } else {
