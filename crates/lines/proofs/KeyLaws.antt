@@ -14,9 +14,9 @@ use Rattle.lines.specs.Line.{mostSize, mostNumber, within, isSize, isNum
 -- ---- names
 
 -- a test for one name is the test for a key that has it
-pub named-by : (k i : ℕ) (l : Line) (w : List ℕ) {r : Bool} → k ≡ i → key i .name ≡ w → r ≡ startsWith w l → r ≡ named k l
+pub named-by : (k i : ℕ) (l : Line) (w : List ℕ) {r : Bool} → k ≡ i → r ≡ startsWith w l → key i .name ≡ w → r ≡ named k l
 unfolding named
-named-by k i l w e q h = h ∙ ap (λ (x : List ℕ). startsWith x l) (sym q ∙ ap (λ (x : ℕ). key x .name) (sym e))
+named-by k i l w e h q = h ∙ ap (λ (x : List ℕ). startsWith x l) (sym q ∙ ap (λ (x : ℕ). key x .name) (sym e))
 
 -- a key that is none of the others is the last
 past : {k : ℕ} (i : ℕ) → i ≤ k → (k ≡ i → ⊥) → suc i ≤ k

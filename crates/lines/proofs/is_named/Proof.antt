@@ -57,35 +57,35 @@ starts-with-requires-8 c κs = search needs
 
 returns : tie.Need-returns
 unfolding key text cat
-returns c = named-by _ 0 _ _ (c .before .before .match .keys1) refl (c .starts-with .ensures)
+returns c = named-by _ 0 _ _ (c .before .before .match .keys1) (c .starts-with .ensures) refl
 
 returns-2 : tie.Need-returns-2
 unfolding key text cat
-returns-2 c = named-by _ 1 _ _ (c .before .before .match .keys2) refl (c .starts-with2 .ensures)
+returns-2 c = named-by _ 1 _ _ (c .before .before .match .keys2) (c .starts-with2 .ensures) refl
 
 returns-3 : tie.Need-returns-3
 unfolding key text cat
-returns-3 c = named-by _ 2 _ _ (c .before .before .match .keys3) refl (c .starts-with3 .ensures)
+returns-3 c = named-by _ 2 _ _ (c .before .before .match .keys3) (c .starts-with3 .ensures) refl
 
 returns-4 : tie.Need-returns-4
 unfolding key text cat
-returns-4 c = named-by _ 3 _ _ (c .before .before .match .keys4) refl (c .starts-with4 .ensures)
+returns-4 c = named-by _ 3 _ _ (c .before .before .match .keys4) (c .starts-with4 .ensures) refl
 
 returns-5 : tie.Need-returns-5
 unfolding key text cat
-returns-5 c = named-by _ 4 _ _ (c .before .before .match .keys5) refl (c .starts-with5 .ensures)
+returns-5 c = named-by _ 4 _ _ (c .before .before .match .keys5) (c .starts-with5 .ensures) refl
 
 returns-6 : tie.Need-returns-6
 unfolding key text cat
-returns-6 c = named-by _ 5 _ _ (c .before .before .match .keys6) refl (c .starts-with6 .ensures)
+returns-6 c = named-by _ 5 _ _ (c .before .before .match .keys6) (c .starts-with6 .ensures) refl
 
 returns-7 : tie.Need-returns-7
 unfolding key text cat
-returns-7 c = named-by _ 6 _ _ (c .before .before .match .keys7) refl (c .starts-with7 .ensures)
+returns-7 c = named-by _ 6 _ _ (c .before .before .match .keys7) (c .starts-with7 .ensures) refl
 
 returns-8 : tie.Need-returns-8
 unfolding key text cat
-returns-8 c = named-by _ 7 _ _ (last-key _ (c .before .before .before .before .pre) (c .before .before .match .rest)) refl (c .starts-with8 .ensures)
+returns-8 c = named-by _ 7 _ _ (last-key _ (c .before .before .before .before .pre) (c .before .before .match .rest)) (c .starts-with8 .ensures) refl
 
 pub is-named-spec : {M : Type 1} → statement M
 is-named-spec =

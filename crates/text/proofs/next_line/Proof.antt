@@ -27,7 +27,7 @@ add-end c = search needs
 returns : tie.Need-returns Inv-loop μ-loop
 returns c =
     let b = c .before .before .before in
-    (omega (arith, b .loop .inv .1, line-ends (b .before .args .input .now) (b .loop .end) (omega arith) (c .if1 .taken)), omega arith)
+    (omega (arith, b .loop .inv .1, line-ends (b .before .args .input .now) (b .loop .end) (omega arith) (omega (arith, c .if1 .taken))), omega arith)
 
 loop-less : tie.Need-loop-less Inv-loop μ-loop
 loop-less c = search needs

@@ -29,7 +29,8 @@ shared-slice-read-if2-2 c = search needs
 returns-2 : tie.Need-returns-2 Inv-loop μ-loop
 returns-2 c =
     let b = c .before .before .before .before in
-    starts-not _ _ (b .loop .i) (omega arith) (omega arith) (c .if2 .taken) ∙ sym (b .loop .inv .1)
+    let a = b .before .before .args in
+    starts-not (a .name .now) (a .line .now) (b .loop .i) (omega arith) (omega arith) (omega (arith, c .if2 .taken)) ∙ sym (b .loop .inv .1)
 
 add-i : tie.Need-add-i Inv-loop μ-loop
 add-i c = search needs
