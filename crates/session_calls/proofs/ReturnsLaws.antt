@@ -2,7 +2,7 @@
 use Prim.Native.Nat.{ℕ}
 use mathlib.Core.Path.{_≡_, refl, sym, ap, _∙_, subst}
 use mathlib.Core.Logic.{_≢_}
-use mathlib.Core.Bool.{Bool, true, false, cond, _&&_, false≢true}
+use mathlib.Core.Bool.{Bool, true, false, _&&_, and-false, false≢true}
 use mathlib.Core.List.{[], _∷_}
 use lib.Dec.{eqb}
 use lib.ListN.{length}
@@ -16,11 +16,7 @@ use Rattle.model.specs.Outcome.{Outcome, Gives}
 use Rattle.model.specs.Write.{WriteArgs, writeOutcome}
 use Rattle.model.specs.Checkpoint.{checkpointOutcome}
 use Rattle.write.specs.Steps.{Writes}
-use Rattle.interface.specs.Interface.{Words, sessionWords, resultWords, misuse, wordsOf, sessionIn, outSized, bothSized, Returned, answered, misused, returned, checkpointReturned, Returns, WriteReturns}
-
-and-false : (b : Bool) → b && false ≡ false
-and-false true = refl
-and-false false = refl
+use Rattle.interface.specs.Interface.{Words, sessionWords, resultWords, misuse, wordsOf, sessionIn, outSized, bothSized, returned, checkpointReturned, Returns, WriteReturns}
 
 module _ (s out : Words) where
   -- ---- the two lengths
