@@ -5,9 +5,9 @@ use native.Mathlib.Numerals.{add-one}
 use lib.ListN.{length, length-set}
 use lib.Seq.{paste, paste-zero, paste-suc}
 use borrow.Author.Needs.{needs}
-use Rattle.printer.proofs.Laws.{appended-paste}
-use Rattle.printer.proofs.put_text.Statement.{statement}
-use Rattle.printer.proofs.put_text.Tie as tie
+use Rattle.printer.proofs.AppendedLaws.{appended-paste}
+use Rattle.printer.proofs.append_text.Statement.{statement}
+use Rattle.printer.proofs.append_text.Tie as tie
 
 abbrev Inv-loop : tie.InvT-loop
 Inv-loop out₀ from text i₀ out i = (i ≤ length text) × (length out ≡ length out₀) × (out ≡ paste out₀ from text i)
@@ -51,8 +51,8 @@ returns c =
     let e : b .i ≡ length (c .before .before .args .text .now) = omega arith in
     rw e (appended-paste _ _ _ _ (omega arith) (rw e at (b .inv .2)))
 
-pub put-text-spec : {M : Type 1} → statement M
-put-text-spec =
+pub append-text-spec : {M : Type 1} → statement M
+append-text-spec =
     tie.close
     (tie.spec
     Inv-loop

@@ -1,19 +1,16 @@
--- Laws of decimal text and of texts appended to a buffer.
+-- Laws of decimal text: the fewest digits of a number are its decimal text, and they are at most twenty.
 use Prim.Native.Nat.{ℕ, zero, suc, _+_, _-_, _/_, _%_, _^_, _≤_, _<_}
-use mathlib.Core.Path.{_≡_, refl, sym, ap, ap₂, _∙_}
+use mathlib.Core.Path.{_≡_, ap, ap₂, _∙_}
 use mathlib.Core.Bool.{Bool, cond}
-use mathlib.Core.List.{List, [], _∷_, _++_, append-assoc, append-nil}
+use mathlib.Core.List.{List, [], _∷_, _++_}
 use native.Mathlib.Omega.{arith}
 use native.Mathlib.Nat.{pow-suc, pow-le-pow-right}
 use native.Mathlib.Decide.{decLt, decLe}
 use borrow.Author.Tests.{lt-ltb, le-ltb}
 use lib.Dec.{ltb}
-use lib.ListN.{length, take, drop, length-append}
-use lib.Seq.{paste, take-paste, take-all, length-paste, drop-drop, drop-paste}
+use lib.ListN.{length, length-append}
 use Rattle.io.specs.Digits.{digits, glyph, Fewest}
-use Rattle.printer.specs.Decimal.{decimalIn, decimal, Appended}
-
--- ---- decimal text
+use Rattle.printer.specs.Decimal.{numberSize, decimalIn, decimal}
 
 -- a digit below ten
 glyph-low : (d : ℕ) → d < 10 → glyph d ≡ 48 + d
@@ -34,7 +31,7 @@ digits-in (suc k) (suc r) n h l m =
     (ap₂ (λ (x : List ℕ) (d : ℕ). x ++ d ∷ []) (digits-in k r (n / 10) (omega arith) a (λ z. b)) (glyph-low (n % 10) (omega arith)))
 
 -- a number of 64 bits has at most twenty digits
-pub fewest-most : (n r : ℕ) → Fewest 10 1 n r → n < 2 ^ 64 → r ≤ 20
+pub fewest-most : (n r : ℕ) → Fewest 10 1 n r → n < 2 ^ 64 → r ≤ numberSize
 fewest-most n r f h = go (decLe r 20)
   where
     go : Dec (r ≤ 20) → r ≤ 20
@@ -57,37 +54,6 @@ length-decimal-in (suc k) n = go (length-decimal-in k (n / 10)) (decLt n 10)
     go m (yes q) = rw (lt-ltb n 10 q) (omega arith)
     go m (no q) = rw (le-ltb n 10 (omega arith)) (omega (arith, length-append (decimalIn k (n / 10)) ((48 + n % 10) ∷ [])))
 
-pub length-decimal : (n : ℕ) → length (decimal n) ≤ 20
+pub length-decimal : (n : ℕ) → length (decimal n) ≤ numberSize
 unfolding decimal
-length-decimal n = length-decimal-in 20 n
-
--- ---- texts appended
-
--- nothing
-pub appended-none : (a : List ℕ) (p : ℕ) → Appended a p [] a p
-appended-none a p = record { place = omega arith; size = refl; holds = sym (append-nil (take p a)); rest = refl }
-
--- one text, then another
-pub appended-then : {a b c t u : List ℕ} {p q r : ℕ} → Appended a p t b q → Appended b q u c r → Appended a p (t ++ u) c r
-appended-then {a} {b} {c} {t} {u} {p} {q} {r} f g = record {
-  place = omega (arith, length-append t u, f .place, g .place);
-  size = g .size ∙ f .size;
-  holds = g .holds ∙ ap (λ (x : List ℕ). x ++ u) (f .holds) ∙ append-assoc (take p a) t u;
-  rest = g .rest ∙ further b ∙ ap (λ (x : List ℕ). drop (length u) x) (f .rest) ∙ sym (further a);
-}
-  where
-    further : (l : List ℕ) → drop r l ≡ drop (length u) (drop q l)
-    further l = ap (λ (k : ℕ). drop k l) (g .place) ∙ sym (drop-drop (length u) q l)
-
--- the same text by another name
-pub appended-as : {a b t u : List ℕ} {p q : ℕ} → t ≡ u → Appended a p t b q → Appended a p u b q
-appended-as e f = rw e at f
-
--- a text pasted behind the place p
-pub appended-paste : (a t b : List ℕ) (p : ℕ) → p + length t ≤ length a → b ≡ paste a p t (length t) → Appended a p t b (p + length t)
-appended-paste a t b p h e = record {
-  place = refl;
-  size = ap (λ (x : List ℕ). length x) e ∙ length-paste a p t (length t) h (omega arith);
-  holds = ap (λ (x : List ℕ). take (p + length t) x) e ∙ take-paste a p t (length t) (omega arith) (omega arith) ∙ ap (λ (x : List ℕ). take p a ++ x) (take-all (length t) t (omega arith));
-  rest = ap (λ (x : List ℕ). drop (p + length t) x) e ∙ drop-paste a p t (length t) (omega arith) (omega arith);
-}
+length-decimal n = length-decimal-in numberSize n
