@@ -5,7 +5,7 @@ use mathlib.Core.List.{List, [], _++_, append-assoc, append-nil}
 use native.Mathlib.Omega.{arith}
 use lib.ListN.{length, take, drop, length-append}
 use lib.Seq.{paste, take-paste, take-all, length-paste, drop-drop, drop-paste}
-use Rattle.printer.specs.Decimal.{Appended}
+use Rattle.printer.specs.Decimal.{decimal, Appended}
 
 -- nothing
 pub appended-none : (a : List ℕ) (p : ℕ) → Appended a p [] a p
@@ -26,6 +26,10 @@ appended-then {a} {b} {c} {t} {u} {p} {q} {r} f g = record {
 -- the same text by another name
 pub appended-as : {a b t u : List ℕ} {p q : ℕ} → t ≡ u → Appended a p t b q → Appended a p u b q
 appended-as e f = rw e at f
+
+-- a number between two texts, each by another name
+pub number-text : (n : ℕ) (k k′ t t′ : List ℕ) → k ≡ k′ → t ≡ t′ → k ++ decimal n ++ t ≡ k′ ++ decimal n ++ t′
+number-text n k k′ t t′ e f = rw (e, f)
 
 -- a text pasted behind the place p
 pub appended-paste : (a t b : List ℕ) (p : ℕ) → p + length t ≤ length a → b ≡ paste a p t (length t) → Appended a p t b (p + length t)

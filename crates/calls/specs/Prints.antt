@@ -1,15 +1,16 @@
 -- What a bench sheet prints (document 01: "The bench sheet"), by the outcomes and steps of a module in a history. Document 01
 -- leaves open which free backup segment a write takes, so what is printed is said for some permitted choice at each write.
 -- Assumes nothing.
-use Prim.Native.Nat.{ℕ, suc, _+_}
+use Prim.Native.Nat.{ℕ, suc, _+_, _*_}
 use Prim.Native.String.{String}
 use mathlib.Core.Bool.{Bool, cond}
 use mathlib.Core.List.{List, [], _∷_, _++_}
 use lib.ListN.{length, replicate}
 use Rattle.model.specs.declared.Layout.{Layout}
+use Rattle.model.specs.Layout.{blockOps}
 use Rattle.model.specs.Container.{committedEpoch}
 use Rattle.model.specs.Format.{formatted}
-use Rattle.model.specs.Ops.{Trace}
+use Rattle.model.specs.Ops.{opNumbers, Trace}
 use Rattle.model.specs.Outcome.{Outcome}
 use Rattle.model.specs.Open.{openOutcome}
 use Rattle.model.specs.Write.{writeArgsOf}
@@ -18,12 +19,17 @@ use Rattle.text.specs.Text.{text}
 use Rattle.parser.specs.Script.{Script, bad, good, Group}
 use Rattle.printer.specs.Decimal.{decimal}
 
--- the trace that every call gets: for sizes up to 4 it always suffices (an opening has at most 36 · 4 · 4 + 1 operations)
-abbrev pub room : ℕ
-room = 1731
+-- the most main segments, backup segments and blocks of a sheet's image
+abbrev pub mostSize : ℕ
+mostSize = 4
+
+-- the trace that every call gets: its numbers are those of the most operations of an opening, which always suffice
+-- (TraceSuffices.antt)
+abbrev pub traceNumbers : ℕ
+traceNumbers = opNumbers * (blockOps * (mostSize * mostSize) + 1)
 
 unfoldable pub blank : Trace
-blank = replicate room 0
+blank = replicate traceNumbers 0
 
 -- ---- a call's answer
 

@@ -14,10 +14,10 @@ use Rattle.model.specs.Format.{formatted, formatOutcome}
 use Rattle.model.specs.History.{Device, callOpen, openedImage, deviceStep, start}
 use Rattle.text.specs.Text.{text}
 use Rattle.printer.specs.Decimal.{Appended}
-use Rattle.printer.proofs.Laws.{appended-then}
-use Rattle.script.specs.declared.Ran.{Ran}
-use Rattle.script.specs.Prints.{blank, openText}
-use Rattle.script.specs.Ran.{CallRan, Opened}
+use Rattle.printer.proofs.AppendedLaws.{appended-then}
+use Rattle.calls.specs.declared.Ran.{Ran}
+use Rattle.calls.specs.Prints.{blank, openText}
+use Rattle.calls.specs.Ran.{CallRan, Opened}
 
 -- a format of a right length with right sizes is served
 pub formats : (l : Layout) (I J : Image) → sizesOk l ≡ true → length I ≡ imageSize l → J ≡ formatOutcome l I .image → J ≡ formatted l
@@ -28,12 +28,12 @@ formats l I J s e f = rw (s, eq-eqb (length I) (imageSize l) e) at f
 abbrev standing : Layout → Image → Session → Device
 standing l I s = record { layout = l; durable = I; played = []; image = I; session = s }
 
-pub opened : (l : Layout) (I : Image) (s : Session) (out out₁ out₂ : List ℕ) (p : ℕ) (I′ : Image) (w r : Ran) → I ≡ formatted l
-    → CallRan I s (callOpen l blank) "open=" out p I′ out₁ w
+pub opened : (l : Layout) (I : Image) (s : Session) (out out₁ out₂ : List ℕ) (I′ : Image) (w r : Ran) → I ≡ formatted l
+    → CallRan I (record { session = s; place = 0 }) (callOpen l blank) "open=" out I′ out₁ w
     → Appended out₁ (w .place) (text "\n") out₂ (r .place)
     → r .session ≡ w .session
-    → Opened l out p I′ out₂ r
+    → Opened l out I′ out₂ r
 unfolding openText deviceStep start openedImage
-opened l I s out out₁ out₂ p I′ w r e a b es =
+opened l I s out out₁ out₂ I′ w r e a b kept =
     let x = (rw e at a) (standing l (formatted l) s) (refl, refl) in
-    (appended-then (x .1) b, (x .2 .0, x .2 .1 ∙ sym es))
+    (appended-then (x .1) b, (x .2 .0, x .2 .1 ∙ sym kept))
