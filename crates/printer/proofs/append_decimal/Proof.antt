@@ -1,6 +1,10 @@
-use mathlib.Core.Path.{_∙_}
+use Prim.Native.Nat.{ℕ, _+_}
+use mathlib.Core.Path.{_≡_, ap, _∙_}
+use mathlib.Core.List.{List}
 use native.Mathlib.Omega.{arith}
+use lib.ListN.{length}
 use borrow.Author.Needs.{needs}
+use Rattle.printer.specs.Decimal.{decimal}
 use Rattle.printer.proofs.DecimalLaws.{fewest-most, digits-decimal, length-decimal}
 use Rattle.printer.proofs.AppendedLaws.{appended-as}
 use Rattle.printer.proofs.append_decimal.Statement.{statement}
@@ -30,8 +34,8 @@ returns c =
     let d = p .before .before .before .decimal in
     let s = p .before .before .before .before .before .before in
     let e = d .ensures .1 .1 ∙ digits-decimal (s .args .n) (d .result) (d .ensures .1 .0) (s .fits .n .fits) in
-    let g = appended-as e (p .append-text .ensures) in
-    (g, omega (arith, g .place, length-decimal (s .args .n)))
+    let place : p .append-text .result ≡ s .args .from + length (decimal (s .args .n)) = p .append-text .ensures .place ∙ ap (λ (t : List ℕ). s .args .from + length t) e in
+    (appended-as e (p .append-text .ensures), omega (arith, place, length-decimal (s .args .n)))
 
 pub append-decimal-spec : {M : Type 1} → statement M
 append-decimal-spec =
