@@ -15,7 +15,7 @@ ghost use Rattle.calls.specs.Ran.{answerSize, callSize, answerOf, groupO
 pub const MOST_SIZE: u64 = 4;
 
 // The numbers of the trace that every call gets, enough for an opening that copies every main segment whole.
-const TRACE_NUMBERS: usize = 3 * (Layout::BLOCK_OPS * MOST_SIZE * MOST_SIZE + 1) as usize;
+const TRACE_NUMBERS: usize = trace::OP_NUMBERS * (Layout::BLOCK_OPS * MOST_SIZE * MOST_SIZE + 1) as usize;
 
 // What a part of a sheet's run leaves: the session, and the place behind the printed text.
 pub struct Ran {
