@@ -7,7 +7,8 @@ use lib.ListN.{length, length-replicate}
 use Rattle.model.specs.declared.Layout.{Layout}
 use Rattle.model.proofs.Laws.Format.{formatted-accepted}
 use Rattle.model.proofs.Laws.TraceLength.{write-trace-suffices, checkpoint-trace-suffices}
-use Rattle.calls.specs.Prints.{mostSize, traceNumbers, blank}
+use Rattle.lines.specs.Line.{mostSize}
+use Rattle.calls.specs.Prints.{traceNumbers, blank}
 use Rattle.calls.specs.TraceSuffices.{SheetSizes, TraceSuffices}
 
 blank-long : length blank ≡ traceNumbers

@@ -16,12 +16,9 @@ use Rattle.model.specs.Open.{openOutcome}
 use Rattle.model.specs.Write.{writeArgsOf}
 use Rattle.model.specs.History.{Device, Call, callWrite, callCheckpoint, outcome, deviceStep, start, Permitted}
 use Rattle.text.specs.Text.{text}
+use Rattle.lines.specs.Line.{mostSize}
 use Rattle.parser.specs.Script.{Script, bad, good, Group}
 use Rattle.printer.specs.Decimal.{decimal}
-
--- the most main segments, backup segments and blocks of a sheet's image
-abbrev pub mostSize : ℕ
-mostSize = 4
 
 -- the trace that every call gets: its numbers are those of the most operations of an opening, which always suffice
 -- (TraceSuffices.antt)

@@ -10,7 +10,8 @@ use Rattle.model.specs.Format.{formatted}
 use Rattle.model.specs.Open.{openStatus}
 use Rattle.model.specs.Write.{WriteArgs, writeStatus}
 use Rattle.model.specs.Checkpoint.{checkpointStatus}
-use Rattle.calls.specs.Prints.{mostSize, blank}
+use Rattle.lines.specs.Line.{mostSize}
+use Rattle.calls.specs.Prints.{blank}
 
 -- the sizes of a sheet's image
 pub record SheetSizes (l : Layout) : Type 0 where

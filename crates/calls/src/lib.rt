@@ -11,11 +11,9 @@ ghost use Rattle.printer.specs.Decimal.{Appended};
 ghost use Rattle.calls.specs.Prints.{writeOf};
 ghost use Rattle.calls.specs.Ran.{answerSize, callSize, answerOf, groupOfParts, Opened, CallRan, CheckpointRan};
 
-// The most main segments, backup segments and blocks of a sheet's image.
-pub const MOST_SIZE: u64 = 4;
-
 // The numbers of the trace that every call gets, enough for an opening that copies every main segment whole.
-const TRACE_NUMBERS: usize = trace::OP_NUMBERS * (Layout::BLOCK_OPS * MOST_SIZE * MOST_SIZE + 1) as usize;
+const TRACE_NUMBERS: usize = trace::OP_NUMBERS
+    * (Layout::BLOCK_OPS * lines::MOST_SIZE * lines::MOST_SIZE + 1) as usize;
 
 // What a part of a sheet's run leaves: the session, and the place behind the printed text.
 pub struct Ran {

@@ -9,11 +9,11 @@ use borrow.Author.Tests.{le-leb}
 use Rattle.model.specs.declared.Layout.{Layout}
 use Rattle.model.specs.Layout.{wordSize, blockSize, most, sizesOk, inRange, imageSize}
 use Rattle.text.specs.Text.{linesOf}
+use Rattle.lines.specs.Line.{mostSize}
 use Rattle.parser.specs.Script.{Script, good, Group, firstBad, groupsOf, blocksLine, judged}
 use Rattle.parser.specs.declared.HeaderAt.{HeaderAt}
 use Rattle.parser.specs.Read.{ReadsHeader}
 use Rattle.parser.proofs.SizeLaws.{GoodSizes, good-sizes}
-use Rattle.calls.specs.Prints.{mostSize}
 use Rattle.calls.specs.TraceSuffices.{SheetSizes}
 use Rattle.script.specs.SheetRan.{mostImage, GoodFrom, groupsFrom, ScriptRan}
 

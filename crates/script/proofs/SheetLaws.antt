@@ -13,8 +13,11 @@ use Rattle.printer.specs.Decimal.{decimal, Appended}
 use Rattle.calls.specs.Prints.{Prints, refused}
 use Rattle.script.specs.SheetRan.{ScriptRan}
 
--- the fixed text of a bad sheet by its bytes
-pub sheet-text : 115 ∷ 104 ∷ 101 ∷ 101 ∷ 116 ∷ 61 ∷ [] ≡ text "sheet="
+-- the bytes that the code has are the text of a bad sheet
+abbrev pub sheetBytes : List ℕ
+sheetBytes = 115 ∷ 104 ∷ 101 ∷ 101 ∷ 116 ∷ 61 ∷ []
+
+pub sheet-text : sheetBytes ≡ text "sheet="
 unfolding text cat
 sheet-text = refl
 

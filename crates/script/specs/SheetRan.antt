@@ -8,10 +8,11 @@ use Rattle.model.specs.Words.{Image}
 use Rattle.model.specs.Layout.{metadataSize, blockSize}
 use Rattle.model.specs.History.{Device}
 use Rattle.text.specs.Text.{linesOf}
+use Rattle.lines.specs.Line.{mostSize}
 use Rattle.parser.specs.Script.{mostBytes, Script, Group, groupKey, firstBad, groupsOf}
 use Rattle.printer.specs.Decimal.{Appended}
 use Rattle.calls.specs.declared.Ran.{Ran}
-use Rattle.calls.specs.Prints.{mostSize, GroupsPrint, Prints}
+use Rattle.calls.specs.Prints.{GroupsPrint, Prints}
 use Rattle.calls.specs.Ran.{DeviceAt}
 use Rattle.group.specs.GroupRan.{groupSize, GroupRan}
 use Rattle.script.specs.declared.Progress.{Progress}

@@ -26,7 +26,7 @@ pub const MOST_TEXT: usize = 6 * MOST_BYTES;
 
 // The bytes of the largest image of a sheet.
 const IMAGE_SIZE: usize = (Layout::METADATA_SIZE
-    + Layout::BLOCK_SIZE * calls::MOST_SIZE * (calls::MOST_SIZE + calls::MOST_SIZE)) as usize;
+    + Layout::BLOCK_SIZE * lines::MOST_SIZE * (lines::MOST_SIZE + lines::MOST_SIZE)) as usize;
 
 // The most bytes of a write.
 const SPAN_SIZE: usize = Layout::BLOCK_SIZE as usize;

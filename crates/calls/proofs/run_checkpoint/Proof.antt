@@ -1,8 +1,10 @@
-use mathlib.Core.Path.{refl}
+use mathlib.Core.Path.{_≡_, refl}
+use mathlib.Core.Bool.{true, false}
 use native.Mathlib.Omega.{arith}
 use borrow.Author.Tests.{not-true, not-false}
 use borrow.Author.Needs.{needs}
 use Rattle.printer.proofs.AppendedLaws.{appended-as}
+use Rattle.calls.specs.declared.Ran.{Ran}
 use Rattle.calls.specs.Prints.{blank}
 use Rattle.calls.proofs.Texts.{save-text, no-save-text}
 use Rattle.calls.proofs.CallLaws.{checkpoint-made, checkpoint-none}
@@ -22,7 +24,8 @@ returns : tie.Need-returns
 returns c =
     let p = c .before .before in
     let a = p .before .before .before .before .before .before .before .args in
-    (checkpoint-none _ (a .ran) _ _ _ _ _ (not-true _ (p .before .before .before .before .if1 .taken)) refl refl (appended-as no-save-text (p .append-text .ensures)), omega arith)
+    let unwanted : a .wanted ≡ false = not-true (a .wanted) (p .before .before .before .before .if1 .taken) in
+    (checkpoint-none _ (a .ran) _ _ _ _ _ unwanted refl refl (appended-as no-save-text (p .append-text .ensures)), omega arith)
 
 slice-aggregate-step-checkpoint : tie.Need-slice-aggregate-step-checkpoint
 slice-aggregate-step-checkpoint c = search needs
@@ -50,11 +53,11 @@ unfolding blank
 returns-2 c =
     let p = c .before .before in
     let w = p .before .before .before .before .before .before .before .before in
-    let a = w .before .before .before .before .before .before .args in (
-      checkpoint-made _ (a .ran) _ (w .step-checkpoint .result) _ _ _ _ _ (p .before .code .result) _ (not-false _ (w .before .before .before .if1 .left))
-          (w .step-checkpoint .ensures) refl save-text (p .before .code .ensures) (p .append-answer .ensures .0),
-      omega arith,
-    )
+    let a = w .before .before .before .before .before .before .args in
+    let wanted : a .wanted ≡ true = not-false (a .wanted) (w .before .before .before .if1 .left) in
+    let r : Ran = record { session = w .step-checkpoint .result .session; place = p .append-answer .result } in
+    let q = checkpoint-made _ (a .ran) _ (w .step-checkpoint .result) _ _ _ _ _ (p .before .code .result) r wanted (w .step-checkpoint .ensures) refl save-text (p .before .code .ensures) (p .append-answer .ensures .0) in
+    (λ d «is». let x = q d «is» in (x .0, (x .1 .0, x .1 .1)), omega arith)
 
 pub run-checkpoint-spec : {M : Type 1} → statement M
 run-checkpoint-spec =

@@ -3,9 +3,11 @@ use native.Mathlib.Omega.{arith}
 use borrow.Author.Needs.{needs}
 use Rattle.model.specs.Session.{zeroSession}
 use Rattle.model.specs.History.{callOpen}
+use Rattle.driver.specs.Stepped.{Stepped}
+use Rattle.printer.specs.Decimal.{Appended}
 use Rattle.printer.proofs.AppendedLaws.{appended-as}
 use Rattle.calls.specs.Prints.{blank}
-use Rattle.calls.proofs.Texts.{open-text, line-end-text}
+use Rattle.calls.proofs.Texts.{lineEndBytes, open-text, line-end-text}
 use Rattle.calls.proofs.CallLaws.{call-ran}
 use Rattle.calls.proofs.OpenLaws.{formats, opened}
 use Rattle.calls.proofs.run_open.Statement.{statement}
@@ -49,12 +51,14 @@ returns c =
     let o = a .before .before .before .before .before .before .before .before in
     let f = o .before .before .before .before .before in
     let s = f .before .before .before .before in
-    let l = s .args .layout in (
+    let l = s .args .layout in
+    let step : Stepped (f .crpm-format .last .0) zeroSession (callOpen l blank) (o .step-open .result) (o .step-open .last .1 .1 .1 .1 .0) (o .step-open .last .0) = o .step-open .ensures zeroSession in
+    let line : Appended (a .append-answer .last .0) (a .append-answer .result) lineEndBytes (e .append-text .last .0) (e .append-text .result) = e .append-text .ensures in (
       opened l _ zeroSession _ _ _ _ (record { session = o .step-open .result .session; place = a .append-answer .result }) _
           (formats l (s .args .image .now) _ (s .pre .1) (s .pre .0) (f .crpm-format .ensures .1))
           (call-ran "open=" (callOpen l blank) _ (record { session = zeroSession; place = 0 }) (o .step-open .result) _ _ _ _ _ (a .before .code .result) _
-          (o .step-open .ensures zeroSession) refl open-text (a .before .code .ensures) (a .append-answer .ensures .0))
-          (appended-as line-end-text (e .append-text .ensures)) refl,
+          step refl open-text (a .before .code .ensures) (a .append-answer .ensures .0))
+          (appended-as line-end-text line) refl,
       omega (arith, a .append-answer .ensures .1),
     )
 

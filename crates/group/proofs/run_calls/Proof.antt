@@ -1,6 +1,7 @@
 use native.Mathlib.Omega.{arith}
 use borrow.Author.Needs.{needs}
-use Rattle.calls.specs.Ran.{groupOfParts}
+use Rattle.calls.specs.Prints.{writeOf}
+use Rattle.calls.specs.Ran.{groupOfParts, CallRan, CheckpointRan}
 use Rattle.group.proofs.GroupLaws.{calls-ran}
 use Rattle.group.proofs.run_calls.Statement.{statement}
 use Rattle.group.proofs.run_calls.Tie as tie
@@ -22,8 +23,11 @@ returns c =
     let k = c .before .before .before .before in
     let w = k .before .before .before .before .before .before .before in
     let a = w .before .before .before .before .before .before .args in
+    let g = groupOfParts (a .parts) (a .bytes .now) in
     let e = w .run-write .ensures .0 in
-    (calls-ran _ (a .ran) (groupOfParts (a .parts) (a .bytes .now)) (e .0) _ _ _ (w .run-write .result) _ _ _ (e .1) (k .run-checkpoint .ensures .0), omega arith)
+    let out = w .run-write .last .1 .1 .1 .1 .0 in
+    let last : CheckpointRan (w .run-write .last .0) (w .run-write .result) (a .parts .checkpoint) out (k .run-checkpoint .last .0) (k .run-checkpoint .last .1 .1 .1 .0) (k .run-checkpoint .result) = k .run-checkpoint .ensures .0 in
+    (calls-ran _ (a .ran) g (e .0) _ _ _ (w .run-write .result) _ _ _ (e .1) last, omega arith)
 
 pub run-calls-spec : {M : Type 1} → statement M
 run-calls-spec =

@@ -1,10 +1,12 @@
 use mathlib.Core.Path.{refl}
+use mathlib.Core.List.{_++_}
 use native.Mathlib.Omega.{arith}
 use borrow.Author.Needs.{needs}
+use Rattle.printer.specs.Decimal.{decimal, Appended}
 use Rattle.printer.proofs.AppendedLaws.{appended-as, number-text}
 use Rattle.calls.specs.Ran.{groupOfParts}
-use Rattle.calls.proofs.Texts.{line-end-text}
-use Rattle.group.proofs.Texts.{step-text, space-text, epoch-text}
+use Rattle.calls.proofs.Texts.{lineEndBytes, line-end-text}
+use Rattle.group.proofs.Texts.{epochBytes, step-text, space-text, epoch-text}
 use Rattle.group.proofs.GroupLaws.{group-ran}
 use Rattle.group.proofs.run_group.Statement.{statement}
 use Rattle.group.proofs.run_group.Tie as tie
@@ -48,10 +50,12 @@ returns c =
     let w = e .before .before .before .before in
     let v = w .before .before .before .before .before .before in
     let t = v .before .before .before .before .before in
-    let a = t .before .before .before .before .before .before .before .before .args in (
-      group-ran _ (a .ran) (a .n) (groupOfParts (a .parts) (a .bytes .now)) _ _ _ _ _ (record { session = a .ran .session; place = t .append-number .result }) (v .run-calls .result) _ _ refl
+    let a = t .before .before .before .before .before .before .before .before .args in
+    let epoch = w .word-at .result in
+    let last : Appended (v .run-calls .last .1 .1 .1 .1 .0) (v .run-calls .result .place) (epochBytes ++ decimal epoch ++ lineEndBytes) (e .append-number2 .last .0) (e .append-number2 .result) = e .append-number2 .ensures .0 in (
+      group-ran _ (a .ran) (a .n) (groupOfParts (a .parts) (a .bytes .now)) _ _ _ _ epoch (record { session = a .ran .session; place = t .append-number .result }) (v .run-calls .result) _ _ refl
           (appended-as (number-text (a .n) _ _ _ _ step-text space-text) (t .append-number .ensures .0)) (v .run-calls .ensures .0) (w .word-at .ensures)
-          (appended-as (number-text (w .word-at .result) _ _ _ _ epoch-text line-end-text) (e .append-number2 .ensures .0)) refl,
+          (appended-as (number-text epoch _ _ _ _ epoch-text line-end-text) last) refl,
       omega (arith, t .append-number .ensures .1, v .run-calls .ensures .1),
     )
 

@@ -1,3 +1,4 @@
+use Prim.Native.Nat.{_+_}
 use mathlib.Core.Path.{refl, sym}
 use native.Mathlib.Omega.{arith}
 use native.Mathlib.Numerals.{add-one}
@@ -55,8 +56,10 @@ returns c =
     let d = u .before .before .before .before .before in
     let g = d .before .before .before in
     let s = g .before .before .before .before in
-    next-ran (s .args .input .now) (s .args .progress) (s .pre .0 .1) (s .pre .0 .2) (g .group-at .result) (g .group-at .ensures)
-    _ (s .args .image .now) _ (u .run-group .last .0) _ _ (d .decode-bytes .ensures .bytes) refl (add-one (s .args .progress .n)) (u .run-group .ensures .0) (u .run-group .ensures .1)
+    let x = next-ran (s .args .input .now) (s .args .progress) (s .pre .0 .1) (s .pre .0 .2) (g .group-at .result) (g .group-at .ensures)
+    _ (s .args .image .now) _ (u .run-group .last .0) _ (record { ran = u .run-group .result; «at» = g .group-at .result .next; n = s .args .progress .n + 1 })
+    (d .decode-bytes .ensures .bytes) refl (add-one (s .args .progress .n)) (u .run-group .ensures .0) (u .run-group .ensures .1) in
+    record { group = x .group; groups = x .groups; good = x .good; far = x .far; count = x .count; ran = x .ran; short = x .short }
 
 pub run-next-spec : {M : Type 1} → statement M
 run-next-spec =

@@ -1,10 +1,14 @@
+use Prim.Native.Nat.{_<_}
 use mathlib.Core.Path.{sym, _∙_}
+use mathlib.Core.List.{_++_}
+use lib.ListN.{length}
 use borrow.Author.Needs.{needs}
 use Rattle.text.specs.Text.{linesOf}
-use Rattle.parser.specs.Script.{bad, judged}
+use Rattle.parser.specs.Script.{mostBytes, bad, judged}
+use Rattle.printer.specs.Decimal.{decimal, Appended}
 use Rattle.printer.proofs.AppendedLaws.{appended-as, number-text}
-use Rattle.calls.proofs.Texts.{line-end-text}
-use Rattle.script.proofs.SheetLaws.{sheet-text, parse-long, parse-short, refused-ran, sheet-ran, sheet-bad}
+use Rattle.calls.proofs.Texts.{lineEndBytes, line-end-text}
+use Rattle.script.proofs.SheetLaws.{sheetBytes, sheet-text, parse-long, parse-short, refused-ran, sheet-ran, sheet-bad}
 use Rattle.script.proofs.run_sheet.Statement.{statement}
 use Rattle.script.proofs.run_sheet.Tie as tie
 
@@ -20,7 +24,8 @@ append-number-requires c κs = search needs
 returns : tie.Need-returns
 returns c =
     let i = c .before .before .before .before .before .before .args .input .now in
-    sheet-ran i (bad 0) _ _ _ (parse-long i (c .before .before .before .before .if1 .taken))
+    let long : mostBytes < length i = c .before .before .before .before .if1 .taken in
+    sheet-ran i (bad 0) _ _ _ (parse-long i long)
     (refused-ran 0 _ _ _ (appended-as (number-text 0 _ _ _ _ sheet-text line-end-text) (c .append-number .ensures .0)))
 
 first-bad-requires : tie.Need-first-bad-requires
@@ -39,8 +44,9 @@ returns-2 : tie.Need-returns-2
 returns-2 c =
     let i = c .before .before .before .before .before .before .before .before .args .input .now in
     let b = c .before .before .before .before .before .first-bad in
+    let line : Appended (c .before .before .before .before .before .before .before .before .args .out .now) 0 (sheetBytes ++ decimal (b .result) ++ lineEndBytes) (c .append-number2 .last .0) (c .append-number2 .result) = c .append-number2 .ensures .0 in
     sheet-bad i (b .result) _ _ _ (c .before .before .before .before .before .before .if1 .left) (b .ensures) (c .before .before .before .before .if2 .taken)
-    (appended-as (number-text (b .result) _ _ _ _ sheet-text line-end-text) (c .append-number2 .ensures .0))
+    (appended-as (number-text (b .result) _ _ _ _ sheet-text line-end-text) line)
 
 run-good-requires : tie.Need-run-good-requires
 run-good-requires c κs = search needs
