@@ -10,7 +10,7 @@ ghost use Rattle.lines.specs.Read.{ReadsValue};
 // The most hexadecimal digits of a value, the largest size, the largest number of three digits.
 const MOST_DIGITS: usize = 512;
 
-const MOST_SIZE: u64 = 4;
+pub const MOST_SIZE: u64 = 4;
 
 const MOST_NUMBER: u64 = 999;
 

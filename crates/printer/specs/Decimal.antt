@@ -11,9 +11,12 @@ unfoldable pub decimalIn : ℕ → ℕ → List ℕ
 decimalIn zero n = []
 decimalIn (suc k) n = cond (ltb n 10) ((48 + n) ∷ []) (decimalIn k (n / 10) ++ (48 + n % 10) ∷ [])
 
--- twenty hold every number of 64 bits
+-- digits that hold every number of 64 bits
+abbrev pub numberSize : ℕ
+numberSize = 20
+
 unfoldable pub decimal : ℕ → List ℕ
-decimal n = decimalIn 20 n
+decimal n = decimalIn numberSize n
 
 -- a buffer that held a text up to the place p now holds that text and another behind it, up to the place q; what stands behind is
 -- as it was

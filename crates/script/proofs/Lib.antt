@@ -1,9 +1,4 @@
-pub mod Texts
-pub mod TraceLength
-pub mod CallLaws
-pub mod GroupLaws
-pub mod OpenLaws
 pub mod NextLaws
 pub mod Story
+pub mod HeaderLaws
 pub mod SheetLaws
-pub mod Room

@@ -3,35 +3,36 @@ use Prim.Native.Nat.{ℕ, suc}
 use mathlib.Core.Path.{_≡_, subst, sym}
 use mathlib.Core.List.{List, [], _∷_, _++_, append-assoc, append-nil}
 use Rattle.model.specs.declared.Layout.{Layout}
-use Rattle.model.specs.declared.Session.{Session}
 use Rattle.model.specs.Words.{Image}
 use Rattle.model.specs.Format.{formatted}
 use Rattle.model.specs.History.{Device, start}
 use Rattle.parser.specs.Script.{good, Group}
 use Rattle.printer.specs.Decimal.{Appended}
-use Rattle.printer.proofs.Laws.{appended-none, appended-then}
-use Rattle.script.specs.declared.Ran.{Ran}
-use Rattle.script.specs.Prints.{blank, afterGroup, groupText, GroupsPrint, none, more, openText, ran}
-use Rattle.script.specs.Ran.{Stands, Opened, GroupRan, GroupsRan, ScriptRan}
+use Rattle.printer.proofs.AppendedLaws.{appended-none, appended-then}
+use Rattle.calls.specs.declared.Ran.{Ran}
+use Rattle.calls.specs.Prints.{blank, afterGroup, groupText, GroupsPrint, none, more, openText, ran}
+use Rattle.calls.specs.Ran.{DeviceAt, Opened}
+use Rattle.group.specs.GroupRan.{GroupRan}
+use Rattle.script.specs.SheetRan.{GroupsRan, ScriptRan}
 
--- the groups gs were to be run from the image I, the session s and the place p of the buffer on; the groups gs′ are left, the
--- first of which has the number n, with I′, s′ and the place q
-abbrev pub Story : Image → Session → List Group → List ℕ → ℕ → Image → Session → ℕ → List Group → List ℕ → ℕ → Type 0
-Story I s gs out p I′ s′ n gs′ out′ q =
-    (d : Device) → Stands d I s
-    → (done : List ℕ) × Appended out p done out′ q
-    × ((k : Device) × Stands k I′ s′ × ((rest : List ℕ) → GroupsPrint k n gs′ rest → GroupsPrint d 1 gs (done ++ rest)))
+-- the groups gs were to be run from the image I, the session and the place of `a` on; the groups gs′ are left, the first of which
+-- has the number n, with I′ and `b`
+abbrev pub Story : Image → Ran → List Group → List ℕ → Image → Ran → ℕ → List Group → List ℕ → Type 0
+Story I a gs out I′ b n gs′ out′ =
+    (d : Device) → DeviceAt d I (a .session)
+    → (done : List ℕ) × Appended out (a .place) done out′ (b .place)
+    × ((k : Device) × DeviceAt k I′ (b .session) × ((rest : List ℕ) → GroupsPrint k n gs′ rest → GroupsPrint d 1 gs (done ++ rest)))
 
-module _ (I : Image) (s : Session) (gs : List Group) (out : List ℕ) (p : ℕ) where
-  pub story-none : Story I s gs out p I s 1 gs out p
-  story-none d stands = ([], appended-none out p, (d, stands, λ rest x. x))
+module _ (I : Image) (a : Ran) (gs : List Group) (out : List ℕ) where
+  pub story-none : Story I a gs out I a 1 gs out
+  story-none d «is» = ([], appended-none out (a .place), (d, «is», λ rest x. x))
 
-  module _ (I′ : Image) (s′ : Session) (n : ℕ) (gs′ : List Group) (out′ : List ℕ) (q : ℕ) (story : Story I s gs out p I′ s′ n gs′ out′ q) where
+  module _ (I′ : Image) (b : Ran) (n : ℕ) (gs′ : List Group) (out′ : List ℕ) (story : Story I a gs out I′ b n gs′ out′) where
     -- one group more
-    pub story-more : (g : Group) (hs : List Group) (I″ : Image) (out″ : List ℕ) (r : Ran) → gs′ ≡ g ∷ hs → GroupRan I′ s′ n g out′ q I″ out″ r
-        → Story I s gs out p I″ (r .session) (suc n) hs out″ (r .place)
-    story-more g hs I″ out″ r e x d stands =
-        let y = story d stands in
+    pub story-more : (g : Group) (hs : List Group) (I″ : Image) (out″ : List ℕ) (r : Ran) → gs′ ≡ g ∷ hs → GroupRan I′ b n g out′ I″ out″ r
+        → Story I a gs out I″ r (suc n) hs out″
+    story-more g hs I″ out″ r e x d «is» =
+        let y = story d «is» in
         let k = y .2 .0 in
         let j = x .0 in
         let z = x .1 k (y .2 .1) in
@@ -47,9 +48,9 @@ module _ (I : Image) (s : Session) (gs : List Group) (out : List ℕ) (p : ℕ) 
         )
 
     -- none left
-    pub story-end : gs′ ≡ [] → GroupsRan I s gs out p out′ q
-    story-end e d stands =
-        let y = story d stands in (
+    pub story-end : gs′ ≡ [] → GroupsRan I a gs out out′ (b .place)
+    story-end e d «is» =
+        let y = story d «is» in (
           y .0,
           subst (λ (u : List ℕ). GroupsPrint d 1 gs u) (append-nil (y .0))
               (y .2 .2 [] (subst (λ (v : List Group). GroupsPrint (y .2 .0) n v []) (sym e) (none (y .2 .0) n))),
@@ -57,7 +58,7 @@ module _ (I : Image) (s : Session) (gs : List Group) (out : List ℕ) (p : ℕ) 
         )
 
 -- an opening, then the groups
-pub script-ran : (l : Layout) (gs : List Group) (out out₁ out₂ : List ℕ) (I : Image) (w : Ran) (q : ℕ) → Opened l out 0 I out₁ w
-    → GroupsRan I (w .session) gs out₁ (w .place) out₂ q → ScriptRan (good l gs) out out₂ q
+pub script-ran : (l : Layout) (gs : List Group) (out out₁ out₂ : List ℕ) (I : Image) (w : Ran) (q : ℕ) → Opened l out I out₁ w
+    → GroupsRan I w gs out₁ out₂ q → ScriptRan (good l gs) out out₂ q
 script-ran l gs out out₁ out₂ I w q o f =
     let x = f (start l (formatted l) blank .device) (o .1) in (openText l ++ x .0, ran l gs (x .0) (x .1), appended-then (o .0) (x .2))

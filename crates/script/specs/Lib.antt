@@ -1,3 +1,1 @@
-pub mod Prints
-pub mod Ran
-pub mod Room
+pub mod SheetRan

@@ -2,7 +2,7 @@ use mathlib.Core.Path.{refl, sym, _∙_}
 use native.Mathlib.Omega.{arith}
 use lib.Seq.{length-take-le}
 use borrow.Author.Needs.{needs}
-use Rattle.script.proofs.SheetLaws.{header-small, small-size, small-ok, header-rest, header-script}
+use Rattle.script.proofs.HeaderLaws.{header-small, small-size, small-ok, header-rest, header-script}
 use Rattle.script.proofs.run_good.Statement.{statement}
 use Rattle.script.proofs.run_good.Tie as tie
 
@@ -26,17 +26,14 @@ slice-aggregate-run-script c =
     let m = header-small (s .args .input .now) (h .header .result) (h .header .ensures) (s .pre .1) in
     sym (length-take-le _ _ (omega (arith, small-size (h .header .result .layout) _ m (c .before .image-size .ensures .0) .1)))
 
-slice-aggregate-run-script-2 : tie.Need-slice-aggregate-run-script-2
-slice-aggregate-run-script-2 c = search needs
-
 run-script-requires : tie.Need-run-script-requires
 run-script-requires c κs =
-    let h = c .before .before .before .before .before in
+    let h = c .before .before .before .before in
     let s = h .before .before .before in
     let m = header-small (s .args .input .now) (h .header .result) (h .header .ensures) (s .pre .1) in
-    let z = small-size (h .header .result .layout) _ m (c .before .before .before .image-size .ensures .0) in (
+    let z = small-size (h .header .result .layout) _ m (c .before .before .image-size .ensures .0) in (
       (s .pre .0, header-rest (s .args .input .now) (h .header .result) (h .header .ensures) (s .pre .1)),
-      (refl, length-take-le _ _ (omega (arith, z .1)) ∙ z .0, small-ok (h .header .result .layout) m, s .pre .2),
+      (length-take-le _ _ (omega (arith, z .1)) ∙ z .0, small-ok (h .header .result .layout) m, s .pre .2),
     )
 
 same-length : tie.Need-same-length
@@ -44,9 +41,9 @@ same-length c = search needs
 
 returns : tie.Need-returns
 returns c =
-    let h = c .before .before .before .before .before .before .before .before .before .before in
+    let h = c .before .before .before .before .before .before .before .before in
     let s = h .before .before .before in
-    header-script (s .args .input .now) (h .header .result) (h .header .ensures) (s .pre .1) _ _ _ (c .before .before .before .before .run-script .ensures)
+    header-script (s .args .input .now) (h .header .result) (h .header .ensures) (s .pre .1) _ _ _ (c .before .before .before .run-script .ensures)
 
 pub run-good-spec : {M : Type 1} → statement M
 run-good-spec =
@@ -56,7 +53,6 @@ run-good-spec =
     image-size-requires
     array-borrow-prefix-image
     slice-aggregate-run-script
-    slice-aggregate-run-script-2
     run-script-requires
     same-length
     returns)

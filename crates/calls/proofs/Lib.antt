@@ -1,0 +1,4 @@
+pub mod Texts
+pub mod CallLaws
+pub mod OpenLaws
+pub mod TraceSuffices

@@ -1,0 +1,82 @@
+-- What a bench sheet prints (document 01: "The bench sheet"), by the outcomes and steps of a module in a history. Document 01
+-- leaves open which free backup segment a write takes, so what is printed is said for some permitted choice at each write.
+-- Assumes nothing.
+use Prim.Native.Nat.{ℕ, suc, _+_, _*_}
+use Prim.Native.String.{String}
+use mathlib.Core.Bool.{Bool, cond}
+use mathlib.Core.List.{List, [], _∷_, _++_}
+use lib.ListN.{length, replicate}
+use Rattle.model.specs.declared.Layout.{Layout}
+use Rattle.model.specs.Layout.{blockOps}
+use Rattle.model.specs.Container.{committedEpoch}
+use Rattle.model.specs.Format.{formatted}
+use Rattle.model.specs.Ops.{opNumbers, Trace}
+use Rattle.model.specs.Outcome.{Outcome}
+use Rattle.model.specs.Open.{openOutcome}
+use Rattle.model.specs.Write.{writeArgsOf}
+use Rattle.model.specs.History.{Device, Call, callWrite, callCheckpoint, outcome, deviceStep, start, Permitted}
+use Rattle.text.specs.Text.{text}
+use Rattle.lines.specs.Line.{mostSize}
+use Rattle.parser.specs.Script.{Script, bad, good, Group}
+use Rattle.printer.specs.Decimal.{decimal}
+
+-- the trace that every call gets: its numbers are those of the most operations of an opening, which always suffice
+-- (TraceSuffices.antt)
+abbrev pub traceNumbers : ℕ
+traceNumbers = opNumbers * (blockOps * (mostSize * mostSize) + 1)
+
+unfoldable pub blank : Trace
+blank = replicate traceNumbers 0
+
+-- ---- a call's answer
+
+-- its number and its operations (document 01: orders)
+unfoldable pub answerText : String → Outcome → List ℕ
+answerText key o = text key ++ decimal (o .status) ++ text " orders=" ++ decimal (length (o .ops))
+
+-- ---- a group
+
+-- its write, for the backup segment j
+abbrev pub writeOf : Group → ℕ → Call
+writeOf g j = callWrite (writeArgsOf (g .main) (g .block) (g .offset) (g .bytes)) blank j
+
+abbrev pub checkpointCall : Call
+checkpointCall = callCheckpoint blank
+
+-- a checkpoint runs if it is asked for, whatever the write answered; where it is not, its text says so
+unfoldable pub checkpointed : Device → Bool → Device
+checkpointed d wanted = cond wanted (deviceStep d checkpointCall) d
+
+unfoldable pub checkpointText : Device → Bool → List ℕ
+checkpointText d wanted = cond wanted (answerText "save=" (outcome d checkpointCall)) (text "save=- orders=0")
+
+-- where a group leaves the module
+unfoldable pub afterGroup : Device → Group → ℕ → Device
+afterGroup d g j = checkpointed (deviceStep d (writeOf g j)) (g .checkpoint)
+
+-- the line of group n; the epoch is the one after the group
+unfoldable pub groupText : Device → ℕ → Group → ℕ → List ℕ
+groupText d n g j =
+    text "step=" ++ decimal n
+    ++ text " " ++ answerText "write=" (outcome d (writeOf g j))
+    ++ text " " ++ checkpointText (deviceStep d (writeOf g j)) (g .checkpoint)
+    ++ text " epoch=" ++ decimal (committedEpoch (afterGroup d g j .image))
+    ++ text "\n"
+
+-- the lines of groups from number n on, for some permitted backup segment at each write
+pub data GroupsPrint : Device → ℕ → List Group → List ℕ → Type 0 where
+  none : (d : Device) (n : ℕ) → GroupsPrint d n [] []
+  more : (d : Device) (n : ℕ) (g : Group) (gs : List Group) (j : ℕ) (rest : List ℕ) → Permitted d (writeOf g j)
+      → GroupsPrint (afterGroup d g j) (suc n) gs rest → GroupsPrint d n (g ∷ gs) (groupText d n g j ++ rest)
+
+-- ---- a sheet
+
+-- the first line: the opening of a formatted image
+unfoldable pub openText : Layout → List ℕ
+openText l = answerText "open=" (openOutcome l (formatted l) blank) ++ text "\n"
+
+-- all that a sheet prints: a bad one only its number
+pub data Prints : Script → List ℕ → Type 0 where
+  refused : (n : ℕ) → Prints (bad n) (text "sheet=" ++ decimal n ++ text "\n")
+  ran : (l : Layout) (gs : List Group) (rest : List ℕ) → GroupsPrint (start l (formatted l) blank .device) 1 gs rest
+      → Prints (good l gs) (openText l ++ rest)

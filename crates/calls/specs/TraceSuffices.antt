@@ -1,0 +1,25 @@
+-- The trace that every call of a sheet gets is long enough: a good sheet's opening is served, and no write or checkpoint is refused
+-- with 11. Proved in proofs/TraceSuffices.antt. Assumes nothing.
+use Prim.Native.Nat.{ℕ, _≤_}
+use mathlib.Core.Path.{_≡_}
+use mathlib.Core.Logic.{_≢_}
+use Rattle.model.specs.declared.Layout.{Layout}
+use Rattle.model.specs.declared.Session.{Session}
+use Rattle.model.specs.Words.{Image}
+use Rattle.model.specs.Format.{formatted}
+use Rattle.model.specs.Open.{openStatus}
+use Rattle.model.specs.Write.{WriteArgs, writeStatus}
+use Rattle.model.specs.Checkpoint.{checkpointStatus}
+use Rattle.lines.specs.Line.{mostSize}
+use Rattle.calls.specs.Prints.{blank}
+
+-- the sizes of a sheet's image
+pub record SheetSizes (l : Layout) : Type 0 where
+  pub mains : (1 ≤ l .mains) × (l .mains ≤ mostSize)
+  pub backups : (1 ≤ l .backups) × (l .backups ≤ mostSize)
+  pub blocks : (1 ≤ l .blocks) × (l .blocks ≤ mostSize)
+
+pub record TraceSuffices : Type 0 where
+  pub opening : (l : Layout) → SheetSizes l → openStatus l (formatted l) blank ≡ 0
+  pub write : (s : Session) (I : Image) (w : WriteArgs) (j : ℕ) → SheetSizes (s .layout) → writeStatus s I w j blank ≢ 11
+  pub checkpoint : (s : Session) (I : Image) → SheetSizes (s .layout) → checkpointStatus s I blank ≢ 11

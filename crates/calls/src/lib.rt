@@ -1,0 +1,116 @@
+// The calls of a bench sheet (document 01: "The bench sheet"). Each gets a trace of its own, is replayed, and its answer is
+// appended to the printed text.
+use model::Layout;
+use model::Session;
+ghost use Prim.Native.Nat.{ℕ, _+_, _≤_};
+ghost use mathlib.Core.Path.{_≡_};
+ghost use mathlib.Core.Bool.{true};
+ghost use lib.ListN.{length};
+ghost use Rattle.model.specs.Layout.{sizesOk, imageSize};
+ghost use Rattle.printer.specs.Decimal.{Appended};
+ghost use Rattle.calls.specs.Prints.{writeOf};
+ghost use Rattle.calls.specs.Ran.{answerSize, callSize, answerOf, groupOfParts, Opened, CallRan, CheckpointRan};
+
+// The numbers of the trace that every call gets, enough for an opening that copies every main segment whole.
+const TRACE_NUMBERS: usize = trace::OP_NUMBERS
+    * (Layout::BLOCK_OPS * lines::MOST_SIZE * lines::MOST_SIZE + 1) as usize;
+
+// What a part of a sheet's run leaves: the session, and the place behind the printed text.
+pub struct Ran {
+    pub session: Session,
+    pub place: usize,
+}
+
+// A group of a sheet but for its bytes.
+pub struct GroupParts {
+    pub main: u64,
+    pub block: u64,
+    pub offset: u64,
+    // Whether a checkpoint follows the write (document 01: save).
+    pub checkpoint: bool,
+}
+
+// Appends a key, an answer number and a number of operations (document 01: orders).
+fn append_answer(out: &mut [u8], from: usize, key: &[u8], code: u64, ops: u64) -> usize
+    requires { ⌜ from + length (now key) + answerSize ≤ length (now out) ⌝ }
+    ensures { λ r. ⌜ Appended (now (out .entry)) from (answerOf (now (key .entry)) code ops) (now (out .exit)) r ⌝ }
+    ensures { λ r. ⌜ r ≤ from + length (now (key .entry)) + answerSize ⌝ }
+{
+    let count = printer::append_number(out, from, key, code, b" orders=");
+    printer::append_decimal(out, count, ops)
+}
+
+// Formats an image (document 01: lays out), opens it, replays the opening, and prints its line.
+pub fn run_open(image: &mut [u8], layout: Layout, out: &mut [u8]) -> Ran
+    requires { ⌜ (length (now image) ≡ imageSize layout) × (sizesOk layout ≡ true) × (callSize ≤ length (now out)) ⌝ }
+    ensures { λ r. ⌜ Opened layout (now (out .entry)) (now (image .exit)) (now (out .exit)) r ⌝ }
+    ensures { λ r. ⌜ r .place ≤ callSize ⌝ }
+{
+    format::crpm_format(image, layout.mains, layout.backups, layout.blocks);
+    let mut trace = [0u64; TRACE_NUMBERS];
+    let opened = driver::step_open(
+        image,
+        layout.mains,
+        layout.backups,
+        layout.blocks,
+        &mut trace,
+    );
+    let status = opened.status;
+    let next = opened.session;
+    let end = append_answer(out, 0, b"open=", status.code(), opened.ops);
+    let place = printer::append_text(out, end, b"\n");
+    Ran {
+        session: next,
+        place: place,
+    }
+}
+
+// The write of a group, made and replayed, and its answer.
+pub fn run_write(image: &mut [u8], ran: Ran, parts: GroupParts, bytes: &[u8], out: &mut [u8]) -> Ran
+    requires { ⌜ ran .place + callSize ≤ length (now out) ⌝ }
+    ensures { λ r. ⌜ ((j : ℕ) × CallRan (now (image .entry)) ran (writeOf (groupOfParts parts (now (bytes .entry))) j) "write=" (now (out .entry)) (now (image .exit)) (now (out .exit)) r) ⌝ }
+    ensures { λ r. ⌜ r .place ≤ ran .place + callSize ⌝ }
+{
+    let mut trace = [0u64; TRACE_NUMBERS];
+    let written = driver::step_write(
+        image,
+        ran.session,
+        parts.main,
+        parts.block,
+        parts.offset,
+        bytes,
+        &mut trace,
+    );
+    let status = written.status;
+    let next = written.session;
+    let place = append_answer(out, ran.place, b"write=", status.code(), written.ops);
+    Ran {
+        session: next,
+        place: place,
+    }
+}
+
+// A checkpoint, if it is wanted (document 01: save), made and replayed, and its answer behind a space.
+pub fn run_checkpoint(image: &mut [u8], ran: Ran, wanted: bool, out: &mut [u8]) -> Ran
+    requires { ⌜ ran .place + callSize ≤ length (now out) ⌝ }
+    ensures { λ r. ⌜ CheckpointRan (now (image .entry)) ran wanted (now (out .entry)) (now (image .exit)) (now (out .exit)) r ⌝ }
+    ensures { λ r. ⌜ r .place ≤ ran .place + callSize ⌝ }
+{
+    if !wanted {
+        let session = ran.session;
+        let end = printer::append_text(out, ran.place, b" save=- orders=0");
+        return Ran {
+            session: session,
+            place: end,
+        };
+    }
+    let mut trace = [0u64; TRACE_NUMBERS];
+    let checkpointed = driver::step_checkpoint(image, ran.session, &mut trace);
+    let status = checkpointed.status;
+    let next = checkpointed.session;
+    let place = append_answer(out, ran.place, b" save=", status.code(), checkpointed.ops);
+    Ran {
+        session: next,
+        place: place,
+    }
+}
