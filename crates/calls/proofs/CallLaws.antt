@@ -13,7 +13,7 @@ use Rattle.model.specs.Ops.{Trace}
 use Rattle.model.specs.Outcome.{Outcome}
 use Rattle.model.specs.History.{Call, Device, outcome, deviceStep, Permitted}
 use Rattle.driver.specs.Stepped.{Stepped}
-use Rattle.driver.proofs.Laws.{stepped-device}
+use Rattle.driver.proofs.SteppedLaws.{stepped-device}
 use Rattle.text.specs.Text.{text}
 use Rattle.printer.specs.Decimal.{decimal, Appended}
 use Rattle.printer.proofs.AppendedLaws.{appended-as}
