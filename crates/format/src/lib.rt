@@ -8,7 +8,7 @@ ghost use Rattle.model.specs.Status.{codeOf};
 ghost use Rattle.model.specs.Format.{formatted, formatOutcome};
 
 // Puts one value into every byte.
-pub fn fill(bytes: &mut [u8], value: u8)
+fn fill(bytes: &mut [u8], value: u8)
     ensures { λ _. ⌜ now (bytes .exit) ≡ replicate (length (now (bytes .entry))) value ⌝ }
 {
     let mut i = 0;
@@ -19,7 +19,7 @@ pub fn fill(bytes: &mut [u8], value: u8)
 }
 
 // Writes an image with no checkpoint yet.
-pub fn write_formatted(image: &mut [u8], layout: Layout)
+fn write_formatted(image: &mut [u8], layout: Layout)
     requires { ⌜ length (now image) ≡ imageSize layout ⌝ }
     ensures { λ _. ⌜ now (image .exit) ≡ formatted layout ⌝ }
 {

@@ -12,10 +12,10 @@ use Rattle.model.specs.declared.Located.{Located}
 use Rattle.model.specs.declared.Located.the-variants.{At}
 use Rattle.model.specs.Words.{Image}
 use Rattle.model.specs.Layout.{SizesOk, segmentSize, imageSize, mainAt}
-use Rattle.model.specs.Status.{Errors, firstError, served}
-use Rattle.model.specs.Container.{activeLine, checkpointLocated, containerErrors, mainErrors, blockErrors}
+use Rattle.model.specs.Status.{Errors, served}
+use Rattle.model.specs.Container.{activeLine, checkpointLocated, mainErrors, blockErrors}
 use Rattle.model.specs.Reads.{readStatus, partOf, noPart, blockPart, locatedPart, workingPart, checkpointPart}
-use Rattle.model.proofs.Laws.Status.{stage-refused, stage-passed, served-condition}
+use Rattle.model.proofs.Laws.Status.{served-condition}
 use Rattle.model.proofs.Laws.Container.{ContainerOk, container-then}
 use Rattle.model.proofs.Laws.Layout.{metadata-inside, segment-in-image}
 use Rattle.places.proofs.PlaceLaws.{image-bound}
@@ -27,17 +27,8 @@ use Rattle.reads.specs.Answered.{Answered}
 module _ (l : Layout) (I : Image) (i b : ℕ) where
   -- ---- the status
 
-  abbrev readMore : Errors
+  abbrev pub readMore : Errors
   readMore = mainErrors l i ++ blockErrors l b
-
-  -- refusals 1 to 4 first
-  pub read-refused : (r : ℕ) → r ≡ firstError (containerErrors l I) → served r ≡ false → r ≡ readStatus l I i b
-  unfolding readStatus
-  read-refused r e n = stage-refused r (containerErrors l I) readMore e n
-
-  pub read-then : (c r : ℕ) → c ≡ firstError (containerErrors l I) → served c ≡ true → r ≡ firstError readMore → r ≡ readStatus l I i b
-  unfolding readStatus
-  read-then c r e z h = h ∙ sym (stage-passed c (containerErrors l I) readMore (omega arith) e z)
 
   -- what the code's test of the status says
   pub read-judged : (n : ℕ) (r : Bool) → n ≡ readStatus l I i b → r ≡ served n → served (readStatus l I i b) ≡ r

@@ -8,7 +8,7 @@ ghost use lib.Dec.{eqb};
 ghost use lib.ListN.{length};
 ghost use Rattle.model.specs.Range.{allB};
 ghost use Rattle.model.specs.Words.{byteAt};
-ghost use Rattle.model.specs.Layout.{layoutOf, segmentSize};
+ghost use Rattle.model.specs.Layout.{blockSize, most, layoutOf, segmentSize};
 ghost use Rattle.model.specs.Status.{codeOf, firstError};
 ghost use Rattle.model.specs.Container.{activeLine, checkpointSegment, containerErrors};
 ghost use Rattle.model.specs.Same.{sameBytes, sameStatus, sameCheckpoint, sameOutcome};
@@ -23,10 +23,10 @@ pub struct Compared {
 const BLOCK_SIZE: usize = Layout::BLOCK_SIZE as usize;
 
 // Whether all bytes of so many blocks from a place on are 0.
-pub fn segment_is_zero(image: &[u8], at: usize, blocks: u64) -> bool
-    requires { ⌜ blocks ≤ 64 ⌝ }
-    requires { ⌜ at + 256 * blocks ≤ length (now image) ⌝ }
-    ensures { λ r. ⌜ r ≡ allB (256 * blocks) (λ k. eqb (byteAt (now (image .entry)) (at + k)) 0) ⌝ }
+fn segment_is_zero(image: &[u8], at: usize, blocks: u64) -> bool
+    requires { ⌜ blocks ≤ most ⌝ }
+    requires { ⌜ at + blockSize * blocks ≤ length (now image) ⌝ }
+    ensures { λ r. ⌜ r ≡ allB (blockSize * blocks) (λ k. eqb (byteAt (now (image .entry)) (at + k)) 0) ⌝ }
 {
     let count = blocks as usize;
     let mut ok = true;
@@ -40,11 +40,11 @@ pub fn segment_is_zero(image: &[u8], at: usize, blocks: u64) -> bool
 }
 
 // Whether so many blocks from a place on have the same bytes as those from a place of another image on.
-pub fn segments_equal(a: &[u8], x: usize, b: &[u8], y: usize, blocks: u64) -> bool
-    requires { ⌜ blocks ≤ 64 ⌝ }
-    requires { ⌜ x + 256 * blocks ≤ length (now a) ⌝ }
-    requires { ⌜ y + 256 * blocks ≤ length (now b) ⌝ }
-    ensures { λ r. ⌜ r ≡ allB (256 * blocks) (λ k. eqb (byteAt (now (a .entry)) (x + k)) (byteAt (now (b .entry)) (y + k))) ⌝ }
+fn segments_equal(a: &[u8], x: usize, b: &[u8], y: usize, blocks: u64) -> bool
+    requires { ⌜ blocks ≤ most ⌝ }
+    requires { ⌜ x + blockSize * blocks ≤ length (now a) ⌝ }
+    requires { ⌜ y + blockSize * blocks ≤ length (now b) ⌝ }
+    ensures { λ r. ⌜ r ≡ allB (blockSize * blocks) (λ k. eqb (byteAt (now (a .entry)) (x + k)) (byteAt (now (b .entry)) (y + k))) ⌝ }
 {
     let count = blocks as usize;
     let mut ok = true;
@@ -59,7 +59,7 @@ pub fn segments_equal(a: &[u8], x: usize, b: &[u8], y: usize, blocks: u64) -> bo
 }
 
 // Whether a main segment has the same checkpoint in both images.
-pub fn segment_same(a: &[u8], b: &[u8], layout: Layout, main: u64) -> bool
+fn segment_same(a: &[u8], b: &[u8], layout: Layout, main: u64) -> bool
     requires { ⌜ firstError (containerErrors layout (now a)) ≡ 0 ⌝ }
     requires { ⌜ firstError (containerErrors layout (now b)) ≡ 0 ⌝ }
     requires { ⌜ main < layout .mains ⌝ }
@@ -80,7 +80,7 @@ pub fn segment_same(a: &[u8], b: &[u8], layout: Layout, main: u64) -> bool
 }
 
 // Whether every main segment has the same checkpoint in both images.
-pub fn same_checkpoint(a: &[u8], b: &[u8], layout: Layout) -> bool
+fn same_checkpoint(a: &[u8], b: &[u8], layout: Layout) -> bool
     requires { ⌜ firstError (containerErrors layout (now a)) ≡ 0 ⌝ }
     requires { ⌜ firstError (containerErrors layout (now b)) ≡ 0 ⌝ }
     ensures { λ r. ⌜ r ≡ sameCheckpoint layout (now (a .entry)) (now (b .entry)) ⌝ }
@@ -96,7 +96,7 @@ pub fn same_checkpoint(a: &[u8], b: &[u8], layout: Layout) -> bool
 }
 
 // The status of a comparison: the first image wholly before the second.
-pub fn same_status(a: &[u8], b: &[u8], layout: Layout) -> Status
+fn same_status(a: &[u8], b: &[u8], layout: Layout) -> Status
     ensures { λ r. ⌜ codeOf r ≡ sameStatus layout (now (a .entry)) (now (b .entry)) ⌝ }
 {
     let first = container::container_status(a, layout);

@@ -1,2 +1,3 @@
-pub mod Laws
-pub mod Overlaid
+pub mod BitLaws
+pub mod OverlaidLaws
+pub mod SessionLaws

@@ -10,6 +10,7 @@ ghost use lib.Count.{ones};
 ghost use lib.Dec.{eqb, ltb};
 ghost use lib.ListN.{length, getD};
 ghost use Rattle.model.specs.Range.{allB};
+ghost use Rattle.model.specs.Layout.{lineSize, most, ssMain};
 ghost use Rattle.model.specs.Status.{codeOf, firstError};
 ghost use Rattle.model.specs.Session.{isDirty, setBits, withDirty, withCheckpoint, validSession, contextErrors};
 ghost use Rattle.model.specs.Counts.{dirtyTotal};
@@ -23,7 +24,7 @@ const ALL: u64 = 18446744073709551615;
 
 // Whether bit b of a word of dirty bits is set.
 pub fn is_dirty(word: u64, b: u64) -> bool
-    requires { ⌜ b < 64 ⌝ }
+    requires { ⌜ b < most ⌝ }
     ensures { λ r. ⌜ r ≡ isDirty word b ⌝ }
 {
     (word >> b) & 1 == 1
@@ -31,15 +32,15 @@ pub fn is_dirty(word: u64, b: u64) -> bool
 
 // A word of dirty bits with the bits below `blocks` cleared; the others are kept.
 pub fn clear_blocks(word: u64, blocks: u64) -> u64
-    requires { ⌜ (1 ≤ blocks) × (blocks ≤ 64) ⌝ }
+    requires { ⌜ (1 ≤ blocks) × (blocks ≤ most) ⌝ }
     ensures { λ r. ⌜ r ≡ word / 2 ^ blocks * 2 ^ blocks ⌝ }
 {
     word & !(ALL >> (Layout::MOST - blocks))
 }
 
 // A word of dirty bits with the `count` bits from bit `block` on set.
-pub fn set_blocks(word: u64, block: u64, count: u64) -> u64
-    requires { ⌜ (1 ≤ count) × (block + count ≤ 64) ⌝ }
+fn set_blocks(word: u64, block: u64, count: u64) -> u64
+    requires { ⌜ (1 ≤ count) × (block + count ≤ most) ⌝ }
     ensures { λ r. ⌜ r ≡ setBits word block count ⌝ }
 {
     word | (ALL >> (Layout::MOST - count)) << block
@@ -47,7 +48,7 @@ pub fn set_blocks(word: u64, block: u64, count: u64) -> u64
 
 // The session after a write to `count` blocks, from a block on, of a main segment whose word of dirty blocks was `word`.
 pub fn with_dirty(s: Session, main: u64, block: u64, count: u64, word: u64) -> Session
-    requires { ⌜ (main < 64) × (1 ≤ count) × (block + count ≤ 64) ⌝ }
+    requires { ⌜ (main < most) × (1 ≤ count) × (block + count ≤ most) ⌝ }
     ensures { λ r. ⌜ r ≡ withDirty s main block count word ⌝ }
 {
     let i = main as usize;
@@ -67,16 +68,16 @@ pub fn with_checkpoint(s: Session) -> Session
 }
 
 // Whether no bit of a word is set from bit n on.
-pub fn within(word: u64, n: u64) -> bool
-    requires { ⌜ (1 ≤ n) × (n ≤ 64) ⌝ }
+fn within(word: u64, n: u64) -> bool
+    requires { ⌜ (1 ≤ n) × (n ≤ most) ⌝ }
     ensures { λ r. ⌜ r ≡ ltb word (2 ^ n) ⌝ }
 {
     (word >> (n - 1)) >> 1 == 0
 }
 
 // Whether each of the first `mains` words has no bit set from bit `blocks` on.
-pub fn blocks_within(words: &[u64; Layout::MOST_LEN], mains: usize, blocks: u64) -> bool
-    requires { ⌜ (mains ≤ 64) × (1 ≤ blocks) × (blocks ≤ 64) ⌝ }
+fn blocks_within(words: &[u64; Layout::MOST_LEN], mains: usize, blocks: u64) -> bool
+    requires { ⌜ (mains ≤ most) × (1 ≤ blocks) × (blocks ≤ most) ⌝ }
     ensures { λ r. ⌜ r ≡ allB mains (λ i. ltb (getD (now (words .entry)) i 0) (2 ^ blocks)) ⌝ }
 {
     let mut seen: u64 = 0;
@@ -89,9 +90,9 @@ pub fn blocks_within(words: &[u64; Layout::MOST_LEN], mains: usize, blocks: u64)
 }
 
 // Whether the words from `mains` on are 0.
-pub fn rest_clear(words: &[u64; Layout::MOST_LEN], mains: usize) -> bool
-    requires { ⌜ mains ≤ 64 ⌝ }
-    ensures { λ r. ⌜ r ≡ allB 64 (λ i. ltb i mains || eqb (getD (now (words .entry)) i 0) 0) ⌝ }
+fn rest_clear(words: &[u64; Layout::MOST_LEN], mains: usize) -> bool
+    requires { ⌜ mains ≤ most ⌝ }
+    ensures { λ r. ⌜ r ≡ allB most (λ i. ltb i mains || eqb (getD (now (words .entry)) i 0) 0) ⌝ }
 {
     let mut seen: u64 = 0;
     let mut i = mains;
@@ -103,17 +104,17 @@ pub fn rest_clear(words: &[u64; Layout::MOST_LEN], mains: usize) -> bool
 }
 
 // Whether main segment i may stand in this state: it is not both dirty and in state 1.
-pub fn may_stand(segments: u64, i: u64, state: u8) -> bool
-    requires { ⌜ i < 64 ⌝ }
-    ensures { λ r. ⌜ r ≡ not (isDirty segments i && eqb state 1) ⌝ }
+fn may_stand(segments: u64, i: u64, state: u8) -> bool
+    requires { ⌜ i < most ⌝ }
+    ensures { λ r. ⌜ r ≡ not (isDirty segments i && eqb state ssMain) ⌝ }
 {
     !(is_dirty(segments, i) & (state == Layout::SS_MAIN))
 }
 
 // Whether no dirty segment is in state 1.
-pub fn none_in_main(segments: u64, states: &[u8], mains: u64) -> bool
-    requires { ⌜ (mains ≤ 64) × (64 ≤ length (now states)) ⌝ }
-    ensures { λ r. ⌜ r ≡ allB mains (λ i. not (isDirty segments i && eqb (getD (now (states .entry)) i 0) 1)) ⌝ }
+fn none_in_main(segments: u64, states: &[u8], mains: u64) -> bool
+    requires { ⌜ (mains ≤ most) × (lineSize ≤ length (now states)) ⌝ }
+    ensures { λ r. ⌜ r ≡ allB mains (λ i. not (isDirty segments i && eqb (getD (now (states .entry)) i 0) ssMain)) ⌝ }
 {
     let mut ok = true;
     let mut i = 0;
@@ -125,14 +126,14 @@ pub fn none_in_main(segments: u64, states: &[u8], mains: u64) -> bool
 }
 
 // Whether the session of these parts is valid, by the states of main segments.
-pub fn session_valid(
+fn session_valid(
     layout: Layout,
     segments: u64,
     words: &[u64; Layout::MOST_LEN],
     states: &[u8],
 ) -> bool
-    requires { ⌜ (1 ≤ layout .mains) × (layout .mains ≤ 64) × (1 ≤ layout .blocks) × (layout .blocks ≤ 64) ⌝ }
-    requires { ⌜ 64 ≤ length (now states) ⌝ }
+    requires { ⌜ (1 ≤ layout .mains) × (layout .mains ≤ most) × (1 ≤ layout .blocks) × (layout .blocks ≤ most) ⌝ }
+    requires { ⌜ lineSize ≤ length (now states) ⌝ }
     ensures { λ r. ⌜ r ≡ validSession (sessionOf layout segments (now (words .entry))) (λ i. getD (now (states .entry)) i 0) ⌝ }
 {
     let mains = layout.mains;
@@ -163,16 +164,16 @@ pub fn context_status(
 
 // How many blocks of a main segment are dirty, by its word.
 pub fn dirty_count(word: u64) -> u64
-    ensures { λ r. ⌜ (r ≡ ones word) × (r ≤ 64) ⌝ }
+    ensures { λ r. ⌜ (r ≡ ones word) × (r ≤ most) ⌝ }
 {
     u64::count_ones(word) as u64
 }
 
 // How many blocks of all main segments are dirty, by their words.
 pub fn dirty_total(layout: Layout, words: &[u64; Layout::MOST_LEN]) -> u64
-    requires { ⌜ layout .mains ≤ 64 ⌝ }
+    requires { ⌜ layout .mains ≤ most ⌝ }
     requires { ⌜ ((i : ℕ) → i < layout .mains → getD (now words) i 0 < 2 ^ layout .blocks) ⌝ }
-    ensures { λ r. ⌜ (r ≡ dirtyTotal layout (now (words .entry))) × (r ≤ 4096) ⌝ }
+    ensures { λ r. ⌜ (r ≡ dirtyTotal layout (now (words .entry))) × (r ≤ most * most) ⌝ }
 {
     let mains = layout.mains as usize;
     let mut sum = 0;

@@ -3,7 +3,7 @@ use borrow.Author.Tests.{eqb-true, eqb-false, not-true, not-false}
 use borrow.Author.Needs.{needs}
 use Rattle.model.specs.declared.Layout.{Layout}
 use Rattle.model.specs.Format.{formatOutcome}
-use Rattle.format.proofs.Laws.{status-given, refused, served-sizes, served-image}
+use Rattle.format.proofs.FormatLaws.{status-given, refused, served-sizes, served-image}
 use Rattle.format.proofs.crpm_format.Statement.{statement}
 use Rattle.format.proofs.crpm_format.Tie as tie
 

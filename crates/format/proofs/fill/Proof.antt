@@ -5,7 +5,7 @@ use native.Mathlib.Omega.{arith}
 use lib.ListN.{length, drop, replicate, length-set}
 use borrow.Author.Fill.{fill-none, fill-more}
 use borrow.Author.Needs.{needs}
-use Rattle.format.proofs.Laws.{filled}
+use Rattle.format.proofs.FormatLaws.{filled}
 use Rattle.format.proofs.fill.Statement.{statement}
 use Rattle.format.proofs.fill.Tie as tie
 

@@ -1,6 +1,6 @@
 use Rattle.model.specs.Layout.{imageSize}
 use borrow.Author.Needs.{needs}
-use Rattle.format.proofs.Laws.{steps-format}
+use Rattle.format.proofs.FormatLaws.{steps-format}
 use Rattle.format.proofs.write_formatted.Statement.{statement}
 use Rattle.format.proofs.write_formatted.Tie as tie
 

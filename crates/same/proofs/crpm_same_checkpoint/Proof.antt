@@ -3,7 +3,7 @@ use borrow.Author.Tests.{not-true, not-false}
 use borrow.Author.Needs.{needs}
 use Rattle.model.specs.declared.Layout.{Layout}
 use Rattle.model.specs.Same.{sameOutcome}
-use Rattle.same.proofs.Laws.{judged, both-accepted, status-given, same-refused, same-served}
+use Rattle.same.proofs.SameLaws.{judged, both-accepted, status-given, same-refused, same-served}
 use Rattle.same.proofs.crpm_same_checkpoint.Statement.{statement}
 use Rattle.same.proofs.crpm_same_checkpoint.Tie as tie
 

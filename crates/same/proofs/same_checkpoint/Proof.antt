@@ -5,7 +5,7 @@ use borrow.Author.Needs.{needs}
 use Rattle.model.specs.Layout.{segmentSize}
 use Rattle.model.specs.Container.{activeLine, checkpointBytes}
 use Rattle.model.specs.Same.{sameBytes, sameCheckpoint}
-use Rattle.same.proofs.Laws.{segments-none, segments-more}
+use Rattle.same.proofs.SameLaws.{segments-none, segments-more}
 use Rattle.same.proofs.same_checkpoint.Statement.{statement}
 use Rattle.same.proofs.same_checkpoint.Tie as tie
 

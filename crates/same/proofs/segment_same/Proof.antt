@@ -1,13 +1,13 @@
 use native.Mathlib.Omega.{arith}
 use borrow.Author.Needs.{needs}
-use Rattle.same.proofs.Laws.{room, searched, stands, inside-at, both-nowhere, first-nowhere, second-nowhere, none-nowhere}
+use Rattle.same.proofs.SameLaws.{sizes-and-room, searched, found-at, inside-at, both-nowhere, first-nowhere, second-nowhere, none-nowhere}
 use Rattle.same.proofs.segment_same.Statement.{statement}
 use Rattle.same.proofs.segment_same.Tie as tie
 
 active-at-requires : tie.Need-active-at-requires
 active-at-requires c κs =
     let s = c .before .before in
-    omega (arith, room (s .args .layout) (s .args .a .now) (s .args .main) (s .pre .0))
+    omega (arith, sizes-and-room (s .args .layout) (s .args .a .now) (s .args .main) (s .pre .0))
 
 checkpoint-located-requires : tie.Need-checkpoint-located-requires
 checkpoint-located-requires c κs =
@@ -19,7 +19,7 @@ checkpoint-located-requires c κs =
 active-at-requires-2 : tie.Need-active-at-requires-2
 active-at-requires-2 c κs =
     let s = c .before .before .before .before in
-    omega (arith, room (s .args .layout) (s .args .b .now) (s .args .main) (s .pre .1 .0))
+    omega (arith, sizes-and-room (s .args .layout) (s .args .b .now) (s .args .main) (s .pre .1 .0))
 
 checkpoint-located-requires-2 : tie.Need-checkpoint-located-requires-2
 checkpoint-located-requires-2 c κs =
@@ -46,8 +46,8 @@ segment-is-zero-requires c κs =
     let s = u .before .before .before in
     let p = s .pre in
     let a = s .args in
-    let y = stands (a .layout) (a .b .now) (a .main) (c .before .y .given .1) (m .checkpoint-located2 .ensures) (v .active-at2 .ensures .0) in
-    (room (a .layout) (a .b .now) (a .main) (p .1 .0) .0 .2 .1, inside-at (a .layout) (a .b .now) (a .main) (p .1 .0) (p .1 .1) _ y)
+    let y = found-at (a .layout) (a .b .now) (a .main) (c .before .y .given .1) (m .checkpoint-located2 .ensures) (v .active-at2 .ensures .0) in
+    (sizes-and-room (a .layout) (a .b .now) (a .main) (p .1 .0) .0 .2 .1, inside-at (a .layout) (a .b .now) (a .main) (p .1 .0) (p .1 .1) _ y)
 
 enum-known-x : tie.Need-enum-known-x
 enum-known-x c = search needs
@@ -64,8 +64,8 @@ segment-is-zero-requires-2 c κs =
     let s = u .before .before .before in
     let p = s .pre in
     let a = s .args in
-    let x = stands (a .layout) (a .a .now) (a .main) (c .before .before .before .x .given .1) (k .checkpoint-located .ensures) (u .active-at .ensures .0) in
-    (room (a .layout) (a .a .now) (a .main) (p .0) .0 .2 .1, inside-at (a .layout) (a .a .now) (a .main) (p .0) (p .1 .1) _ x)
+    let x = found-at (a .layout) (a .a .now) (a .main) (c .before .before .before .x .given .1) (k .checkpoint-located .ensures) (u .active-at .ensures .0) in
+    (sizes-and-room (a .layout) (a .a .now) (a .main) (p .0) .0 .2 .1, inside-at (a .layout) (a .a .now) (a .main) (p .0) (p .1 .1) _ x)
 
 enum-known-y-2 : tie.Need-enum-known-y-2
 enum-known-y-2 c = search needs
@@ -79,9 +79,9 @@ segments-equal-requires c κs =
     let s = u .before .before .before in
     let p = s .pre in
     let a = s .args in
-    let x = stands (a .layout) (a .a .now) (a .main) (c .before .before .before .before .x .given .1) (k .checkpoint-located .ensures) (u .active-at .ensures .0) in
-    let y = stands (a .layout) (a .b .now) (a .main) (c .before .y2 .given .1) (m .checkpoint-located2 .ensures) (v .active-at2 .ensures .0) in (
-      room (a .layout) (a .a .now) (a .main) (p .0) .0 .2 .1,
+    let x = found-at (a .layout) (a .a .now) (a .main) (c .before .before .before .before .x .given .1) (k .checkpoint-located .ensures) (u .active-at .ensures .0) in
+    let y = found-at (a .layout) (a .b .now) (a .main) (c .before .y2 .given .1) (m .checkpoint-located2 .ensures) (v .active-at2 .ensures .0) in (
+      sizes-and-room (a .layout) (a .a .now) (a .main) (p .0) .0 .2 .1,
       (inside-at (a .layout) (a .a .now) (a .main) (p .0) (p .1 .1) _ x, inside-at (a .layout) (a .b .now) (a .main) (p .1 .0) (p .1 .1) _ y),
     )
 
@@ -93,8 +93,8 @@ returns c =
     let u = k .before in
     let s = u .before .before .before in
     let a = s .args in
-    let x = stands (a .layout) (a .a .now) (a .main) (c .before .before .enum-told .given .1) (k .checkpoint-located .ensures) (u .active-at .ensures .0) in
-    let y = stands (a .layout) (a .b .now) (a .main) (c .enum-told2 .given .1) (m .checkpoint-located2 .ensures) (v .active-at2 .ensures .0) in
+    let x = found-at (a .layout) (a .a .now) (a .main) (c .before .before .enum-told .given .1) (k .checkpoint-located .ensures) (u .active-at .ensures .0) in
+    let y = found-at (a .layout) (a .b .now) (a .main) (c .enum-told2 .given .1) (m .checkpoint-located2 .ensures) (v .active-at2 .ensures .0) in
     both-nowhere (a .layout) (a .a .now) (a .b .now) (a .main) x y
 
 returns-2 : tie.Need-returns-2
@@ -105,8 +105,8 @@ returns-2 c =
     let u = k .before in
     let s = u .before .before .before in
     let a = s .args in
-    let x = stands (a .layout) (a .a .now) (a .main) (c .before .before .before .before .enum-told .given .1) (k .checkpoint-located .ensures) (u .active-at .ensures .0) in
-    let y = stands (a .layout) (a .b .now) (a .main) (c .before .before .y .given .1) (m .checkpoint-located2 .ensures) (v .active-at2 .ensures .0) in
+    let x = found-at (a .layout) (a .a .now) (a .main) (c .before .before .before .before .enum-told .given .1) (k .checkpoint-located .ensures) (u .active-at .ensures .0) in
+    let y = found-at (a .layout) (a .b .now) (a .main) (c .before .before .y .given .1) (m .checkpoint-located2 .ensures) (v .active-at2 .ensures .0) in
     first-nowhere (a .layout) (a .a .now) (a .b .now) (a .main) _ x y (c .segment-is-zero .ensures)
 
 returns-3 : tie.Need-returns-3
@@ -117,8 +117,8 @@ returns-3 c =
     let u = k .before in
     let s = u .before .before .before in
     let a = s .args in
-    let x = stands (a .layout) (a .a .now) (a .main) (c .before .before .before .before .x .given .1) (k .checkpoint-located .ensures) (u .active-at .ensures .0) in
-    let y = stands (a .layout) (a .b .now) (a .main) (c .before .enum-told3 .given .1) (m .checkpoint-located2 .ensures) (v .active-at2 .ensures .0) in
+    let x = found-at (a .layout) (a .a .now) (a .main) (c .before .before .before .before .x .given .1) (k .checkpoint-located .ensures) (u .active-at .ensures .0) in
+    let y = found-at (a .layout) (a .b .now) (a .main) (c .before .enum-told3 .given .1) (m .checkpoint-located2 .ensures) (v .active-at2 .ensures .0) in
     second-nowhere (a .layout) (a .a .now) (a .b .now) (a .main) _ x y (c .segment-is-zero2 .ensures)
 
 returns-4 : tie.Need-returns-4
@@ -129,8 +129,8 @@ returns-4 c =
     let u = k .before in
     let s = u .before .before .before in
     let a = s .args in
-    let x = stands (a .layout) (a .a .now) (a .main) (c .before .before .before .before .before .x .given .1) (k .checkpoint-located .ensures) (u .active-at .ensures .0) in
-    let y = stands (a .layout) (a .b .now) (a .main) (c .before .before .y2 .given .1) (m .checkpoint-located2 .ensures) (v .active-at2 .ensures .0) in
+    let x = found-at (a .layout) (a .a .now) (a .main) (c .before .before .before .before .before .x .given .1) (k .checkpoint-located .ensures) (u .active-at .ensures .0) in
+    let y = found-at (a .layout) (a .b .now) (a .main) (c .before .before .y2 .given .1) (m .checkpoint-located2 .ensures) (v .active-at2 .ensures .0) in
     none-nowhere (a .layout) (a .a .now) (a .b .now) (a .main) _ _ x y (c .segments-equal .ensures)
 
 pub segment-same-spec : {M : Type 1} → statement M

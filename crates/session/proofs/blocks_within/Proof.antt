@@ -8,7 +8,7 @@ use borrow.Author.Tests.{lt-ltb}
 use borrow.Author.Needs.{needs}
 use Rattle.model.specs.Range.{allB}
 use Rattle.model.proofs.Laws.Range.{all-none}
-use Rattle.session.proofs.Overlaid.{within-more}
+use Rattle.session.proofs.OverlaidLaws.{within-more}
 use Rattle.session.proofs.blocks_within.Statement.{statement}
 use Rattle.session.proofs.blocks_within.Tie as tie
 

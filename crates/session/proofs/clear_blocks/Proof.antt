@@ -1,6 +1,6 @@
 use native.Mathlib.Omega.{arith}
 use borrow.Author.Needs.{needs}
-use Rattle.session.proofs.Laws.{low-cleared}
+use Rattle.session.proofs.BitLaws.{low-cleared}
 use Rattle.session.proofs.clear_blocks.Statement.{statement}
 use Rattle.session.proofs.clear_blocks.Tie as tie
 

@@ -3,9 +3,12 @@ use mathlib.Core.Path.{sym, ap, _∙_}
 use native.Mathlib.Omega.{arith}
 use borrow.Author.Tests.{not-true, not-false}
 use borrow.Author.Needs.{needs}
+use Rattle.model.specs.Status.{codeOf}
+use Rattle.model.specs.Container.{containerErrors}
+use Rattle.model.specs.Session.{sessionErrors}
 use Rattle.model.proofs.Laws.Status.{stage-refused}
 use Rattle.session.specs.Parts.{sessionOf}
-use Rattle.session.proofs.Laws.{container-left, session-judged}
+use Rattle.session.proofs.SessionLaws.{container-left, session-judged}
 use Rattle.session.proofs.context_status.Statement.{statement}
 use Rattle.session.proofs.context_status.Tie as tie
 
@@ -16,7 +19,11 @@ is-served-requires : tie.Need-is-served-requires
 is-served-requires c κs = search needs
 
 returns : tie.Need-returns
-returns c = stage-refused _ _ _ (c .before .before .container-status .ensures) (sym (c .before .is-served .ensures) ∙ not-true _ (c .if1 .taken))
+returns c =
+    let b = c .before .before in
+    let a = b .before .before .args in
+    let s = sessionOf (a .layout) (a .segments) (a .words .now) in
+    stage-refused (codeOf (b .container-status .result)) (containerErrors (a .layout) (a .image .now)) (sessionErrors s (a .image .now)) (c .before .before .container-status .ensures) (sym (c .before .is-served .ensures) ∙ not-true _ (c .if1 .taken))
 
 active-at-requires : tie.Need-active-at-requires
 active-at-requires c κs =

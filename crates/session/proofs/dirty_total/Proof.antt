@@ -18,7 +18,7 @@ abbrev μ-loop : tie.MeasureT-loop
 μ-loop words mains sum₀ i₀ sum i = mains - i
 
 loop-holds : tie.Need-loop-holds Inv-loop μ-loop
-loop-holds c = (search needs, sum-none _, search needs)
+loop-holds c = (search needs, sum-none (λ k. ones (getD (c .args .words .now) k 0)), search needs)
 
 mul-dirty-count : tie.Need-mul-dirty-count Inv-loop μ-loop
 mul-dirty-count c = search needs

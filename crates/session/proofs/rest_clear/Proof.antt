@@ -8,7 +8,7 @@ use borrow.Author.Tests.{lt-ltb}
 use borrow.Author.Needs.{needs}
 use Rattle.model.proofs.Laws.Range.{all-from, or-left}
 use Rattle.model.specs.Range.{allB}
-use Rattle.session.proofs.Overlaid.{clear-more}
+use Rattle.session.proofs.OverlaidLaws.{clear-more}
 use Rattle.session.proofs.rest_clear.Statement.{statement}
 use Rattle.session.proofs.rest_clear.Tie as tie
 

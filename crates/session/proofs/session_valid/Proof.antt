@@ -1,6 +1,6 @@
 use native.Mathlib.Omega.{arith}
 use borrow.Author.Needs.{needs}
-use Rattle.session.proofs.Laws.{valid-session-tests}
+use Rattle.session.proofs.SessionLaws.{valid-session-tests}
 use Rattle.session.proofs.session_valid.Statement.{statement}
 use Rattle.session.proofs.session_valid.Tie as tie
 

@@ -1,6 +1,6 @@
 use native.Mathlib.Omega.{arith}
 use borrow.Author.Needs.{needs}
-use Rattle.session.proofs.Laws.{run-set}
+use Rattle.session.proofs.BitLaws.{run-set}
 use Rattle.session.proofs.set_blocks.Statement.{statement}
 use Rattle.session.proofs.set_blocks.Tie as tie
 

@@ -1,7 +1,12 @@
+use Prim.Native.Nat.{ℕ}
+use mathlib.Core.Path.{ap₂}
 use native.Mathlib.Omega.{arith}
+use lib.Bits.{bitOr}
+use lib.ListN.{set}
 use borrow.Author.Needs.{needs}
+use Rattle.model.specs.declared.Session.{Session}
 use Rattle.model.specs.Session.{setBit, withDirty}
-use Rattle.session.proofs.Laws.{shifted-one}
+use Rattle.session.proofs.BitLaws.{shifted-one}
 use Rattle.session.proofs.with_dirty.Statement.{statement}
 use Rattle.session.proofs.with_dirty.Tie as tie
 
@@ -19,7 +24,12 @@ element-write-next c = search needs
 
 returns : tie.Need-returns
 unfolding withDirty setBit
-returns c = rw (shifted-one (c .before .args .main) (omega arith), c .set-blocks .ensures)
+returns c =
+    let a = c .before .args in
+    let s = a .s in
+    let next : ℕ → ℕ → Session =
+    λ bit word. record { layout = s .layout; «dirty_segments» = bitOr (s .«dirty_segments») bit; «dirty_blocks» = set (s .«dirty_blocks») (a .main) word } in
+    ap₂ next (shifted-one (a .main) (omega arith)) (c .set-blocks .ensures)
 
 pub with-dirty-spec : {M : Type 1} → statement M
 with-dirty-spec =

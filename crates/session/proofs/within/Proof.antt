@@ -1,6 +1,6 @@
 use native.Mathlib.Omega.{arith}
 use borrow.Author.Needs.{needs}
-use Rattle.session.proofs.Laws.{high-clear}
+use Rattle.session.proofs.BitLaws.{high-clear}
 use Rattle.session.proofs.within.Statement.{statement}
 use Rattle.session.proofs.within.Tie as tie
 

@@ -53,19 +53,19 @@ part-byte I from n k h =
 
 module _ (l : Layout) (I : Image) (i : ℕ) where
   -- what the code goes by in an image that is not refused, with n the active line that it found
-  pub room : firstError (containerErrors l I) ≡ 0 → SizesOk l × (512 ≤ length I)
-  room accepted = let ok = container-ok l I accepted in (ok .sizes, omega (arith, ok .long, metadata-inside l))
+  pub sizes-and-room : firstError (containerErrors l I) ≡ 0 → SizesOk l × (512 ≤ length I)
+  sizes-and-room accepted = let ok = container-ok l I accepted in (ok .sizes, omega (arith, ok .long, metadata-inside l))
 
   pub searched : firstError (containerErrors l I) ≡ 0 → i < l .mains → (n : ℕ) → n ≡ activeLine I → n ≤ 192
       → ((i < l .mains) × SizesOk l × (320 ≤ length I) × (n + 64 ≤ length I)) × Valid l (segState I n) (backupToMain I)
   searched accepted h n e b =
       let ok = container-ok l I accepted in
-      let m = room accepted in
+      let m = sizes-and-room accepted in
       ((h, ok .sizes, omega (arith, m .1), omega (arith, m .1)), subst (λ (k : ℕ). Valid l (segState I k) (backupToMain I)) (sym e) (ok .valid))
 
   -- the place x that it found
-  pub stands : {x y : Located} {n : ℕ} → y ≡ x → y ≡ checkpointLocated l I n i → n ≡ activeLine I → x ≡ checkpointLocated l I (activeLine I) i
-  stands g e q = sym g ∙ e ∙ ap (λ (k : ℕ). checkpointLocated l I k i) q
+  pub found-at : {x y : Located} {n : ℕ} → y ≡ x → y ≡ checkpointLocated l I n i → n ≡ activeLine I → x ≡ checkpointLocated l I (activeLine I) i
+  found-at g e q = sym g ∙ e ∙ ap (λ (k : ℕ). checkpointLocated l I k i) q
 
   abbrev segment : ℕ → ℕ
   segment k = getD (checkpointSegment l I (activeLine I) i) k 0
@@ -95,27 +95,27 @@ module _ (l : Layout) (I J : Image) (i : ℕ) where
   abbrev sameSegment : Bool
   sameSegment = sameBytes (segmentSize l) (checkpointSegment l I (activeLine I) i) (checkpointSegment l J (activeLine J) i)
 
-  abbrev Stands : Image → Located → Type 0
-  Stands K x = x ≡ checkpointLocated l K (activeLine K) i
+  abbrev IsAt : Image → Located → Type 0
+  IsAt K x = x ≡ checkpointLocated l K (activeLine K) i
 
   -- by where the two checkpoints stand
-  pub both-nowhere : Stands I Nowhere → Stands J Nowhere → true ≡ sameSegment
+  pub both-nowhere : IsAt I Nowhere → IsAt J Nowhere → true ≡ sameSegment
   unfolding sameBytes
   both-nowhere a b = sym (all-from (segmentSize l) _ (λ k m. eq-eqb _ _ (byte-nowhere l I i a k m ∙ sym (byte-nowhere l J i b k m))))
 
-  pub first-nowhere : (y : ℕ) {r : Bool} → Stands I Nowhere → Stands J (At y)
+  pub first-nowhere : (y : ℕ) {r : Bool} → IsAt I Nowhere → IsAt J (At y)
       → r ≡ allB (segmentSize l) (λ k. eqb (byteAt J (y + k)) 0) → r ≡ sameSegment
   unfolding sameBytes
   first-nowhere y a b s =
       s ∙ all-ext (segmentSize l) _ _ (λ k m. zero-turned (byteAt J (y + k)) ∙ ap₂ (λ (x y : ℕ). eqb x y) (sym (byte-nowhere l I i a k m)) (sym (byte-at l J i y b k m)))
 
-  pub second-nowhere : (x : ℕ) {r : Bool} → Stands I (At x) → Stands J Nowhere
+  pub second-nowhere : (x : ℕ) {r : Bool} → IsAt I (At x) → IsAt J Nowhere
       → r ≡ allB (segmentSize l) (λ k. eqb (byteAt I (x + k)) 0) → r ≡ sameSegment
   unfolding sameBytes
   second-nowhere x a b s =
       s ∙ all-ext (segmentSize l) _ _ (λ k m. ap₂ (λ (x y : ℕ). eqb x y) (sym (byte-at l I i x a k m)) (sym (byte-nowhere l J i b k m)))
 
-  pub none-nowhere : (x y : ℕ) {r : Bool} → Stands I (At x) → Stands J (At y)
+  pub none-nowhere : (x y : ℕ) {r : Bool} → IsAt I (At x) → IsAt J (At y)
       → r ≡ allB (segmentSize l) (λ k. eqb (byteAt I (x + k)) (byteAt J (y + k))) → r ≡ sameSegment
   unfolding sameBytes
   none-nowhere x y a b s =
