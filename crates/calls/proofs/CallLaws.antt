@@ -4,7 +4,7 @@ use Prim.Native.String.{String}
 use mathlib.Core.Path.{_≡_, refl, sym, _∙_, subst₂}
 use mathlib.Core.Bool.{Bool, true, false}
 use mathlib.Core.List.{List, [], _++_, append-assoc}
-use lib.ListN.{length, replicate}
+use lib.ListN.{length}
 use Rattle.model.specs.declared.Session.{Session}
 use Rattle.model.specs.declared.Answer.{Answer}
 use Rattle.model.specs.Words.{Image}
@@ -18,13 +18,8 @@ use Rattle.text.specs.Text.{text}
 use Rattle.printer.specs.Decimal.{decimal, Appended}
 use Rattle.printer.proofs.AppendedLaws.{appended-as}
 use Rattle.calls.specs.declared.Ran.{Ran}
-use Rattle.calls.specs.Prints.{traceNumbers, blank, answerText, checkpointCall, checkpointed, checkpointText}
+use Rattle.calls.specs.Prints.{blank, answerText, checkpointCall, checkpointed, checkpointText}
 use Rattle.calls.specs.Ran.{answerOf, DeviceAt, CallRan, CheckpointRan}
-
--- the trace that the code makes
-pub blank-made : replicate traceNumbers 0 ≡ blank
-unfolding blank
-blank-made = refl
 
 -- an answer's text, behind another text
 answer-text : (before k : List ℕ) (key : String) (code ops : ℕ) (o : Outcome) → k ≡ before ++ text key → code ≡ o .status → ops ≡ length (o .ops)

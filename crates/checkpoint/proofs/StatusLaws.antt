@@ -16,7 +16,7 @@ use Rattle.model.specs.Checkpoint.{epochErrors}
 use Rattle.model.proofs.Laws.Status.{served-condition}
 use Rattle.model.proofs.Laws.Container.{sizes-ok}
 use Rattle.model.proofs.Laws.Layout.{metadata-inside}
-use Rattle.session.proofs.Laws.{words-within}
+use Rattle.session.proofs.SessionLaws.{words-within}
 use Rattle.checkpoint.specs.Advance.{Advancing}
 
 -- 1 to 5 leave a metadata

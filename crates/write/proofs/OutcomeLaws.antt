@@ -28,7 +28,7 @@ use Rattle.model.proofs.Laws.Counts.{length-stores}
 use Rattle.trace.specs.Emit.{Fits, Emitted}
 use Rattle.trace.proofs.EmitLaws.{fits-as, emitted-as}
 use Rattle.trace.proofs.CallLaws.{gives-refused, gives-served}
-use Rattle.session.proofs.Laws.{words-within}
+use Rattle.session.proofs.SessionLaws.{words-within}
 use Rattle.places.proofs.PlaceLaws.{image-bound}
 use Rattle.copy.specs.Steps.{CopiesTo, Planned}
 use Rattle.write.specs.Steps.{Writes, SpanWritable}
