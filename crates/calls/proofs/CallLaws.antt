@@ -18,7 +18,7 @@ use Rattle.text.specs.Text.{text}
 use Rattle.printer.specs.Decimal.{decimal, Appended}
 use Rattle.printer.proofs.AppendedLaws.{appended-as}
 use Rattle.calls.specs.declared.Ran.{Ran}
-use Rattle.calls.specs.Prints.{blank, answerText, checkpointCall, checkpointed, checkpointText}
+use Rattle.calls.specs.Prints.{answerText, checkpointCall, checkpointed, checkpointText}
 use Rattle.calls.specs.Ran.{answerOf, DeviceAt, CallRan, CheckpointRan}
 
 -- an answer's text, behind another text
