@@ -1,4 +1,4 @@
 pub mod Texts
 pub mod CallLaws
 pub mod OpenLaws
-pub mod TraceSuffices
+pub mod SheetTrace

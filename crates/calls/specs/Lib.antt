@@ -1,3 +1,3 @@
 pub mod Prints
-pub mod TraceSuffices
+pub mod SheetTrace
 pub mod Ran

@@ -21,7 +21,7 @@ use Rattle.parser.specs.Script.{Script, bad, good, Group}
 use Rattle.printer.specs.Decimal.{decimal}
 
 -- the trace that every call gets: its numbers are those of the most operations of an opening, which always suffice
--- (TraceSuffices.antt)
+-- (SheetTrace.antt)
 abbrev pub traceNumbers : ℕ
 traceNumbers = opNumbers * (blockOps * (mostSize * mostSize) + 1)
 

@@ -1,12 +1,13 @@
 -- Laws of the next states, by the tests that the code makes, and of the line where they are stored.
 use Prim.Native.Nat.{ℕ, _+_, _*_, _/_, _%_, _^_}
 use mathlib.Core.Path.{_≡_, sym, ap, _∙_}
+use mathlib.Core.Bool.{Bool, true, false}
 use mathlib.Core.List.{[], _∷_, _++_}
 use native.Mathlib.Omega.{arith}
 use native.Mathlib.Nat.{add-assoc}
 use lib.Pow.{shr-shr}
 use Rattle.model.specs.Words.{Image, byteAt, wordOf, wordAt}
-use Rattle.model.specs.Layout.{wordSize, lineWords}
+use Rattle.model.specs.Layout.{wordSize, lineWords, ssMain}
 use Rattle.model.specs.Container.{activeLine, inactiveLine, segState}
 use Rattle.model.specs.Session.{bit}
 use Rattle.model.specs.Ops.{clwb, stores}
@@ -18,6 +19,15 @@ use Rattle.words.proofs.WordLaws.{word-joined}
 -- the state of segment i by the line of states and the word of dirty segments
 abbrev next : Image → ℕ → ℕ → ℕ → ℕ
 next I line m = nextStates m (segState I line)
+
+-- a dirty segment is then in state 1, and another keeps its state
+pub state-advances : (st : ℕ) (dirty : Bool) → dirty ≡ true → ssMain ≡ nextState st dirty
+unfolding nextState
+state-advances st dirty e = rw e
+
+pub state-kept : (st : ℕ) (dirty : Bool) → dirty ≡ false → st ≡ nextState st dirty
+unfolding nextState
+state-kept st dirty e = rw e
 
 -- the state of a segment that is not dirty stays
 state-stays : (I : Image) (line m i : ℕ) → m / 2 ^ i % 2 ≡ 0 → next I line m i ≡ byteAt I (line + i)

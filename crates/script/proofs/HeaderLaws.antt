@@ -14,7 +14,7 @@ use Rattle.parser.specs.Script.{Script, good, Group, firstBad, groupsOf, blocks
 use Rattle.parser.specs.declared.HeaderAt.{HeaderAt}
 use Rattle.parser.specs.Read.{ReadsHeader}
 use Rattle.parser.proofs.SizeLaws.{GoodSizes, good-sizes}
-use Rattle.calls.specs.TraceSuffices.{SheetSizes}
+use Rattle.calls.specs.SheetTrace.{SheetSizes}
 use Rattle.script.specs.SheetRan.{mostImage, GoodFrom, groupsFrom, ScriptRan}
 
 -- every image holds an epoch

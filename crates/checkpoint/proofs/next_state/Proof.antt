@@ -1,6 +1,6 @@
 use mathlib.Core.Path.{sym, _∙_}
 use borrow.Author.Needs.{needs}
-use Rattle.model.specs.Checkpoint.{nextState}
+use Rattle.checkpoint.proofs.StateLaws.{state-advances, state-kept}
 use Rattle.checkpoint.proofs.next_state.Statement.{statement}
 use Rattle.checkpoint.proofs.next_state.Tie as tie
 
@@ -14,12 +14,10 @@ is-dirty-requires : tie.Need-is-dirty-requires
 is-dirty-requires c κs = search needs
 
 returns : tie.Need-returns
-unfolding nextState
-returns c = rw (sym (c .before .is-dirty .ensures) ∙ c .if1 .taken)
+returns c = state-advances _ _ (sym (c .before .is-dirty .ensures) ∙ c .if1 .taken)
 
 returns-2 : tie.Need-returns-2
-unfolding nextState
-returns-2 c = rw (sym (c .before .is-dirty .ensures) ∙ c .if1 .left)
+returns-2 c = state-kept _ _ (sym (c .before .is-dirty .ensures) ∙ c .if1 .left)
 
 pub next-state-spec : {M : Type 1} → statement M
 next-state-spec =

@@ -1,8 +1,13 @@
-use Rattle.trace.proofs.EmitLaws.{emitted-then}
-use Rattle.model.specs.Checkpoint.{epochOps}
-use native.Mathlib.Numerals.{add-one}
+use Prim.Native.Nat.{ℕ, suc, _+_}
+use mathlib.Core.Path.{_≡_, ap}
+use mathlib.Core.List.{[], _∷_}
 use native.Mathlib.Omega.{arith}
 use borrow.Author.Needs.{needs}
+use Rattle.model.specs.Layout.{epochAt}
+use Rattle.model.specs.Container.{committedEpoch}
+use Rattle.model.specs.Ops.{store}
+use Rattle.model.specs.Checkpoint.{epochOps}
+use Rattle.trace.proofs.EmitLaws.{emitted-as, emitted-then}
 use Rattle.checkpoint.proofs.put_epoch.Statement.{statement}
 use Rattle.checkpoint.proofs.put_epoch.Tie as tie
 
@@ -27,7 +32,9 @@ returns : tie.Need-returns
 unfolding epochOps
 returns c =
     let s = c .before .before .before .before .before .before in
-    emitted-then (rw (add-one, s .before .before .word-at .ensures) at (s .put-store .ensures)) (c .before .before .put-clwb .ensures)
+    let e = s .before .before in
+    let w : e .word-at .result + 1 ≡ suc (committedEpoch (e .before .before .before .args .image .now)) = omega (arith, e .word-at .ensures) in
+    emitted-then (emitted-as (s .put-store .ensures) (ap (λ (x : ℕ). store epochAt x ∷ []) w)) (c .before .before .put-clwb .ensures)
 
 pub put-epoch-spec : {M : Type 1} → statement M
 put-epoch-spec =

@@ -1,4 +1,5 @@
 use mathlib.Core.Path.{ap, _∙_}
+use native.Mathlib.Omega.{arith}
 use borrow.Author.Tests.{not-true, not-false}
 use borrow.Author.Needs.{needs}
 use Rattle.model.specs.declared.Layout.{Layout}
@@ -33,7 +34,8 @@ same-checkpoint-requires c κs =
     let f = b .before in
     let n = f .before in
     let a = n .before .before .before .args in
-    both-accepted (n .new .result) (a .a .now) (a .b .now) (judged (n .new .result) (a .a .now) (a .b .now) _ _ (f .same-status .ensures) (b .is-served .ensures) ∙ not-false _ (c .if1 .left))
+    let p = both-accepted (n .new .result) (a .a .now) (a .b .now) (judged (n .new .result) (a .a .now) (a .b .now) _ _ (f .same-status .ensures) (b .is-served .ensures) ∙ not-false _ (c .if1 .left)) in
+    (omega (arith, p .0, p .1), omega (arith, p .0, p .1))
 
 returns-2 : tie.Need-returns-2
 returns-2 c =

@@ -1,5 +1,5 @@
 -- The trace that every call of a sheet gets is long enough: a good sheet's opening is served, and no write or checkpoint is refused
--- with 11. Proved in proofs/TraceSuffices.antt. Assumes nothing.
+-- with 11. Proved in proofs/SheetTrace.antt. Assumes nothing.
 use Prim.Native.Nat.{ℕ, _≤_}
 use mathlib.Core.Path.{_≡_}
 use mathlib.Core.Logic.{_≢_}
@@ -19,7 +19,7 @@ pub record SheetSizes (l : Layout) : Type 0 where
   pub backups : (1 ≤ l .backups) × (l .backups ≤ mostSize)
   pub blocks : (1 ≤ l .blocks) × (l .blocks ≤ mostSize)
 
-pub record TraceSuffices : Type 0 where
+pub record SheetTraceSuffices : Type 0 where
   pub opening : (l : Layout) → SheetSizes l → openStatus l (formatted l) blank ≡ 0
   pub write : (s : Session) (I : Image) (w : WriteArgs) (j : ℕ) → SheetSizes (s .layout) → writeStatus s I w j blank ≢ 11
   pub checkpoint : (s : Session) (I : Image) → SheetSizes (s .layout) → checkpointStatus s I blank ≢ 11

@@ -1,4 +1,4 @@
--- The trace of a sheet's calls suffices: the statement of specs/TraceSuffices.antt proved.
+-- The trace of a sheet's calls suffices: the statement of specs/SheetTrace.antt proved.
 use Prim.Native.Nat.{ℕ, _*_, _≤_}
 use mathlib.Core.Path.{_≡_}
 use native.Mathlib.Omega.{arith}
@@ -9,7 +9,7 @@ use Rattle.model.proofs.Laws.Format.{formatted-accepted}
 use Rattle.model.proofs.Laws.TraceLength.{write-trace-suffices, checkpoint-trace-suffices}
 use Rattle.lines.specs.Line.{mostSize}
 use Rattle.calls.specs.Prints.{traceNumbers, blank}
-use Rattle.calls.specs.TraceSuffices.{SheetSizes, TraceSuffices}
+use Rattle.calls.specs.SheetTrace.{SheetSizes, SheetTraceSuffices}
 
 blank-long : length blank ≡ traceNumbers
 unfolding blank
@@ -18,8 +18,8 @@ blank-long = length-replicate {A = ℕ} traceNumbers 0
 blocks-most : (l : Layout) → SheetSizes l → l .blocks * l .mains ≤ mostSize * mostSize
 blocks-most l h = mul-le-mul {n₁ = l .blocks} {m₁ = l .mains} {n₂ = mostSize} {m₂ = mostSize} (h .blocks .1) (h .mains .1)
 
-pub trace-suffices : TraceSuffices
-trace-suffices = record {
+pub sheet-trace-suffices : SheetTraceSuffices
+sheet-trace-suffices = record {
   opening = λ l h. formatted-accepted l (omega (arith, h .mains, h .backups, h .blocks)) blank (omega (arith, blank-long, blocks-most l h));
   write = λ s I w j h. write-trace-suffices s I w j blank (omega (arith, blank-long, h .blocks));
   checkpoint = λ s I h. checkpoint-trace-suffices s I blank (omega (arith, blank-long, blocks-most (s .layout) h));
