@@ -31,8 +31,7 @@ put-sfence-requires-2 c κs =
     let p₁ = p₂ .before .before .before .before in
     let h = p₁ .before .before .before .before .pre .1 in
     let w = emitted-then (p₁ .put-flushes .ensures) (emitted-then (p₂ .put-sfence .ensures) (p₃ .put-states .ensures)) in
-    let f = fits-first _ (fits-then (fits-first _ h) w) in
-    record { room = f .room }
+    fits-first _ (fits-then (fits-first _ h) w)
 
 put-epoch-requires : tie.Need-put-epoch-requires
 unfolding checkpointOps
