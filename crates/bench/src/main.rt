@@ -88,14 +88,25 @@ fn print_saved(name: &[u8], image: &[u8], layout: Layout, main: u64) {
     }
 }
 
-// Prints the first byte of the epoch, the states of levels 0 and 1 on either line, the first pair, and the saved reads of levels 0 and 1.
-fn print_image(image: &[u8], layout: Layout) {
+// Prints a name and two bytes that stand side by side.
+fn print_bytes(name: &[u8], image: &[u8], at: usize)
+    requires { ⌜ at ≤ 256 ⌝ }
+{
+    print_number(name, byte_at(image, at));
+    print_number(b",", byte_at(image, at + 1));
+}
+
+// Prints the first byte of the epoch, the states of levels 0 and 1 on either line, and the first pair.
+fn print_metadata(image: &[u8]) {
     print_number(b" epoch=", byte_at(image, 0));
-    print_number(b" at128=", byte_at(image, 128));
-    print_number(b",", byte_at(image, 129));
-    print_number(b" at192=", byte_at(image, 192));
-    print_number(b",", byte_at(image, 193));
+    print_bytes(b" at128=", image, 128);
+    print_bytes(b" at192=", image, 192);
     print_number(b" at256=", byte_at(image, 256));
+}
+
+// Prints the metadata and the saved reads of levels 0 and 1.
+fn print_image(image: &[u8], layout: Layout) {
+    print_metadata(image);
     print_saved(b" saved=", image, layout, 0);
     print_saved(b",", image, layout, 1);
     print(b"\n");
@@ -232,29 +243,32 @@ fn lay_out(image: &mut [u8]) {
     print_number(b" lay=", status.code());
 }
 
+// P1: the lengths of images.
+fn p1_lengths() {
+    let image = places::image_size(Layout::new(MAINS, BACKUPS, BLOCKS));
+    let largest = places::image_size(Layout::new(Layout::MOST, Layout::MOST, Layout::MOST));
+    print_number(b"P1 image=", image as u64);
+    print_number(b" largest=", largest as u64);
+}
+
+// P1: a size out of range.
+fn p1_size() {
+    let mut image = [7u8; IMAGE];
+    let status = format::crpm_format(&mut image, Layout::MOST + 1, BACKUPS, BLOCKS);
+    print_number(b" mains=65 lay=", status.code());
+    print(b"\n");
+}
+
 // P1: the lengths of images, other lengths, and a size out of range.
 fn p1() {
     let mut shorter = [7u8; IMAGE - 1];
     let mut fitting = [7u8; IMAGE];
     let mut longer = [7u8; IMAGE + 1];
-    let image = places::image_size(Layout {
-        mains: MAINS,
-        backups: BACKUPS,
-        blocks: BLOCKS,
-    });
-    let largest = places::image_size(Layout {
-        mains: 64,
-        backups: 64,
-        blocks: 64,
-    });
-    print_number(b"P1 image=", image as u64);
-    print_number(b" largest=", largest as u64);
+    p1_lengths();
     lay_out(&mut shorter);
     lay_out(&mut fitting);
     lay_out(&mut longer);
-    let status = format::crpm_format(&mut fitting, 65, BACKUPS, BLOCKS);
-    print_number(b" mains=65 lay=", status.code());
-    print(b"\n");
+    p1_size();
 }
 
 // A fresh opening with a tape.
