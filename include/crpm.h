@@ -1,40 +1,47 @@
 /*
  * crpm: checkpoints in non-volatile memory that no power cut divides.
  *
- * The calls of the proved library, as C sees them. Link with
- * target/staticlib/libcapi.a, which `rt staticlib capi` writes (x86-64 Linux).
- * What each call returns and leaves is a contract of crates/capi/src/lib.rt;
- * the definitions are in crates/interface/specs/ and crates/model/specs/.
- * scripts/declarations holds this file against the sources.
+ * The calls of the proved library, as C and C++ see them. ./install PREFIX
+ * puts this file and libcrpm.a in place (x86-64 Linux); pkg-config names them
+ * crpm. What each call returns and leaves is a contract of
+ * crates/capi/src/lib.rt; docs/SPECIFICATION.md has the rules in words.
  *
- * An image is the contents of the memory. A call reads the image and writes
- * what is to be done to it on a tape: operations, three words each. On a
- * module the caller carries them out itself: every store, every flush (clwb)
- * and every fence (sfence), in their order, before the next call. crpm_replay
- * only stores into an image, for benches, dumps and simulation. Only
- * crpm_format and crpm_replay change an image.
+ * An image is the contents of the module's memory. A call reads the image and
+ * writes what is to be done to it on a trace: operations, three numbers each.
+ * The caller carries them out (crpm_x86.h has a function that does): every
+ * store, every clwb and every sfence, all of them and in their order, before
+ * the next call. crpm_replay only stores into an image, for benches, dumps and
+ * simulation. Only crpm_format and crpm_replay change an image.
  *
- * Document 01's words for what is named here: main segment: level; backup
- * segment: spare; block: frame; checkpoint: save; operation: order; session:
- * card; trace: tape; replay: player; format: laying-out; same checkpoint:
- * likeness.
+ * What every caller must know
+ *  - After crpm_format on a module, flush every line of the image and fence
+ *    before the first opening (crpm_flush_all in crpm_x86.h). A format whose
+ *    lines never reached the module can lose every later checkpoint.
+ *  - Hand to crpm_write and crpm_checkpoint only the session that the last call
+ *    on this image wrote. Never one kept over a restart, never a copy of an
+ *    earlier one: CRPM_BAD_SESSION does not catch every wrong one, and a wrong
+ *    one that is served can turn the checkpoint to old bytes. After a restart,
+ *    open.
+ *  - Byte 0 of the image stands at an address divisible by 64, and the
+ *    processor's cache line is 64 bytes. Each store of a trace is one aligned
+ *    8-byte store.
+ *  - One image, one writer: nothing else stores into it, and its calls do not
+ *    run at the same time. Calls on different images may; the library keeps no
+ *    data of its own.
  *
  * Rules for every call
  *  - A buffer is a pointer and a length: of bytes for an image and for the
- *    bytes of a write, of words for the rest.
+ *    bytes of a write, of numbers for a trace. All other pointers point to one
+ *    struct or one number, so no length of theirs can be wrong.
  *  - No pointer may be null, even where the length is 0: pass the address of
- *    anything that may be read (of anything that may be written, if the
- *    buffer is not const).
- *  - Words are aligned as uint64_t asks.
- *  - The buffers of one call must not overlap; only const ones may overlap
- *    one another.
+ *    anything that may be read (of anything that may be written, if it is not
+ *    const). A length is the buffer's own.
+ *  - Numbers and sessions are aligned as uint64_t asks. What one call is handed
+ *    must not overlap; only const buffers may overlap one another.
  *  - The return value is 0 if the call was served, else the number of the
- *    refusal: the lowest that applies. A refused call leaves image and tape as
- *    they were, hands back the card as it came (a refused opening: a card of
- *    zeros) and writes 0, 0 to `out`.
- *  - A card that has not CRPM_CARD_WORDS words, or an `out` that has not
- *    CRPM_OUT_WORDS, is a misuse of the interface: the call returns
- *    CRPM_MISUSE and changes nothing.
+ *    refusal: the lowest that applies. A refused call leaves image and trace as
+ *    they were, leaves the session as it came (a refused opening: a session of
+ *    zeros) and writes 0 where it would write a number.
  *  - All else that is handed over may have any value.
  */
 #ifndef CRPM_H
@@ -47,13 +54,9 @@
 extern "C" {
 #endif
 
-/* ---- sizes of the interface */
-
-/* Words of a card: main segments, backup segments, blocks, the word of dirty
-   main segments, and for each of 64 main segments its word of dirty blocks. */
-#define CRPM_CARD_WORDS 68
-/* Words of `out`. */
-#define CRPM_OUT_WORDS 2
+/* The version of this interface; raised whenever a signature or a struct
+   changes. `pkg-config --modversion crpm` says the same. */
+#define CRPM_VERSION "1.0.0"
 
 /* ---- the layout of an image */
 
@@ -63,12 +66,12 @@ extern "C" {
 #define CRPM_METADATA_SIZE 512 /* bytes before main segment 0 */
 #define CRPM_MOST 64           /* most main segments, backup segments, blocks */
 
-#define CRPM_EPOCH_AT 0    /* the epoch: a word, the number of checkpoints */
+#define CRPM_EPOCH_AT 0    /* the committed epoch: a word, the number of checkpoints */
 #define CRPM_MAINS_AT 64   /* main segments: a word */
 #define CRPM_BACKUPS_AT 72 /* backup segments: a word */
 #define CRPM_BLOCKS_AT 80  /* blocks of a segment: a word */
-#define CRPM_STATES_AT 128 /* states for even epochs, then (at 192) for odd epochs: 64 bytes each */
-#define CRPM_PAIRS_AT 256  /* for each of 64 backup segments its main segment: 64 bytes */
+#define CRPM_STATES_AT 128 /* states for even epochs, then (a line on) for odd epochs: a byte for each main segment */
+#define CRPM_PAIRS_AT 256  /* for each backup segment its main segment: a byte each */
 #define CRPM_UNPAIRED 255  /* the pair byte of a backup segment that has none */
 
 /* The states of a main segment: its checkpoint is all zero, stands in itself,
@@ -82,37 +85,59 @@ extern "C" {
 #define CRPM_IMAGE_SIZE(M, S, B) \
     ((size_t)CRPM_METADATA_SIZE + (size_t)CRPM_BLOCK_SIZE * (size_t)(B) * ((size_t)(M) + (size_t)(S)))
 
-/* ---- the tape */
+/* Where main segment I and backup segment J start. */
+#define CRPM_MAIN_AT(B, I) \
+    ((size_t)CRPM_METADATA_SIZE + (size_t)CRPM_BLOCK_SIZE * (size_t)(B) * (size_t)(I))
+#define CRPM_BACKUP_AT(M, B, J) CRPM_MAIN_AT(B, (size_t)(M) + (size_t)(J))
 
-/* An operation is three words: kind, place, word. */
-#define CRPM_OP_WORDS 3
-#define CRPM_OP_STORE 1 /* store a word at a place divisible by 8 */
-#define CRPM_OP_FLUSH 2 /* write back the line at a place divisible by 64; the word is 0 */
-#define CRPM_OP_FENCE 3 /* wait for what was written back; place and word are 0 */
+/* ---- the trace */
 
-/* Words of a tape that are always enough for an opening, a write and a
+/* An operation is three numbers: kind, place, word. */
+#define CRPM_OP_NUMBERS 3
+#define CRPM_OP_STORE 1  /* store a word at a place divisible by 8 */
+#define CRPM_OP_CLWB 2   /* write back (flush) the line at a place divisible by 64; the word is 0 */
+#define CRPM_OP_SFENCE 3 /* wait for what was written back; place and word are 0 */
+
+/* Numbers of a trace that are always enough for an opening, a write and a
    checkpoint of an image with M main segments and B blocks in each. */
-#define CRPM_OPEN_TAPE(M, B) ((size_t)CRPM_OP_WORDS * (36 * (size_t)(B) * (size_t)(M) + 1))
-#define CRPM_WRITE_TAPE(B) ((size_t)CRPM_OP_WORDS * (36 * (size_t)(B) + 6 + 32))
-#define CRPM_CHECKPOINT_TAPE(M, B) ((size_t)CRPM_OP_WORDS * (4 * (size_t)(B) * (size_t)(M) + 14))
+#define CRPM_OPEN_TRACE(M, B) ((size_t)CRPM_OP_NUMBERS * (36 * (size_t)(B) * (size_t)(M) + 1))
+#define CRPM_WRITE_TRACE(B) ((size_t)CRPM_OP_NUMBERS * (36 * (size_t)(B) + 6 + 32))
+#define CRPM_CHECKPOINT_TRACE(M, B) ((size_t)CRPM_OP_NUMBERS * (4 * (size_t)(B) * (size_t)(M) + 14))
+
+/* Numbers that are always enough for all three: the greatest of them. */
+#define CRPM_TRACE(M, B) \
+    (CRPM_OPEN_TRACE(M, B) > CRPM_WRITE_TRACE(B) ? \
+        (CRPM_OPEN_TRACE(M, B) > CRPM_CHECKPOINT_TRACE(M, B) ? CRPM_OPEN_TRACE(M, B) : CRPM_CHECKPOINT_TRACE(M, B)) : \
+        (CRPM_WRITE_TRACE(B) > CRPM_CHECKPOINT_TRACE(M, B) ? CRPM_WRITE_TRACE(B) : CRPM_CHECKPOINT_TRACE(M, B)))
+
+/* ---- the session */
+
+/* What is known of an image since it was opened. crpm_open writes it, crpm_write
+   and crpm_checkpoint take it and write it again; nobody else changes it. */
+struct crpm_session {
+    uint64_t mains;          /* main segments */
+    uint64_t backups;        /* backup segments */
+    uint64_t blocks;         /* blocks of a segment */
+    uint64_t dirty_segments; /* bit i: main segment i was written to since the last checkpoint */
+    uint64_t dirty_blocks[CRPM_MOST]; /* word i, bit b: block b of main segment i may differ from its backup segment */
+};
 
 /* ---- the numbers that calls return */
 
 enum crpm_status {
-    CRPM_SERVED = 0,          /* the call was served */
-    CRPM_BAD_SIZE = 1,        /* a size is not 1 to 64 */
-    CRPM_BAD_LENGTH = 2,      /* the image has another length (replay: not divisible by 64) */
-    CRPM_FOREIGN = 3,         /* the image holds other sizes */
-    CRPM_INVALID = 4,         /* states and pairs of the image do not fit one another */
-    CRPM_BAD_SESSION = 5,     /* the card does not fit the image */
-    CRPM_NO_SUCH_MAIN = 6,    /* there is no such main segment */
-    CRPM_NO_SUCH_BLOCK = 7,   /* there is no such block */
-    CRPM_BAD_SPAN = 8,        /* no bytes to write, or offset and length leave the block */
-    CRPM_NO_FREE_BACKUP = 9,  /* a write needs a new backup segment, and none is free */
-    CRPM_EPOCH_LIMIT = 10,    /* a checkpoint at epoch 2^64 - 1 */
-    CRPM_TAPE_SHORT = 11,     /* the tape is too short for the operations */
-    CRPM_TAPE_BAD = 12,       /* replay: length not divisible by 3, or an operation ill formed */
-    CRPM_MISUSE = 255         /* card or out has another length than its own */
+    CRPM_SERVED = 0,         /* the call was served */
+    CRPM_BAD_SIZE = 1,       /* a size is not 1 to 64 */
+    CRPM_BAD_LENGTH = 2,     /* the image has another length (replay: not divisible by 64) */
+    CRPM_FOREIGN = 3,        /* the image holds other sizes */
+    CRPM_INVALID = 4,        /* states and pairs of the image do not fit one another */
+    CRPM_BAD_SESSION = 5,    /* the session does not fit the image */
+    CRPM_NO_SUCH_MAIN = 6,   /* there is no such main segment */
+    CRPM_NO_SUCH_BLOCK = 7,  /* there is no such block */
+    CRPM_BAD_SPAN = 8,       /* no bytes to write, or offset and length leave the block */
+    CRPM_NO_FREE_BACKUP = 9, /* a write needs a new backup segment, and none is free */
+    CRPM_EPOCH_LIMIT = 10,   /* a checkpoint at epoch 2^64 - 1 */
+    CRPM_TRACE_SHORT = 11,   /* the trace is too short for the operations */
+    CRPM_TRACE_BAD = 12      /* replay: length not divisible by 3, or an operation ill formed */
 };
 
 /* ---- the calls */
@@ -125,71 +150,72 @@ uint64_t crpm_format(
     uint64_t mains, uint64_t backups, uint64_t blocks);
 
 /* Opens an image, which recovers: once its operations are carried out, the
-   working bytes are those of the last checkpoint. Writes a card with no dirty
-   segment or block, and to `out` the number of operations and 0.
+   working bytes are those of the last checkpoint. Writes a session with no
+   dirty segment or block, and to `ops` the number of operations on the trace.
    Refusals: 1 to 4, 11. */
 uint64_t crpm_open(
     const uint8_t *image, size_t image_length,
     uint64_t mains, uint64_t backups, uint64_t blocks,
-    uint64_t *card, size_t card_length,
-    uint64_t *tape, size_t tape_length,
-    uint64_t *out, size_t out_length);
+    struct crpm_session *session,
+    uint64_t *trace, size_t trace_length,
+    uint64_t *ops);
 
 /* Writes bytes to a block of a main segment, from an offset on. Takes the
-   card that the last call on the image gave and writes the one for the next;
-   to `out` the number of operations and 0. Refusals: 1 to 9, 11. */
+   session that the last call on the image wrote and writes the next one; to
+   `ops` the number of operations. Refusals: 1 to 9, 11. */
 uint64_t crpm_write(
     const uint8_t *image, size_t image_length,
-    uint64_t *card, size_t card_length,
-    uint64_t main_segment, uint64_t block, uint64_t offset,
+    struct crpm_session *session,
+    uint64_t main, uint64_t block, uint64_t offset,
     const uint8_t *bytes, size_t bytes_length,
-    uint64_t *tape, size_t tape_length,
-    uint64_t *out, size_t out_length);
+    uint64_t *trace, size_t trace_length,
+    uint64_t *ops);
 
 /* Makes the working bytes the checkpoint, in one step: a power cut shows the
-   old checkpoint or the new one, whole. Takes and writes a card as crpm_write
-   does; to `out` the number of operations and 0. Refusals: 1 to 5, 10, 11. */
+   old checkpoint or the new one, whole. Takes and writes a session as
+   crpm_write does; to `ops` the number of operations. Refusals: 1 to 5, 10,
+   11. */
 uint64_t crpm_checkpoint(
     const uint8_t *image, size_t image_length,
-    uint64_t *card, size_t card_length,
-    uint64_t *tape, size_t tape_length,
-    uint64_t *out, size_t out_length);
+    struct crpm_session *session,
+    uint64_t *trace, size_t trace_length,
+    uint64_t *ops);
 
-/* Carries out the stores among the first n operations of a tape, or among all
+/* Carries out the stores among the first n operations of a trace, or among all
    if there are fewer. It flushes nothing and waits for nothing: on a module,
-   carry out the operations yourself. Hand over the part of the tape that holds
-   operations: 3 words for each. Writes to `out` how many operations were
-   carried out, and 0. Refusals: 2, 12. */
+   carry out the operations yourself. Hand over the part of the trace that
+   holds operations: 3 numbers for each. Writes to `played` how many operations
+   were played. Refusals: 2, 12. */
 uint64_t crpm_replay(
     uint8_t *image, size_t image_length,
-    const uint64_t *tape, size_t tape_length,
+    const uint64_t *trace, size_t trace_length,
     uint64_t n,
-    uint64_t *out, size_t out_length);
+    uint64_t *played);
 
-/* Finds a block as it stands now. Writes to `out` where in the image it starts
-   and its length, 256. Refusals: 1 to 4, 6, 7. */
+/* Finds a block as it stands now: where in the image it starts and its size,
+   256. Refusals: 1 to 4, 6, 7. */
 uint64_t crpm_read_working(
     const uint8_t *image, size_t image_length,
     uint64_t mains, uint64_t backups, uint64_t blocks,
-    uint64_t main_segment, uint64_t block,
-    uint64_t *out, size_t out_length);
+    uint64_t main, uint64_t block,
+    uint64_t *start, uint64_t *size);
 
-/* Finds a block as of the last checkpoint. Writes to `out` where in the image
-   it starts and its length, 256; or 0, 0 if no checkpoint has bytes of this
-   main segment: they are then all zero. Refusals: 1 to 4, 6, 7. */
+/* Finds a block as of the last checkpoint: where in the image it starts and
+   its size, 256; or 0 and 0 if no checkpoint has bytes of this main segment:
+   they are then all zero. Refusals: 1 to 4, 6, 7. */
 uint64_t crpm_read_checkpoint(
     const uint8_t *image, size_t image_length,
     uint64_t mains, uint64_t backups, uint64_t blocks,
-    uint64_t main_segment, uint64_t block,
-    uint64_t *out, size_t out_length);
+    uint64_t main, uint64_t block,
+    uint64_t *start, uint64_t *size);
 
-/* Whether two images of these sizes have the same checkpoint. Writes to `out`
-   1 or 0, and 0. Refusals: 1 to 4, the first image wholly before the second. */
+/* Whether two images of these sizes have the same checkpoint: 1 or 0.
+   Refusals: 1 to 4, the first image wholly before the second. */
 uint64_t crpm_same_checkpoint(
     const uint8_t *a, size_t a_length,
     const uint8_t *b, size_t b_length,
     uint64_t mains, uint64_t backups, uint64_t blocks,
-    uint64_t *out, size_t out_length);
+    uint64_t *same);
 
 #ifdef __cplusplus
 }
