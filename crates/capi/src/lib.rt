@@ -1,11 +1,19 @@
-// The C interface (include/crpm.h): eight calls of the library under their own names, over slices and numbers. Each is one call
-// of session_calls or image_calls. A session goes in and out as words (document 01: the card), a result goes out as two words,
-// and the number of the answer is returned: crates/interface/specs/Interface.antt says what each call returns.
+// The C interface (include/crpm.h): eight calls of the library, exported under their own names. A slice is a pointer and a length;
+// a session is a pointer to its words (in C: struct crpm_session), and every number that a call answers with is a pointer to one
+// word, so that no length of theirs can be wrong. Each call returns the number of its status. What opening, write and checkpoint
+// return is said in crates/interface/specs/Interface.antt, the rest in model's terms.
+use interface::SESSION_WORDS;
+use model::Layout;
 ghost use mathlib.Core.Path.{_≡_};
+ghost use mathlib.Core.Logic.{_≢_};
+ghost use mathlib.Core.Bool.{cond};
 ghost use Rattle.model.specs.Layout.{layoutOf};
 ghost use Rattle.model.specs.Format.{formatOutcome};
 ghost use Rattle.model.specs.Write.{writeArgsOf};
-ghost use Rattle.interface.specs.Interface.{openReturned, checkpointReturned, Returns, WriteReturns, replayTold, replayImage, workingTold, checkpointTold, sameTold, Tells};
+ghost use Rattle.model.specs.Replay.{replayOutcome};
+ghost use Rattle.model.specs.Reads.{readStatus, workingPart, checkpointPart};
+ghost use Rattle.model.specs.Same.{sameOutcome};
+ghost use Rattle.interface.specs.Interface.{openReturned, checkpointReturned, Returns, WriteReturns};
 
 // Formats an image.
 #[no_mangle]
@@ -13,7 +21,8 @@ pub extern "C" fn crpm_format(image: &mut [u8], mains: u64, backups: u64, blocks
     ensures { λ r. ⌜ r ≡ formatOutcome (layoutOf mains backups blocks) (now (image .entry)) .status ⌝ }
     ensures { λ _. ⌜ now (image .exit) ≡ formatOutcome (layoutOf mains backups blocks) (now (image .entry)) .image ⌝ }
 {
-    image_calls::crpm_format(image, mains, backups, blocks)
+    let status = format::crpm_format(image, mains, backups, blocks);
+    status.code()
 }
 
 // Opening: the session that it answers, and the number of its operations.
@@ -23,52 +32,73 @@ pub extern "C" fn crpm_open(
     mains: u64,
     backups: u64,
     blocks: u64,
-    session: &mut [u64],
+    session: &mut [u64; SESSION_WORDS],
     trace: &mut [u64],
-    out: &mut [u64],
+    ops: &mut u64,
 ) -> u64
-    ensures { λ r. ⌜ Returns (openReturned (layoutOf mains backups blocks) (now (image .entry)) (now (session .entry)) (now (trace .entry)) (now (out .entry))) r (now (session .exit)) (now (trace .exit)) (now (out .exit)) ⌝ }
+    ensures { λ r. ⌜ Returns (openReturned (layoutOf mains backups blocks) (now (image .entry)) (now (trace .entry))) r (now (session .exit)) (now (trace .exit)) (now (ops .exit)) ⌝ }
 {
-    session_calls::crpm_open(image, mains, backups, blocks, session, trace, out)
+    let opened = open::crpm_open(image, mains, backups, blocks, trace);
+    interface::give_answer(session, ops, opened)
 }
 
 // Write: the session afterwards, and the number of its operations.
 #[no_mangle]
 pub extern "C" fn crpm_write(
     image: &[u8],
-    session: &mut [u64],
+    session: &mut [u64; SESSION_WORDS],
     main: u64,
     block: u64,
     offset: u64,
     bytes: &[u8],
     trace: &mut [u64],
-    out: &mut [u64],
+    ops: &mut u64,
 ) -> u64
-    ensures { λ r. ⌜ WriteReturns (now (image .entry)) (now (session .entry)) (writeArgsOf main block offset (now (bytes .entry))) (now (trace .entry)) (now (out .entry)) r (now (session .exit)) (now (trace .exit)) (now (out .exit)) ⌝ }
+    ensures { λ r. ⌜ WriteReturns (now (image .entry)) (now (session .entry)) (writeArgsOf main block offset (now (bytes .entry))) (now (trace .entry)) r (now (session .exit)) (now (trace .exit)) (now (ops .exit)) ⌝ }
 {
-    session_calls::crpm_write(image, session, main, block, offset, bytes, trace, out)
+    let before = interface::session_in(*session);
+    let written = write::crpm_write(image, before, main, block, offset, bytes, trace);
+    interface::give_answer(session, ops, written)
 }
 
 // Checkpoint: the session afterwards, and the number of its operations.
 #[no_mangle]
 pub extern "C" fn crpm_checkpoint(
     image: &[u8],
-    session: &mut [u64],
+    session: &mut [u64; SESSION_WORDS],
     trace: &mut [u64],
-    out: &mut [u64],
+    ops: &mut u64,
 ) -> u64
-    ensures { λ r. ⌜ Returns (checkpointReturned (now (image .entry)) (now (session .entry)) (now (trace .entry)) (now (out .entry))) r (now (session .exit)) (now (trace .exit)) (now (out .exit)) ⌝ }
+    ensures { λ r. ⌜ Returns (checkpointReturned (now (image .entry)) (now (session .entry)) (now (trace .entry))) r (now (session .exit)) (now (trace .exit)) (now (ops .exit)) ⌝ }
 {
-    session_calls::crpm_checkpoint(image, session, trace, out)
+    let before = interface::session_in(*session);
+    let saved = checkpoint::crpm_checkpoint(image, before, trace);
+    interface::give_answer(session, ops, saved)
 }
 
 // Replay: the image afterwards, and the number of operations played.
 #[no_mangle]
-pub extern "C" fn crpm_replay(image: &mut [u8], trace: &[u64], n: u64, out: &mut [u64]) -> u64
-    ensures { λ r. ⌜ Tells (replayTold (now (image .entry)) (now (trace .entry)) n (now (out .entry))) r (now (out .exit)) ⌝ }
-    ensures { λ _. ⌜ now (image .exit) ≡ replayImage (now (image .entry)) (now (trace .entry)) n (now (out .entry)) ⌝ }
+pub extern "C" fn crpm_replay(image: &mut [u8], trace: &[u64], n: u64, played: &mut u64) -> u64
+    ensures { λ r. ⌜ r ≡ replayOutcome (now (image .entry)) (now (trace .entry)) n .status ⌝ }
+    ensures { λ _. ⌜ now (image .exit) ≡ replayOutcome (now (image .entry)) (now (trace .entry)) n .image ⌝ }
+    ensures { λ _. ⌜ now (played .exit) ≡ replayOutcome (now (image .entry)) (now (trace .entry)) n .played ⌝ }
 {
-    image_calls::crpm_replay(image, trace, n, out)
+    let replayed = replay::crpm_replay(image, trace, n);
+    *played = replayed.played;
+    let status = replayed.status;
+    status.code()
+}
+
+// The number of a read that found a part of this size: 0 where there is one.
+fn part_code(image: &[u8], layout: Layout, main: u64, block: u64, size: u64) -> u64
+    requires { ⌜ (size ≢ 0 → readStatus layout (now image) main block ≡ 0) ⌝ }
+    ensures { λ r. ⌜ r ≡ readStatus layout (now (image .entry)) main block ⌝ }
+{
+    if size != 0 {
+        return 0;
+    }
+    let status = reads::read_status(image, layout, main, block);
+    status.code()
 }
 
 // Working read: where the part of the image starts that holds the block, and its length.
@@ -80,11 +110,18 @@ pub extern "C" fn crpm_read_working(
     blocks: u64,
     main: u64,
     block: u64,
-    out: &mut [u64],
+    start: &mut u64,
+    size: &mut u64,
 ) -> u64
-    ensures { λ r. ⌜ Tells (workingTold (layoutOf mains backups blocks) (now (image .entry)) main block (now (out .entry))) r (now (out .exit)) ⌝ }
+    ensures { λ r. ⌜ r ≡ readStatus (layoutOf mains backups blocks) (now (image .entry)) main block ⌝ }
+    ensures { λ _. ⌜ now (start .exit) ≡ workingPart (layoutOf mains backups blocks) (now (image .entry)) main block .start ⌝ }
+    ensures { λ _. ⌜ now (size .exit) ≡ workingPart (layoutOf mains backups blocks) (now (image .entry)) main block .size ⌝ }
 {
-    image_calls::crpm_read_working(image, mains, backups, blocks, main, block, out)
+    let layout = Layout::new(mains, backups, blocks);
+    let working = reads::working_part(image, layout, main, block);
+    *start = working.start;
+    *size = working.size;
+    part_code(image, layout, main, block, working.size)
 }
 
 // Checkpoint read: where the part of the image starts that holds the block as of the last checkpoint, and its length.
@@ -96,11 +133,18 @@ pub extern "C" fn crpm_read_checkpoint(
     blocks: u64,
     main: u64,
     block: u64,
-    out: &mut [u64],
+    start: &mut u64,
+    size: &mut u64,
 ) -> u64
-    ensures { λ r. ⌜ Tells (checkpointTold (layoutOf mains backups blocks) (now (image .entry)) main block (now (out .entry))) r (now (out .exit)) ⌝ }
+    ensures { λ r. ⌜ r ≡ readStatus (layoutOf mains backups blocks) (now (image .entry)) main block ⌝ }
+    ensures { λ _. ⌜ now (start .exit) ≡ checkpointPart (layoutOf mains backups blocks) (now (image .entry)) main block .start ⌝ }
+    ensures { λ _. ⌜ now (size .exit) ≡ checkpointPart (layoutOf mains backups blocks) (now (image .entry)) main block .size ⌝ }
 {
-    image_calls::crpm_read_checkpoint(image, mains, backups, blocks, main, block, out)
+    let layout = Layout::new(mains, backups, blocks);
+    let kept = reads::checkpoint_part(image, layout, main, block);
+    *start = kept.start;
+    *size = kept.size;
+    part_code(image, layout, main, block, kept.size)
 }
 
 // Whether two images have the same checkpoint: 1 or 0.
@@ -111,9 +155,13 @@ pub extern "C" fn crpm_same_checkpoint(
     mains: u64,
     backups: u64,
     blocks: u64,
-    out: &mut [u64],
+    same: &mut u64,
 ) -> u64
-    ensures { λ r. ⌜ Tells (sameTold (layoutOf mains backups blocks) (now (a .entry)) (now (b .entry)) (now (out .entry))) r (now (out .exit)) ⌝ }
+    ensures { λ r. ⌜ r ≡ sameOutcome (layoutOf mains backups blocks) (now (a .entry)) (now (b .entry)) .status ⌝ }
+    ensures { λ _. ⌜ now (same .exit) ≡ cond (sameOutcome (layoutOf mains backups blocks) (now (a .entry)) (now (b .entry)) .same) 1 0 ⌝ }
 {
-    image_calls::crpm_same_checkpoint(a, b, mains, backups, blocks, out)
+    let compared = same::crpm_same_checkpoint(a, b, mains, backups, blocks);
+    *same = compared.same as u64;
+    let status = compared.status;
+    status.code()
 }

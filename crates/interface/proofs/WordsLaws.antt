@@ -1,15 +1,15 @@
--- Laws of specs/Interface.antt: a session and its words, and the two words of a result.
+-- Laws of specs/Interface.antt: a session and its words.
 use Prim.Native.Nat.{ℕ, zero, suc, _+_, _<_}
 use mathlib.Core.Path.{_≡_, refl, sym, ap₂, _∙_}
 use mathlib.Core.List.{[], _∷_}
 use native.Mathlib.Omega.{arith}
-use lib.ListN.{length, getD, set, drop, length-drop}
+use lib.ListN.{length, getD, set, drop, replicate, length-drop}
 use lib.Seq.{getD-drop, ext-getD, getD-set-same, getD-set-other}
 use borrow.Author.Count.{below-more}
 use Rattle.model.specs.declared.Layout.{Layout}
 use Rattle.model.specs.declared.Session.{Session}
 use Rattle.model.specs.Layout.{layoutOf, most}
-use Rattle.interface.specs.Interface.{Words, dirtyBlocksAt, sessionWords, resultWords, wordsOf, sessionIn}
+use Rattle.interface.specs.Interface.{Words, dirtyBlocksAt, sessionWords, wordsOf, sessionIn}
 
 -- ---- nothing is lost in the words
 
@@ -38,19 +38,16 @@ pub word-at : (s : Session) (i : ℕ) → getD (s .«dirty_blocks») i 0 ≡ get
 unfolding wordsOf
 word-at s i = getD-drop dirtyBlocksAt (wordsOf s) i 0
 
--- the words before it
-pub first-words : (w : Words) (s : Session) → length w ≡ sessionWords → (k : ℕ) → k < dirtyBlocksAt
-    → getD (set (set (set (set w 0 (s .layout .mains)) 1 (s .layout .backups)) 2 (s .layout .blocks)) 3 (s .«dirty_segments»)) k 0 ≡ getD (wordsOf s) k 0
+-- the words before it, stored into zeros
+pub first-words : (s : Session) (k : ℕ) → k < dirtyBlocksAt
+    → getD (set (set (set (set (replicate sessionWords 0) 0 (s .layout .mains)) 1 (s .layout .backups)) 2 (s .layout .blocks)) 3 (s .«dirty_segments»)) k 0
+    ≡ getD (wordsOf s) k 0
 unfolding wordsOf
-first-words [] s e k h = let z : ⊥ = omega (arith, e) in absurd z
-first-words (a ∷ []) s e k h = let z : ⊥ = omega (arith, e) in absurd z
-first-words (a ∷ b ∷ []) s e k h = let z : ⊥ = omega (arith, e) in absurd z
-first-words (a ∷ b ∷ c ∷ []) s e k h = let z : ⊥ = omega (arith, e) in absurd z
-first-words (a ∷ b ∷ c ∷ d ∷ r) s e zero h = refl
-first-words (a ∷ b ∷ c ∷ d ∷ r) s e (suc zero) h = refl
-first-words (a ∷ b ∷ c ∷ d ∷ r) s e (suc (suc zero)) h = refl
-first-words (a ∷ b ∷ c ∷ d ∷ r) s e (suc (suc (suc zero))) h = refl
-first-words (a ∷ b ∷ c ∷ d ∷ r) s e (suc (suc (suc (suc k)))) h = let z : ⊥ = omega (arith, h) in absurd z
+first-words s zero h = refl
+first-words s (suc zero) h = refl
+first-words s (suc (suc zero)) h = refl
+first-words s (suc (suc (suc zero))) h = refl
+first-words s (suc (suc (suc (suc k)))) h = let z : ⊥ = omega (arith, h) in absurd z
 
 -- words that agree with a session's are the session's
 pub words-are : (w : Words) (s : Session) → length w ≡ sessionWords → length (s .«dirty_blocks») ≡ most
@@ -71,11 +68,3 @@ pub session-is : (w b : Words) (l : Layout) → l ≡ layoutOf (getD w 0 0) (get
 unfolding sessionIn
 session-is w b l p e d h =
     ap₂ (λ (x : Layout) (y : Words). record { layout = x; «dirty_segments» = getD w 3 0; «dirty_blocks» = y }) p (blocks-are w b e d h)
-
--- ---- a result
-
-pub result-is : (out : Words) (first second : ℕ) → length out ≡ resultWords → set (set out 0 first) 1 second ≡ first ∷ second ∷ []
-result-is [] x y e = let z : ⊥ = omega (arith, e) in absurd z
-result-is (a ∷ []) x y e = let z : ⊥ = omega (arith, e) in absurd z
-result-is (a ∷ b ∷ []) x y e = refl
-result-is (a ∷ b ∷ c ∷ r) x y e = let z : ⊥ = omega (arith, e) in absurd z

@@ -1,7 +1,7 @@
 use Prim.Native.Nat.{ℕ, _+_, _-_, _≤_, _<_}
 use mathlib.Core.Path.{_≡_, refl}
 use native.Mathlib.Omega.{arith}
-use lib.ListN.{length, getD, length-set}
+use lib.ListN.{length, getD, length-set, length-map}
 use borrow.Author.Needs.{needs}
 use Rattle.interface.proofs.WordsLaws.{session-is, stored-more}
 use Rattle.interface.proofs.session_in.Statement.{statement}
@@ -23,8 +23,8 @@ add-blocks c = search needs
 mul-blocks : tie.Need-mul-blocks Inv-loop μ-loop
 mul-blocks c = search needs
 
-shared-slice-read-blocks : tie.Need-shared-slice-read-blocks Inv-loop μ-loop
-shared-slice-read-blocks c = search needs
+array-read-blocks : tie.Need-array-read-blocks Inv-loop μ-loop
+array-read-blocks c = search needs
 
 mul-blocks-2 : tie.Need-mul-blocks-2 Inv-loop μ-loop
 mul-blocks-2 c = search needs
@@ -40,29 +40,29 @@ loop-less c = search needs
 
 loop-again : tie.Need-loop-again Inv-loop μ-loop
 loop-again c =
-    let l = c .before .before .loop in
+    let l = c .before .loop in
     (search needs, simp length-set (search needs), stored-more (l .blocks) (l .i) _ _ (omega arith) refl (l .inv .2))
 
-shared-slice-read-new : tie.Need-shared-slice-read-new Inv-loop μ-loop
-shared-slice-read-new c = search needs
+array-read-new : tie.Need-array-read-new Inv-loop μ-loop
+array-read-new c = search needs
 
-shared-slice-read-new-2 : tie.Need-shared-slice-read-new-2 Inv-loop μ-loop
-shared-slice-read-new-2 c = search needs
+array-read-new-2 : tie.Need-array-read-new-2 Inv-loop μ-loop
+array-read-new-2 c = search needs
 
-shared-slice-read-new-3 : tie.Need-shared-slice-read-new-3 Inv-loop μ-loop
-shared-slice-read-new-3 c = search needs
+array-read-new-3 : tie.Need-array-read-new-3 Inv-loop μ-loop
+array-read-new-3 c = search needs
 
 new-requires : tie.Need-new-requires Inv-loop μ-loop
 new-requires c κs = search needs
 
-shared-slice-read-t20 : tie.Need-shared-slice-read-t20 Inv-loop μ-loop
-shared-slice-read-t20 c = search needs
+array-read-t26 : tie.Need-array-read-t26 Inv-loop μ-loop
+array-read-t26 c = search needs
 
 returns : tie.Need-returns Inv-loop μ-loop
 returns c =
-    let l = c .before .before .before .before .before .before .loop in
-    let w = c .before .before .before .before .before .before .before .before .args .words .now in
-    session-is w (l .blocks) (c .before .new .result) (c .before .new .ensures) (c .before .before .before .before .before .before .before .before .pre) (l .inv .1) (λ k h. l .inv .2 k (omega arith))
+    let l = c .before .before .loop in
+    let w = c .before .before .before .args .t1 in
+    session-is w (l .blocks) (c .new .result) (c .new .ensures) (omega (arith, c .before .before .before, length-map w (λ v. v))) (l .inv .1) (λ k h. l .inv .2 k (omega arith))
 
 pub session-in-spec : {M : Type 1} → statement M
 session-in-spec =
@@ -73,15 +73,15 @@ session-in-spec =
     loop-holds
     add-blocks
     mul-blocks
-    shared-slice-read-blocks
+    array-read-blocks
     mul-blocks-2
     array-write-blocks
     add-i
     loop-less
     loop-again
-    shared-slice-read-new
-    shared-slice-read-new-2
-    shared-slice-read-new-3
+    array-read-new
+    array-read-new-2
+    array-read-new-3
     new-requires
-    shared-slice-read-t20
+    array-read-t26
     returns)
