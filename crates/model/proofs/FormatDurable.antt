@@ -54,8 +54,7 @@ format-by-stores l I h =
 
 flush-settles : (I : Image) (ℓ : ℕ) → length I % lineSize ≡ 0 → lineSize * ℓ < length I → Settles ℓ (flushAll I)
 unfolding flushAll
-flush-settles I ℓ whole h =
-    settles-fence ℓ (clwbs (length I / lineSize) 0) (flushed-clwbs ℓ (length I / lineSize) 0 refl (omega arith) (omega arith))
+flush-settles I ℓ whole h = settles-fence ℓ _ (flushed-clwbs ℓ _ 0 refl (omega arith) (omega arith))
 
 flush-replay : (K I : Image) → replay (flushAll K) I ≡ I
 unfolding flushAll
