@@ -23,7 +23,7 @@ use Rattle.model.specs.CrashSafety.{Recovers, none}
 use Rattle.model.specs.FormatDurable.{formatStores}
 use Rattle.cases.specs.Table.{l211, longTrace, aWord}
 use Rattle.faults.specs.Faults.{twoCalls}
-use Rattle.faults.specs.Unflushed.{all255, first, RefusedLater, older, HalfOld, Unflushed}
+use Rattle.faults.specs.Unflushed.{all255, firstOpening, RefusedLater, older, HalfOld, Unflushed}
 use Rattle.model.proofs.Laws.Words.{word-cong}
 use Rattle.model.proofs.Laws.Crash.Floor.{floor-durable, durable-floor, durable-all}
 use Rattle.model.proofs.Laws.Crash.Images.{every-combination}
@@ -67,7 +67,7 @@ opens : openStatus l211 (formatted l211) longTrace ≡ 0
 unfolding model-rules
 opens = refl
 
-starts : first ≡ standing l211 (formatted l211) zeros
+starts : firstOpening ≡ standing l211 (formatted l211) zeros
 unfolding model-rules same
 starts = started l211 (formatted l211) (formatted l211) longTrace zeros opens (same-equal _ _ refl) (same-equal _ _ refl)
 

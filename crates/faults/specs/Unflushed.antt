@@ -20,18 +20,18 @@ abbrev pub all255 : Image
 all255 = replicate 1280 255
 
 -- the first opening of the formatted image
-abbrev pub first : State
-first = start l211 (formatted l211) longTrace
+abbrev pub firstOpening : State
+firstOpening = start l211 (formatted l211) longTrace
 
 -- formatted, opened, a word written and a checkpoint, all played whole: a crash may leave an image that opening refuses
 -- with 3, since no call writes back the line of the sizes
 pub record RefusedLater : Type 0 where
   pub formats : Formats l211 all255 (formatStores l211)
   pub opens : openStatus l211 (formatted l211) longTrace ≡ 0
-  pub permitted : AllPermitted first twoCalls
-  pub saved : run first twoCalls .model .checkpoint ≡ aWord ++ replicate 504 0
+  pub permitted : AllPermitted firstOpening twoCalls
+  pub saved : run firstOpening twoCalls .model .checkpoint ≡ aWord ++ replicate 504 0
   pub left : Image
-  pub crash : CrashImage all255 (formatStores l211 ++ openOutcome l211 (formatted l211) longTrace .ops ++ run first twoCalls .device .played) left
+  pub crash : CrashImage all255 (formatStores l211 ++ openOutcome l211 (formatted l211) longTrace .ops ++ run firstOpening twoCalls .device .played) left
   pub refused : openStatus l211 left longTrace ≡ 3
 
 -- ---- an older board of the same sizes
