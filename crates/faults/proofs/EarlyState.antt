@@ -1,33 +1,32 @@
 -- Fault 1: the state's line may arrive before the pair's and before the copied bytes, since no fence stands between them.
-use Prim.Native.Nat.{ℕ, _+_, _/_, _%_}
+use Prim.Native.Nat.{ℕ, _/_, _%_}
 use mathlib.Core.Path.{_≡_, refl, sym, ap, subst, _∙_}
-use mathlib.Core.Logic.{_≢_, inl, ⊎-elim}
+use mathlib.Core.Logic.{_≢_, _⊎_, inl, inr, ⊎-elim}
 use mathlib.Core.Bool.{Bool, true, false, not, _&&_, false≢true}
 use mathlib.Core.List.{[], _∷_, _++_}
 use native.Mathlib.Omega.{arith}
 use native.Mathlib.Decide.{ℕ-discrete}
 use lib.Dec.{eqb, lit<}
-use lib.ListN.{length, take, drop, getD, replicate, length-append}
-use lib.Seq.{take-length, take-append-add}
+use lib.ListN.{take, getD, replicate}
 use borrow.Author.Tests.{eqb-true, eqb-false, not-true}
-use Rattle.model.specs.Words.{Image, byteAt}
+use Rattle.model.specs.Words.{Image}
 use Rattle.model.specs.Layout.{wordSize, lineSize, unpaired}
 use Rattle.model.specs.Ops.{Ops, store, clwb, sfence, apply, replay}
 use Rattle.model.specs.Session.{freshSession}
 use Rattle.model.specs.Reference.{Page}
 use Rattle.model.specs.History.{State, start}
-use Rattle.model.specs.Crash.{KeepsDurable, CrashImage, Stage}
+use Rattle.model.specs.Crash.{CrashImage}
 use Rattle.model.specs.CrashExact.{hasFence}
 use Rattle.cases.specs.Table.{longTrace, writes, aWord}
 use Rattle.faults.specs.Faults.{l111, one, earlyStateOps, earlyWriteOps, EarlyState, ShowsBackup, EarlyStateUnseen}
 use Rattle.model.proofs.Laws.Range.{and-left, and-right}
-use Rattle.model.proofs.Argument.Persist.{Misses, length-apply, length-replay, replay-clear, replay-append, apply-cong}
+use Rattle.model.proofs.Argument.Persist.{Misses}
 use Rattle.model.proofs.Argument.Settled.{Off}
-use Rattle.model.proofs.Laws.Crash.Floor.{durable-all}
-use Rattle.model.proofs.Laws.Crash.Images.{unfenced-lost}
+use Rattle.model.proofs.Laws.Crash.Images.{crash-after}
 use Rattle.cases.proofs.Compute.{model-rules, same, same-equal, small, small-bytes}
 use Rattle.cases.proofs.Starts.{standing, started}
 use Rattle.faults.proofs.Shown.{no-checkpoint}
+use Rattle.faults.proofs.Alone.{arrives-alone}
 use Rattle.faults.proofs.TwoCalls.{image, old, new, marked, before, saved, stands, replayed, calls-permitted, old-shown}
 
 -- every store of O is of a word in another line than ℓ
@@ -57,47 +56,12 @@ avoids-off ℓ (sfence ∷ O) h i e = avoids-off ℓ O h i e
 
 -- where no fence was played, the last store may arrive alone
 last-alone : (I : Image) (A : Ops) (p w : ℕ) → hasFence (A ++ store p w ∷ []) ≡ false → avoids (p / lineSize) A ≡ true → p % wordSize ≡ 0
-    → CrashImage I (A ++ store p w ∷ []) (apply (store p w) I)
-unfolding replay
-last-alone I A p w unfenced a whole = record { long = length-apply (store p w) I; lines = λ ℓ. stage ℓ (ℕ-discrete ℓ (p / lineSize)) }
+    → CrashImage I (A ++ store p w ∷ []) (replay (store p w ∷ []) I)
+last-alone I A p w unfenced a whole = arrives-alone I A (store p w ∷ []) unfenced (λ ℓ. apart ℓ (ℕ-discrete ℓ (p / lineSize)))
   where
-    O : Ops
-    O = A ++ store p w ∷ []
-
-    stage : (ℓ : ℕ) → Dec (ℓ ≡ p / lineSize) → Stage ℓ I O (apply (store p w) I)
-    stage ℓ (yes here) = record {
-      k = length O;
-      within = omega arith;
-      durable = durable-all ℓ O;
-      agree = λ i e. sym (
-          ap (λ (X : Ops). byteAt (replay X I) i) (take-length O)
-          ∙ ap (λ (J : Image). byteAt J i) (replay-append A (store p w ∷ []) I)
-          ∙ apply-cong (store p w) (replay A I) I i (length-replay A I) (replay-clear A I i (avoids-off (p / lineSize) A a i (e ∙ here))));
-    }
-    stage ℓ (no there) = let old = unfenced-lost I O unfenced .lines ℓ in record {
-      k = old .k;
-      within = old .within;
-      durable = old .durable;
-      agree = λ i e. replay-clear (store p w ∷ []) I i ((λ low high. there (omega arith)), tt) ∙ old .agree i e;
-    }
-
--- what came before may stand whole
-durable-after : (ℓ k : ℕ) (O E : Ops) → KeepsDurable ℓ E k → KeepsDurable ℓ (O ++ E) (length O + k)
-durable-after ℓ k [] E h A C D p l e = omega (arith, h A C D p l e)
-durable-after ℓ k (o ∷ O) E h [] C D p l e = omega arith
-durable-after ℓ k (o ∷ O) E h (a ∷ A) C D p l e = omega (arith, durable-after ℓ k O E h A C D p l (ap (drop 1) e))
-
-crash-after : (I H : Image) (O E : Ops) → CrashImage (replay O I) E H → CrashImage I (O ++ E) H
-crash-after I H O E c = record { long = c .long ∙ length-replay O I; lines = λ ℓ. stage (c .lines ℓ) }
-  where
-    stage : {ℓ : ℕ} → Stage ℓ (replay O I) E H → Stage ℓ I (O ++ E) H
-    stage {ℓ} s = record {
-      k = length O + s .k;
-      within = omega (arith, s .within, length-append O E);
-      durable = durable-after ℓ (s .k) O E (s .durable);
-      agree = λ i e. s .agree i e
-          ∙ sym (ap (λ (X : Ops). byteAt (replay X I) i) (take-append-add O E (s .k)) ∙ ap (λ (J : Image). byteAt J i) (replay-append O (take (s .k) E) I));
-    }
+    apart : (ℓ : ℕ) → Dec (ℓ ≡ p / lineSize) → Off ℓ A ⊎ Off ℓ (store p w ∷ [])
+    apart ℓ (yes here) = inl (λ i e. avoids-off (p / lineSize) A a i (e ∙ here))
+    apart ℓ (no there) = inr (λ i e. ((λ low high. there (omega arith)), tt))
 
 -- ---- from an unpaired main segment
 

@@ -1,8 +1,10 @@
--- The counterexamples: what they share, one file a fault, and all of them together.
+-- The counterexamples: what they share, one file a fault, and all of them together; and a format that was not flushed.
 pub mod Shown
+pub mod Alone
 pub mod TwoCalls
 pub mod EarlyState
 pub mod ClearedMarks
 pub mod SkippedCopy
 pub mod InactiveLine
 pub mod Faults
+pub mod Unflushed

@@ -1,2 +1,3 @@
--- Document 01's faults.
+-- The specification's faults, and a format that was not flushed.
 pub mod Faults
+pub mod Unflushed

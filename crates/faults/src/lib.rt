@@ -1,1 +1,2 @@
-// The four faults that document 01 names, each broken by a computed counterexample. This crate has no function.
+// The four faults that the specification names, each broken by a computed counterexample; and what may happen after a format that
+// was not flushed. This crate has no function.

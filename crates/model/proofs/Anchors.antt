@@ -26,8 +26,10 @@ use Rattle.model.specs.Write.{WriteArgs, writeArgsOf, needsCopy, needsBa
 use Rattle.model.specs.Checkpoint.{flushDirty, statesOps, epochOps, checkpointOps}
 use Rattle.model.specs.Reads.{readStatus}
 use Rattle.model.specs.Crash.{KeepsDurable, Stage, CrashImage}
+use Rattle.model.specs.CrashExact.{hasFence, floorFrom, floor}
 use Rattle.model.specs.Reference.{Model, openArgs, writeArgs, modelStep}
 use Rattle.model.specs.History.{Device, callOpen, deviceStep}
+use Rattle.model.specs.FormatDurable.{flushAll}
 
 -- one main segment at 512 and one backup segment at 768, of one block
 abbrev small : Layout
@@ -78,6 +80,11 @@ flush-alone-lost I p w = record {
 -- once a fence followed, it is kept
 pub fenced-kept : (p w k : ℕ) → KeepsDurable (p / lineSize) (store p w ∷ clwb p ∷ sfence ∷ []) k → 1 ≤ k
 fenced-kept p w k h = h (store p w ∷ []) [] [] p refl refl
+
+-- so it is with a store that `flushAll` follows, which writes its line back and ends with a fence
+pub flush-all-kept : floor 0 (store 0 5 ∷ flushAll (replicate 128 0)) ≡ 1
+unfolding flushAll clwbs cat floorFrom hasFence
+flush-all-kept = refl
 
 -- each line on its own: the first line may be as it was, whatever stands on the others
 pub line-alone : (x y z : Image) (p w : ℕ) → length x ≡ lineSize → Stage 0 (x ++ y) (store p w ∷ []) (x ++ z)

@@ -8,13 +8,13 @@ use native.Mathlib.Omega.{arith}
 use native.Mathlib.Nat.{mul-zero, mul-suc}
 use lib.ListN.{length, replicate, length-append, length-replicate, getD-replicate, replicate-append-replicate, List·getD-append}
 use lib.Seq.{getD-append-add}
-use borrow.Author.Tests.{le-ltb, eq-eqb}
+use borrow.Author.Tests.{le-ltb, eq-eqb, eqb-true, not-false}
 use Rattle.model.specs.declared.Layout.{Layout}
 use Rattle.model.specs.Range.{cat}
 use Rattle.model.specs.Words.{Image, Bytes, byteAt, wordOf, littleEndian, bytesOf}
 use Rattle.model.specs.Layout.{wordSize, lineSize, most, unpaired, SizesOk, imageSize, segmentSize, stateLine}
 use Rattle.model.specs.Status.{firstError}
-use Rattle.model.specs.Container.{HeaderOk, Valid, committedEpoch, activeLine, segState, backupToMain, byState, checkpointLocated, checkpointSegment, checkpointBytes}
+use Rattle.model.specs.Container.{HeaderOk, Valid, committedEpoch, activeLine, segState, backupToMain, byState, checkpointLocated, checkpointSegment, checkpointBytes, sizeErrors}
 use Rattle.model.specs.Ops.{opNumbers, Trace, traceShort}
 use Rattle.model.specs.Open.{recoveryOps, openStatus}
 use Rattle.model.specs.TraceLength.{mostOpenOps}
@@ -22,6 +22,7 @@ use Rattle.model.specs.History.{start}
 use Rattle.model.specs.Format.{container, formatted, formatOutcome}
 use Rattle.model.proofs.Laws.Range.{cat-ext}
 use Rattle.model.proofs.Laws.Words.{bytesOf-small}
+use Rattle.model.proofs.Laws.Status.{served-condition}
 use Rattle.model.proofs.Laws.Container.{ContainerOk, container-passes, sizes-ok}
 use Rattle.model.proofs.Laws.Counts.{recovery-most}
 
@@ -149,6 +150,12 @@ module _ (l : Layout) where
   formatted-starts h t = (all-bytes .each, rw (formatted-checkpoint h))
 
   -- ---- format gives it
+
+  pub format-served : (I : Image) → formatOutcome l I .status ≡ 0 → SizesOk l × (length I ≡ imageSize l)
+  unfolding formatOutcome
+  format-served I h =
+      let r = served-condition (sizeErrors l I) (omega arith) h in
+      (sizes-ok l .0 (not-false _ (r 1)), eqb-true _ _ (not-false _ (r 2)))
 
   pub format-gives : (I : Image) → SizesOk l → length I ≡ imageSize l → (formatOutcome l I .status ≡ 0) × (formatOutcome l I .image ≡ formatted l)
   unfolding formatOutcome firstError

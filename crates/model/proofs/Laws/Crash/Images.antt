@@ -1,21 +1,22 @@
 -- What a crash may leave, and what it must keep (specs/CrashExact.antt): every stage of every line, together, from its floor on;
 -- and one image only where every line is settled.
-use Prim.Native.Nat.{ℕ, zero, suc, _/_, _<_, max}
+use Prim.Native.Nat.{ℕ, zero, suc, _+_, _*_, _/_, _<_, max}
 use mathlib.Core.Path.{_≡_, refl, sym, ap, _∙_}
+use mathlib.Core.Logic.{_↔_}
 use mathlib.Core.Bool.{Bool, true, false, cond, _&&_}
-use mathlib.Core.List.{[], _∷_}
+use mathlib.Core.List.{[], _∷_, _++_}
 use native.Mathlib.Decide.{decLt}
 use native.Mathlib.Omega.{arith}
 use lib.Dec.{eqb}
-use lib.ListN.{length, take, List·getD-eq-default}
-use lib.Seq.{take-length, ext-getD}
+use lib.ListN.{length, take, drop, length-append, List·getD-eq-default}
+use lib.Seq.{take-length, take-append-add, ext-getD}
 use Rattle.model.specs.Words.{Image, byteAt}
 use Rattle.model.specs.Layout.{lineSize}
 use Rattle.model.specs.Ops.{store, clwb, sfence, Ops, replay}
 use Rattle.model.specs.Crash.{KeepsDurable, AgreeOn, Stage, CrashImage}
 use Rattle.model.specs.CrashExact.{Newest, EveryCombination, hasFence, UnfencedLost, floorFrom, CrashByFloor}
-use Rattle.model.proofs.Argument.Persist.{length-replay}
-use Rattle.model.proofs.Argument.Settled.{Settled, settled-off}
+use Rattle.model.proofs.Argument.Persist.{length-replay, replay-append}
+use Rattle.model.proofs.Argument.Settled.{Settled, settled-off, local-crash}
 use Rattle.model.proofs.Laws.Crash.Floor.{floor-durable, durable-floor, durable-all}
 
 -- ---- what a crash may leave
@@ -96,6 +97,24 @@ stage-old {ℓ} E h a = record { k = 0; within = omega arith; durable = durable-
 pub unfenced-lost : UnfencedLost
 unfenced-lost I O h = record { long = refl; lines = λ ℓ. stage-old O h (λ i e. refl) }
 
+-- what came before may stand whole
+durable-after : (ℓ k : ℕ) (O E : Ops) → KeepsDurable ℓ E k → KeepsDurable ℓ (O ++ E) (length O + k)
+durable-after ℓ k [] E h A C D p l e = omega (arith, h A C D p l e)
+durable-after ℓ k (o ∷ O) E h [] C D p l e = omega arith
+durable-after ℓ k (o ∷ O) E h (a ∷ A) C D p l e = omega (arith, durable-after ℓ k O E h A C D p l (ap (drop 1) e))
+
+pub crash-after : (I H : Image) (O E : Ops) → CrashImage (replay O I) E H → CrashImage I (O ++ E) H
+crash-after I H O E c = record { long = c .long ∙ length-replay O I; lines = λ ℓ. stage (c .lines ℓ) }
+  where
+    stage : {ℓ : ℕ} → Stage ℓ (replay O I) E H → Stage ℓ I (O ++ E) H
+    stage {ℓ} s = record {
+      k = length O + s .k;
+      within = omega (arith, s .within, length-append O E);
+      durable = durable-after ℓ (s .k) O E (s .durable);
+      agree = λ i e. s .agree i e
+          ∙ sym (ap (λ (X : Ops). byteAt (replay X I) i) (take-append-add O E (s .k)) ∙ ap (λ (J : Image). byteAt J i) (replay-append O (take (s .k) E) I));
+    }
+
 -- ---- what it must keep
 
 -- nothing below the floor of a line, and nothing but that
@@ -116,3 +135,23 @@ settled-only I H O settled c = ext-getD 0 H (replay O I) (c .long ∙ sym (lengt
 pub nothing-played : (I H : Image) → CrashImage I [] H → H ≡ I
 unfolding replay
 nothing-played I H c = settled-only I H [] (λ ℓ. settled-off ℓ [] (λ i e. tt)) c
+
+-- where O settled every line of the image, what it left is durable: what a crash may leave after O and E is what it may
+-- leave of E alone
+pub crash-settled : (I H : Image) (O E : Ops) → ((ℓ : ℕ) → lineSize * ℓ < length I → Settled ℓ O)
+    → CrashImage I (O ++ E) H ↔ CrashImage (replay O I) E H
+crash-settled I H O E settled = (
+  λ c. record { long = c .long ∙ sym (length-replay O I); lines = λ ℓ. stage c ℓ (decLt (lineSize * ℓ) (length I)) },
+  crash-after I H O E,
+)
+  where
+    stage : CrashImage I (O ++ E) H → (ℓ : ℕ) → Dec (lineSize * ℓ < length I) → Stage ℓ (replay O I) E H
+    stage c ℓ (yes h) = local-crash ℓ I H O E (settled ℓ h) (c .lines ℓ)
+    stage c ℓ (no h) = record {
+      k = length E;
+      within = omega arith;
+      durable = durable-all ℓ E;
+      agree = λ i e.
+          List·getD-eq-default H 0 (omega (arith, c .long))
+          ∙ sym (List·getD-eq-default (replay (take (length E) E) (replay O I)) 0 (omega (arith, length-replay (take (length E) E) (replay O I), length-replay O I)));
+    }

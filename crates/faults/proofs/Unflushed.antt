@@ -1,0 +1,167 @@
+-- A format whose lines nobody wrote back: the line of the sizes never arrives, and an older board keeps its metadata while
+-- some of its blocks are zero already.
+use Prim.Native.Nat.{ℕ, _*_, _<_}
+use mathlib.Core.Path.{_≡_, refl, sym, ap, subst, _∙_}
+use mathlib.Core.Logic.{_⊎_, inl, inr}
+use mathlib.Core.Bool.{true, false, false≢true}
+use mathlib.Core.List.{[], _∷_, _++_}
+use native.Mathlib.Omega.{arith}
+use native.Mathlib.Decide.{decLt}
+use lib.ListN.{length, take, replicate}
+use Rattle.model.specs.Words.{Image, byteAt, wordOf, wordAt, littleEndian}
+use Rattle.model.specs.Layout.{mainsAt, unpaired, inRange, sizesOk, imageSize}
+use Rattle.model.specs.Status.{firstError}
+use Rattle.model.specs.Container.{activeLine, checkpointBytes, headerOk}
+use Rattle.model.specs.Ops.{Ops, store, clwb, sfence, replay, stores}
+use Rattle.model.specs.Format.{container, formatted, formatOutcome}
+use Rattle.model.specs.Open.{openStatus, openOutcome}
+use Rattle.model.specs.Crash.{AgreeOn, CrashImage}
+use Rattle.model.specs.CrashExact.{hasFence, floorFrom, floor}
+use Rattle.model.specs.Reference.{Page}
+use Rattle.model.specs.History.{State, run, AllPermitted}
+use Rattle.model.specs.CrashSafety.{Recovers, none}
+use Rattle.model.specs.FormatDurable.{formatStores}
+use Rattle.cases.specs.Table.{l211, longTrace, aWord}
+use Rattle.faults.specs.Faults.{twoCalls}
+use Rattle.faults.specs.Unflushed.{all255, firstOpening, RefusedLater, older, HalfOld, Unflushed}
+use Rattle.model.proofs.Laws.Words.{word-cong}
+use Rattle.model.proofs.Laws.Crash.Floor.{floor-durable, durable-floor, durable-all}
+use Rattle.model.proofs.Laws.Crash.Images.{every-combination}
+use Rattle.model.proofs.Argument.Persist.{Misses}
+use Rattle.model.proofs.Argument.Settled.{Off}
+use Rattle.model.proofs.Argument.Runs.{each-cat}
+use Rattle.model.proofs.Sisters.{opening-safety}
+use Rattle.model.proofs.FormatDurable.{format-by-stores}
+use Rattle.cases.proofs.Compute.{model-rules, same, same-equal, small, small-bytes}
+use Rattle.cases.proofs.Starts.{standing, started}
+use Rattle.faults.proofs.Alone.{arrives-alone}
+
+-- ---- a module of 255s
+
+-- where every line holds no more than it must
+oldest : (I : Image) (O : Ops) → (H : Image) × CrashImage I O H × ((ℓ : ℕ) → AgreeOn ℓ H (replay (take (floor ℓ O) O) I))
+oldest I O =
+    every-combination I O (λ ℓ. floor ℓ O) (λ ℓ. durable-floor ℓ O (length O) (durable-all ℓ O)) (λ ℓ. floor-durable ℓ O (floor ℓ O) (omega arith))
+
+-- a line that was never written back and fenced is as it was
+line-lost : (I : Image) (O : Ops) (ℓ : ℕ) → floor ℓ O ≡ 0 → AgreeOn ℓ (oldest I O .0) I
+unfolding replay
+line-lost I O ℓ low i e = oldest I O .2 ℓ i e ∙ ap (λ (k : ℕ). byteAt (replay (take k O) I) i) low
+
+abbrev zeros : Page
+zeros = replicate 512 0
+
+-- the operations of the two calls
+abbrev called : Ops
+called =
+    store 512 0x0807060504030201
+    ∷ clwb 512 ∷ clwb 576 ∷ clwb 640 ∷ clwb 704 ∷ sfence
+    ∷ store 192 1 ∷ store 200 0 ∷ store 208 0 ∷ store 216 0 ∷ store 224 0 ∷ store 232 0 ∷ store 240 0 ∷ store 248 0 ∷ clwb 192 ∷ sfence
+    ∷ store 0 1 ∷ clwb 0 ∷ sfence ∷ []
+
+formats : formatOutcome l211 all255 .status ≡ 0
+unfolding model-rules
+formats = refl
+
+opens : openStatus l211 (formatted l211) longTrace ≡ 0
+unfolding model-rules
+opens = refl
+
+starts : firstOpening ≡ standing l211 (formatted l211) zeros
+unfolding model-rules same
+starts = started l211 (formatted l211) (formatted l211) longTrace zeros opens (same-equal _ _ refl) (same-equal _ _ refl)
+
+plays : run (standing l211 (formatted l211) zeros) twoCalls .device .played ≡ called
+unfolding model-rules
+plays = refl
+
+saves : run (standing l211 (formatted l211) zeros) twoCalls .model .checkpoint ≡ aWord ++ replicate 504 0
+unfolding model-rules
+saves = refl
+
+permitted : AllPermitted (standing l211 (formatted l211) zeros) twoCalls
+unfolding model-rules small
+permitted = ((small-bytes aWord refl, λ served needs. absurd (false≢true needs)), (tt, tt))
+
+abbrev played : Ops
+played = formatStores l211 ++ openOutcome l211 (formatted l211) longTrace .ops ++ called
+
+sizes-lost : floor 1 played ≡ 0
+unfolding model-rules formatStores floorFrom hasFence
+sizes-lost = refl
+
+other-sizes : wordAt all255 mainsAt ≡ 0xffffffffffffffff
+unfolding wordOf littleEndian
+other-sizes = refl
+
+-- what the line of the sizes holds decides, wherever the rest stands
+refused : (H : Image) → length H ≡ 1280 → AgreeOn 1 H all255 → openStatus l211 H longTrace ≡ 3
+unfolding openStatus firstError sizesOk inRange imageSize headerOk
+refused H long lost =
+    let sizes : wordAt H mainsAt ≡ 0xffffffffffffffff = word-cong (byteAt H) (byteAt all255) mainsAt (λ i low high. lost i (omega arith)) ∙ other-sizes in
+    rw (long, sizes) refl
+
+refused-later : RefusedLater
+refused-later = record {
+  formats = format-by-stores l211 all255 formats;
+  opens = opens;
+  permitted = subst (λ (s : State). AllPermitted s twoCalls) (sym starts) permitted;
+  saved = ap (λ (s : State). run s twoCalls .model .checkpoint) starts ∙ saves;
+  left = oldest all255 played .0;
+  crash = subst (λ (X : Ops). CrashImage all255 (formatStores l211 ++ openOutcome l211 (formatted l211) longTrace .ops ++ X) (oldest all255 played .0))
+      (sym (ap (λ (s : State). run s twoCalls .device .played) starts ∙ plays)) (oldest all255 played .1);
+  refused = refused (oldest all255 played .0) (oldest all255 played .1 .long) (line-lost all255 played 1 sizes-lost);
+}
+
+-- ---- an older board
+
+-- what opening shows of an image
+shows : (I : Image) (P : Page) → openStatus l211 I longTrace ≡ 0 → small I ≡ true → checkpointBytes l211 I (activeLine I) ≡ P → Recovers l211 I longTrace P
+shows I P served bytes is =
+    subst (Recovers l211 I longTrace) is (opening-safety l211 I longTrace (small-bytes I bytes) served I none longTrace (λ e. omega arith) .0)
+
+-- it stands as it was but for main segment 0
+abbrev left : Image
+left =
+    container l211 1 (replicate 64 0) (1 ∷ 1 ∷ replicate 62 0) (replicate 64 unpaired)
+    (replicate 256 0 ++ replicate 256 41 ++ replicate 256 0)
+
+-- the stores to the metadata, and those to main segment 0
+abbrev metadata : Ops
+metadata = stores 64 0 (λ k. wordAt (formatted l211) (8 * k))
+
+abbrev block : Ops
+block = stores 32 512 (λ k. 0)
+
+parts : take 96 (formatStores l211) ≡ metadata ++ block
+unfolding model-rules formatStores
+parts = refl
+
+arrives : replay block older ≡ left
+unfolding model-rules same
+arrives = same-equal _ _ refl
+
+unfenced : hasFence (metadata ++ block) ≡ false
+unfolding model-rules hasFence
+unfenced = refl
+
+apart : (ℓ : ℕ) → Off ℓ metadata ⊎ Off ℓ block
+unfolding stores
+apart ℓ = go (decLt ℓ 8)
+  where
+    go : Dec (ℓ < 8) → Off ℓ metadata ⊎ Off ℓ block
+    go (yes h) = inr (λ i e. each-cat (Misses i) 32 _ (λ k x. ((λ low high. omega arith), tt)))
+    go (no h) = inl (λ i e. each-cat (Misses i) 64 _ (λ k x. ((λ low high. omega arith), tt)))
+
+half-old : HalfOld
+unfolding model-rules same small
+half-old = record {
+  formats = format-by-stores l211 older refl;
+  before = shows older _ refl refl (same-equal _ _ refl);
+  left = left;
+  crash = subst (λ (X : Ops). CrashImage older X left) (sym parts) (subst (CrashImage older (metadata ++ block)) arrives (arrives-alone older metadata block unfenced apart));
+  shown = shows left _ refl refl (same-equal _ _ refl);
+}
+
+pub unflushed : Unflushed
+unflushed = record { refusedLater = refused-later; halfOld = half-old }

@@ -1,0 +1,56 @@
+-- What may happen after a format whose lines nobody wrote back (`FormatDurable` of crate `model` says what doing so gives):
+-- a board of 2 main segments, 1 backup segment and 1 block, in two computed instances. Proved in proofs/Unflushed.antt.
+use mathlib.Core.Path.{_≡_}
+use mathlib.Core.List.{_∷_, _++_}
+use lib.ListN.{take, replicate}
+use Rattle.model.specs.Words.{Image}
+use Rattle.model.specs.Layout.{lineSize, most, unpaired}
+use Rattle.model.specs.Format.{container, formatted}
+use Rattle.model.specs.Open.{openStatus, openOutcome}
+use Rattle.model.specs.Crash.{CrashImage}
+use Rattle.model.specs.History.{State, start, run, AllPermitted}
+use Rattle.model.specs.CrashSafety.{Recovers}
+use Rattle.model.specs.FormatDurable.{Formats, formatStores}
+use Rattle.cases.specs.Table.{l211, longTrace, aWord}
+use Rattle.faults.specs.Faults.{twoCalls}
+
+-- ---- a module of 255s
+
+abbrev pub all255 : Image
+all255 = replicate 1280 255
+
+-- the first opening of the formatted image
+abbrev pub firstOpening : State
+firstOpening = start l211 (formatted l211) longTrace
+
+-- formatted, opened, a word written and a checkpoint, all played whole: a crash may leave an image that opening refuses
+-- with 3, since no call writes back the line of the sizes
+pub record RefusedLater : Type 0 where
+  pub formats : Formats l211 all255 (formatStores l211)
+  pub opens : openStatus l211 (formatted l211) longTrace ≡ 0
+  pub permitted : AllPermitted firstOpening twoCalls
+  pub saved : run firstOpening twoCalls .model .checkpoint ≡ aWord ++ replicate 504 0
+  pub left : Image
+  pub crash : CrashImage all255 (formatStores l211 ++ openOutcome l211 (formatted l211) longTrace .ops ++ run firstOpening twoCalls .device .played) left
+  pub refused : openStatus l211 left longTrace ≡ 3
+
+-- ---- an older board of the same sizes
+
+-- after one checkpoint, which holds 40 in main segment 0 and 41 in main segment 1
+abbrev pub older : Image
+older =
+    container l211 1 (replicate lineSize 0) (1 ∷ 1 ∷ replicate 62 0) (replicate most unpaired)
+    (replicate 256 40 ++ replicate 256 41 ++ replicate 256 0)
+
+-- cut while it is formatted, after 96 of the 160 stores: it may be served, and show zeros and half of its old checkpoint
+pub record HalfOld : Type 0 where
+  pub formats : Formats l211 older (formatStores l211)
+  pub before : Recovers l211 older longTrace (replicate 256 40 ++ replicate 256 41)
+  pub left : Image
+  pub crash : CrashImage older (take 96 (formatStores l211)) left
+  pub shown : Recovers l211 left longTrace (replicate 256 0 ++ replicate 256 41)
+
+-- A FORMAT THAT WAS NOT FLUSHED, both ways
+pub record Unflushed : Type 0 where
+  pub refusedLater : RefusedLater
+  pub halfOld : HalfOld

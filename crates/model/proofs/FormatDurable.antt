@@ -1,0 +1,118 @@
+-- A format that was made durable (specs/FormatDurable.antt), proved: every line is written back after its last store and then
+-- fenced, so that every line is settled, and what is played afterwards is played on a durable image.
+use Prim.Native.Nat.{ℕ, _*_, _/_, _%_, _<_}
+use mathlib.Core.Path.{_≡_, refl, sym, ap, _∙_, subst, subst₂}
+use mathlib.Core.Logic.{_↔_}
+use mathlib.Core.List.{List, [], _∷_, _++_}
+use native.Mathlib.Omega.{arith}
+use lib.ListN.{length}
+use lib.Seq.{ext-getD}
+use Rattle.model.specs.declared.Layout.{Layout}
+use Rattle.model.specs.Words.{Image, Bytes, byteAt}
+use Rattle.model.specs.Layout.{lineSize, SizesOk, imageSize}
+use Rattle.model.specs.Container.{activeLine}
+use Rattle.model.specs.Ops.{Ops, Trace, sfence, replay, clwbs}
+use Rattle.model.specs.Format.{formatted}
+use Rattle.model.specs.Open.{recoveryOps, openStatus, openOutcome}
+use Rattle.model.specs.Crash.{CrashImage}
+use Rattle.model.specs.Reference.{Page}
+use Rattle.model.specs.History.{Call, State, deviceStep, step, run, playedOps, openedImage, start}
+use Rattle.model.specs.CrashSafety.{Recovers, playedAt, again}
+use Rattle.model.specs.FormatDurable.{flushAll, Formats, formatStores, FormatByStores, FormatDurable, FormatSettles, FormatStarts, FormatSafety}
+use Rattle.model.proofs.Laws.Words.{byte-of-word}
+use Rattle.model.proofs.Laws.Layout.{image-lines}
+use Rattle.model.proofs.Laws.Format.{formatted-length, formatted-checkpoint, formatted-starts, format-served, format-gives}
+use Rattle.model.proofs.Laws.Crash.Images.{crash-settled}
+use Rattle.model.proofs.Argument.Persist.{each-append, length-replay, replay-clear, replay-append}
+use Rattle.model.proofs.Argument.Settled.{Settled, Settles, settles-fence}
+use Rattle.model.proofs.Argument.Runs.{Puts, puts-stores, clwbs-none, flushed-clwbs}
+use Rattle.model.proofs.Argument.Recovery.{recovery-keeps}
+use Rattle.model.proofs.Argument.Openings.{open-served, opened-is}
+use Rattle.model.proofs.Sisters.{opening-settles, opening-safety}
+
+-- ---- the stores of a format
+
+format-puts : (l : Layout) → SizesOk l → Puts (formatStores l) 0 (8 * (imageSize l / 8)) (byteAt (formatted l))
+unfolding formatStores
+format-puts l h =
+    puts-stores (imageSize l / 8) 0 _ (byteAt (formatted l))
+    (λ k b x y. byte-of-word (byteAt (formatted l)) (8 * k) b (formatted-starts l h [] .0) y ∙ ap (byteAt (formatted l)) (omega arith))
+
+pub format-by-stores : FormatByStores
+format-by-stores l I h =
+    let s = format-served l I h in
+    let O : Ops = formatStores l in
+    record {
+      served = h;
+      leaves =
+          ext-getD 0 (replay O I) (formatted l) (length-replay O I ∙ s .1 ∙ sym (formatted-length l))
+          (λ i x. format-puts l (s .0) .leaves I i (omega (arith, s .1, image-lines l)) (omega arith) (omega (arith, length-replay O I, s .1, image-lines l)))
+          ∙ sym (format-gives l I (s .0) (s .1) .1);
+    }
+
+-- ---- every line written back and fenced
+
+flush-settles : (I : Image) (ℓ : ℕ) → length I % lineSize ≡ 0 → lineSize * ℓ < length I → Settles ℓ (flushAll I)
+unfolding flushAll
+flush-settles I ℓ whole h = settles-fence ℓ _ (flushed-clwbs ℓ _ 0 refl (omega arith) (omega arith))
+
+flush-replay : (K I : Image) → replay (flushAll K) I ≡ I
+unfolding flushAll
+flush-replay K I = ext-getD 0 _ _ (length-replay (flushAll K) I)
+    (λ i x. replay-clear (flushAll K) I i (each-append _ (clwbs (length K / lineSize) 0) (sfence ∷ []) (clwbs-none _ _ _) tt))
+
+module _ (l : Layout) (I : Image) (W : Ops) (f : Formats l I W) where
+  sizes : SizesOk l
+  sizes = format-served l I (f .served) .0
+
+  flushed-replay : replay (W ++ flushAll I) I ≡ formatted l
+  flushed-replay =
+      replay-append W (flushAll I) I ∙ flush-replay I (replay W I) ∙ f .leaves ∙ format-gives l I sizes (format-served l I (f .served) .1) .1
+
+  flushed-settled : (ℓ : ℕ) → lineSize * ℓ < length I → Settled ℓ (W ++ flushAll I)
+  flushed-settled ℓ h = flush-settles I ℓ (omega (arith, format-served l I (f .served) .1, image-lines l)) h W
+
+  -- a served opening, played whole
+  module _ (t : Trace) (h : openStatus l (formatted l) t ≡ 0) where
+    abbrev O : Ops
+    O = recoveryOps l (formatted l) (activeLine (formatted l))
+
+    opened-replay : replay (W ++ flushAll I ++ O) I ≡ openedImage l (formatted l) t
+    opened-replay = replay-append (W ++ flushAll I) O I ∙ ap (replay O) flushed-replay ∙ sym (opened-is l (formatted l) t h)
+
+    opened-settled : (ℓ : ℕ) → lineSize * ℓ < length I → Settled ℓ (W ++ flushAll I ++ O)
+    opened-settled ℓ x = recovery-keeps l (activeLine (formatted l)) (formatted l) ℓ (W ++ flushAll I) (flushed-settled ℓ x)
+
+    opened-crash : (E : Ops) (H : Image) → CrashImage I (W ++ flushAll I ++ openOutcome l (formatted l) t .ops ++ E) H ↔ CrashImage (openedImage l (formatted l) t) E H
+    opened-crash E H =
+        subst₂ (λ (X : Ops) (K : Image). CrashImage I (W ++ flushAll I ++ X ++ E) H ↔ CrashImage K E H) (sym (open-served l (formatted l) t h .ops)) opened-replay
+        (crash-settled I H (W ++ flushAll I ++ O) E opened-settled)
+
+pub format-durable : FormatDurable
+format-durable l I W f E H =
+    subst (λ (K : Image). CrashImage I (W ++ flushAll I ++ E) H ↔ CrashImage K E H) (flushed-replay l I W f)
+    (crash-settled I H (W ++ flushAll I) E (flushed-settled l I W f))
+
+pub format-settles : FormatSettles
+format-settles l I W f t h H =
+    let d = format-durable l I W f (openOutcome l (formatted l) t .ops) H in
+    let o = opening-settles l (formatted l) t (formatted-starts l (sizes l I W f) t .0) h in
+    (λ c. o .1 H (d .0 c), λ e. d .1 (subst (CrashImage (formatted l) (openOutcome l (formatted l) t .ops)) (sym e) (o .0)))
+
+run-durable : (s : State) (cs : List Call) → run s cs .device .durable ≡ s .device .durable
+unfolding run step deviceStep
+run-durable s [] = refl
+run-durable s (c ∷ cs) = run-durable (step s c) cs
+
+pub format-starts : FormatStarts
+unfolding start
+format-starts l I W f t h cs m H =
+    let s : State = run (start l (formatted l) t) cs in
+    subst (λ (K : Image). CrashImage I (W ++ flushAll I ++ openOutcome l (formatted l) t .ops ++ playedAt (s .device) m) H ↔ CrashImage K (playedAt (s .device) m) H)
+    (sym (run-durable (start l (formatted l) t) cs)) (opened-crash l I W f t h (playedAt (s .device) m) H)
+
+pub format-safety : FormatSafety
+format-safety l I W f t h p H c H′ openings t′ ne =
+    let d = format-durable l I W f (playedOps (formatted l) (openOutcome l (formatted l) t .ops) t p) H in
+    subst (λ (Q : Page). Recovers l H′ t′ Q × Bytes H′) (formatted-checkpoint l (sizes l I W f))
+    (opening-safety l (formatted l) t (formatted-starts l (sizes l I W f) t .0) h H′ (again t p (λ e. omega arith) (d .0 c) openings) t′ ne)
