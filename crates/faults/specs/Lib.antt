@@ -1,2 +1,2 @@
--- Document 01's faults.
+-- The faults of SPECIFICATION 18.1.
 pub mod Faults

@@ -1,1 +1,1 @@
-// The four faults that document 01 names, each broken by a computed counterexample. This crate has no function.
+// The four faults of SPECIFICATION 18.1, each broken by a computed counterexample. This crate has no function.

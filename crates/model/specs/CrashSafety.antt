@@ -30,7 +30,7 @@ abbrev pub Reads : Layout → Image → Page → Page → Type 0
 Reads l I W P = (i b : ℕ) → i < l .mains → b < l .blocks → ReadsBlock l I W P i b
 
 -- opening is served and, replayed whole, leaves an image of which both reads give the page Q; Q is also the page that a
--- history which starts at this opening begins with (document 01: an opening shows a page)
+-- history which starts at this opening begins with (SPECIFICATION 8.8: an opening shows a page)
 pub record Recovers (l : Layout) (H : Image) (t : Trace) (Q : Page) : Type 0 where
   pub accepted : openStatus l H t ≡ 0
   pub shows : Reads l (openedImage l H t) Q Q
@@ -38,7 +38,7 @@ pub record Recovers (l : Layout) (H : Image) (t : Trace) (Q : Page) : Type 0 whe
 
 -- ---- the moment of the crash
 
--- between two calls, or after the first p operations of one more call that has more (document 01: a cut); a call that was
+-- between two calls, or after the first p operations of one more call that has more (the trade: a cut); a call that was
 -- played whole is one of the history's calls
 pub data Moment : Type 0 where
   between : Moment
@@ -63,7 +63,7 @@ abbrev pub Window : Device → Call → ℕ → Type 0
 Window d c p = (c .args ≡ checkpointArgs) × EpochStored (calledOps d c p) × (p < length (outcome d c .ops))
 
 -- the pages that may be shown after a crash: the last completed checkpoint, which is the checkpoint page after the calls
--- whose traces were played whole (document 01: the last finished save), and in the window also the working state
+-- whose traces were played whole (SPECIFICATION 8.6), and in the window also the working state
 abbrev pub MayShow : State → Moment → Page → Type 0
 MayShow s between Q = Q ≡ s .model .checkpoint
 MayShow s (during c p) Q = (Q ≡ s .model .checkpoint) ⊎ (Window (s .device) c p × (Q ≡ s .model .working))

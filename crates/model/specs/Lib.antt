@@ -1,4 +1,4 @@
--- What a reader must believe: definitions and statements, in the order of document 01.
+-- What a reader must believe: definitions and statements, in the order of docs/SPECIFICATION.md.
 -- ranges of numbers; places and sizes of an image; words
 pub mod Range
 pub mod Layout

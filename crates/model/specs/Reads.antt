@@ -1,4 +1,5 @@
--- The two reads (document 01: working read and saved read) and the companion that gives their number. Assumes nothing.
+-- The two reads (SPECIFICATION 12; the trade: working read and saved read) and the companion that gives their number. Assumes
+-- nothing.
 use Prim.Native.Nat.{ℕ, _+_, _*_}
 use mathlib.Core.Bool.{cond}
 use mathlib.Core.List.{List, _++_}
