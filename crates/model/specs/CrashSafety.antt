@@ -100,10 +100,10 @@ CrashSafetyFor R = InEveryHistory (λ s.
     -- it is served, and shows one of the permitted pages, whole; what stands are bytes, so that another life can start there
     → (Q : Page) × MayShow s m Q × Recovers (s .device .layout) H′ t′ Q × Bytes H′)
 
--- DEMAND 3. In the customer's words: "Opening with the same sizes and a long enough tape accepts what then stands, also after
--- any number of such openings that were themselves cut in the same way, and the first that finishes shows every byte of the
--- last finished save. Only a cut from a save's epoch store up to its last fence may show that save's bytes instead, and then
--- all of them."
+-- DEMAND 3 (SPECIFICATION 15.3). In the customer's words: "Opening with the same sizes and a long enough tape accepts what then
+-- stands, also after any number of such openings that were themselves cut in the same way, and the first that finishes shows
+-- every byte of the last finished save. Only a cut from a save's epoch store up to its last fence may show that save's bytes
+-- instead, and then all of them."
 abbrev pub CrashSafety : Type 0
 CrashSafety = CrashSafetyFor CrashImage
 

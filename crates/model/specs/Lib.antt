@@ -10,7 +10,7 @@ pub mod Session
 pub mod Ops
 pub mod Outcome
 pub mod Replay
--- the calls: laying-out, opening, write, save, reads, likeness
+-- the calls: format, opening, write, checkpoint, reads, same checkpoint
 pub mod Format
 pub mod Open
 pub mod Write
