@@ -18,7 +18,8 @@ use Rattle.model.specs.History.{Call, Device, State, outcome, playedOps,
 
 -- ---- what the reads show
 
--- the two reads of block b of main segment i give the pages W and P; an empty segment has no saved part, and P has zeros there
+-- the two reads of block b of main segment i give the pages W and P; one in state 0 has no checkpoint
+-- part, and P has zeros there
 pub record ReadsBlock (l : Layout) (I : Image) (W P : Page) (i b : ℕ) : Type 0 where
   pub status : readStatus l I i b ≡ 0
   pub working : workingBlock l I i b ≡ pageBlock l W i b

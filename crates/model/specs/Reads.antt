@@ -45,7 +45,7 @@ locatedPart (At p) b = blockPart p b
 unfoldable pub workingPart : Layout → Image → ℕ → ℕ → Part
 workingPart l I i b = cond (served (readStatus l I i b)) (blockPart (mainAt l i) b) noPart
 
--- the saved read: the block where the checkpoint stands, by the active line
+-- the checkpoint read: the block where the checkpoint stands, by the active line
 unfoldable pub checkpointPart : Layout → Image → ℕ → ℕ → Part
 checkpointPart l I i b =
     cond (served (readStatus l I i b)) (locatedPart (checkpointLocated l I (activeLine I) i) b) noPart
