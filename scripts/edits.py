@@ -12,7 +12,7 @@ HIDES = ("plain {n =", "has no `Need-", "is not in scope", "has no field")
 
 
 def parts(path):
-    """What is wrong with the program, the fact that breaks, the names that document 01 gives it, the file, the replacements."""
+    """What is wrong with the program, the fact that breaks, its names in the specification, the file, the replacements."""
     wrong, breaks, named, file, old, pairs = [], [], [], "", "", []
     into = wrong
     for line in open(path, encoding="utf-8").read().splitlines():

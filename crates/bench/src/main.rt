@@ -1,5 +1,5 @@
-// Document 01's bench cases P1 to P10, run on the library. Each line has what was measured. The file `stdout` has the
-// expected lines, worked out by hand from document 01. The cuts of this history are tried by the second program (rust/,
+// The bench cases P1 to P10 of SPECIFICATION 17, run on the library. Each line has what was measured. The file `stdout` has the
+// expected lines, worked out by hand from SPECIFICATION 17. The cuts of this history are tried by the second program (rust/,
 // `bench cases`), over every permitted image.
 use libc::STDOUT_FILENO;
 use model::Answer;

@@ -1,4 +1,4 @@
-// One block of 256 bytes (document 01: a frame): copied, zeroed and written back by operations on a trace, and tested. Every
+// One block of 256 bytes (the trade: a frame): copied, zeroed and written back by operations on a trace, and tested. Every
 // function `put_..` writes its operations from number n on and answers the number of the next one.
 ghost use mathlib.Core.Path.{_≡_};
 ghost use mathlib.Core.Bool.{true};
@@ -82,7 +82,7 @@ fn put_block(flush: bool, to: u64, words: [u64; BLOCK_WORDS], trace: &mut [u64],
     next
 }
 
-// Copies a block to a place: its words are gathered, stored and written back (document 01: copying a frame; source 000:
+// Copies a block to a place: its words are gathered, stored and written back (SPECIFICATION 6.8; the ported paper:
 // persist_copy).
 pub fn put_copy(block: &[u8], to: u64, trace: &mut [u64], n: usize) -> usize
     requires { ⌜ blockSize ≤ length (now block) ⌝ }

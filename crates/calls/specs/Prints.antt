@@ -1,4 +1,4 @@
--- What a bench sheet prints (document 01: "The bench sheet"), by the outcomes and steps of a module in a history. Document 01
+-- What a bench sheet prints (SPECIFICATION 16), by the outcomes and steps of a module in a history. The specification
 -- leaves open which free backup segment a write takes, so what is printed is said for some permitted choice at each write.
 -- Assumes nothing.
 use Prim.Native.Nat.{ℕ, suc, _+_, _*_}
@@ -30,7 +30,7 @@ blank = replicate traceNumbers 0
 
 -- ---- a call's answer
 
--- its number and its operations (document 01: orders)
+-- its number and its operations (the trade: orders)
 unfoldable pub answerText : String → Outcome → List ℕ
 answerText key o = text key ++ decimal (o .status) ++ text " orders=" ++ decimal (length (o .ops))
 

@@ -1,4 +1,4 @@
-// The calls of a bench sheet (document 01: "The bench sheet"). Each gets a trace of its own, is replayed, and its answer is
+// The calls of a bench sheet (SPECIFICATION 16). Each gets a trace of its own, is replayed, and its answer is
 // appended to the printed text.
 use model::Layout;
 use model::Session;
@@ -26,11 +26,11 @@ pub struct GroupParts {
     pub main: u64,
     pub block: u64,
     pub offset: u64,
-    // Whether a checkpoint follows the write (document 01: save).
+    // Whether a checkpoint follows the write (the trade: save).
     pub checkpoint: bool,
 }
 
-// Appends a key, an answer number and a number of operations (document 01: orders).
+// Appends a key, an answer number and a number of operations (the trade: orders).
 fn append_answer(out: &mut [u8], from: usize, key: &[u8], code: u64, ops: u64) -> usize
     requires { ⌜ from + length (now key) + answerSize ≤ length (now out) ⌝ }
     ensures { λ r. ⌜ Appended (now (out .entry)) from (answerOf (now (key .entry)) code ops) (now (out .exit)) r ⌝ }
@@ -40,7 +40,7 @@ fn append_answer(out: &mut [u8], from: usize, key: &[u8], code: u64, ops: u64) -
     printer::append_decimal(out, count, ops)
 }
 
-// Formats an image (document 01: lays out), opens it, replays the opening, and prints its line.
+// Formats an image (the trade: lays out), opens it, replays the opening, and prints its line.
 pub fn run_open(image: &mut [u8], layout: Layout, out: &mut [u8]) -> Ran
     requires { ⌜ (length (now image) ≡ imageSize layout) × (sizesOk layout ≡ true) × (callSize ≤ length (now out)) ⌝ }
     ensures { λ r. ⌜ Opened layout (now (out .entry)) (now (image .exit)) (now (out .exit)) r ⌝ }
@@ -90,7 +90,7 @@ pub fn run_write(image: &mut [u8], ran: Ran, parts: GroupParts, bytes: &[u8], ou
     }
 }
 
-// A checkpoint, if it is wanted (document 01: save), made and replayed, and its answer behind a space.
+// A checkpoint, if it is wanted (the trade: save), made and replayed, and its answer behind a space.
 pub fn run_checkpoint(image: &mut [u8], ran: Ran, wanted: bool, out: &mut [u8]) -> Ran
     requires { ⌜ ran .place + callSize ≤ length (now out) ⌝ }
     ensures { λ r. ⌜ CheckpointRan (now (image .entry)) ran wanted (now (out .entry)) (now (image .exit)) (now (out .exit)) r ⌝ }

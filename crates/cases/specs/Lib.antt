@@ -1,3 +1,3 @@
--- Document 01's bench cases: the table, and the crash inside P4.
+-- The bench cases of SPECIFICATION 17: the table, and the crash inside P4.
 pub mod Table
 pub mod Cut

@@ -1,9 +1,9 @@
--- Document 01's bench cases P1 to P10 as one table. Each row holds the numbers that the definitions of `model` give and
--- those that are expected; `TableHolds` says that they agree in every row. P2's two rows are openings of one fresh image, each
--- made alone; P3 to P9 are one history from there, each call made by the step of model's histories. Expected are the numbers
--- that document 01 states in these cases and, beside them, what its rules give: 0 for a served call, no operations of a
--- refused one, the two words of P3, the two operations of P3, 43 and 1 of P8 and P9, and in P8 that the backup segment is
--- free after the checkpoint and no more after the write that takes it. Proved in proofs/Table.antt.
+-- The bench cases P1 to P10 of SPECIFICATION 17 as one table. Each row holds the numbers that the definitions of `model` give
+-- and those that are expected; `TableHolds` says that they agree in every row. P2's two rows are openings of one fresh image,
+-- each made alone; P3 to P9 are one history from there, each call made by the step of model's histories. Expected are the
+-- numbers that the specification states in these cases and, beside them, what its rules give: 0 for a served call, no
+-- operations of a refused one, the two words of P3, the two operations of P3, 43 and 1 of P8 and P9, and in P8 that the backup
+-- segment is free after the checkpoint and no more after the write that takes it. Proved in proofs/Table.antt.
 use Prim.Native.Nat.{ℕ}
 use mathlib.Core.Path.{_≡_}
 use mathlib.Core.Bool.{cond}
@@ -25,7 +25,7 @@ use Rattle.model.specs.History.{Call, callWrite, callCheckpoint, State, outcome
 -- ---- rows
 
 pub record Row : Type 0 where
-  -- the number of the case in document 01
+  -- the number of the case in SPECIFICATION 17.2
   pub case : ℕ
   pub given : List ℕ
   pub expected : List ℕ

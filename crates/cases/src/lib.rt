@@ -1,1 +1,1 @@
-// The bench cases of document 01, computed from the definitions of `model`. This crate has no function.
+// The bench cases of SPECIFICATION 17, computed from the definitions of `model`. This crate has no function.

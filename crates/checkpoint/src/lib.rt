@@ -1,6 +1,6 @@
-// Checkpoint (document 01: save): the dirty blocks are written back, the next states are stored on the inactive line, and
-// then the epoch is raised. Every function `put_..` writes its operations from number n on and answers the number of the next
-// one.
+// Checkpoint (SPECIFICATION 11; the trade: save): the dirty blocks are written back, the next states are stored on the
+// inactive line, and then the epoch is raised. Every function `put_..` writes its operations from number n on and answers the
+// number of the next one.
 use model::Answer;
 use model::Layout;
 use model::Session;
@@ -189,7 +189,7 @@ fn checkpoint_status(
     Status::Served
 }
 
-// Checkpoint (document 01: save): all that was written becomes the checkpoint, in one step that no crash divides.
+// Checkpoint (the trade: save): all that was written becomes the checkpoint, in one step that no crash divides.
 pub fn crpm_checkpoint(image: &[u8], session: Session, trace: &mut [u64]) -> Answer
     ensures { λ r. ⌜ Gives (checkpointOutcome session (now (image .entry)) (now (trace .entry))) (now (trace .entry)) r (now (trace .exit)) ⌝ }
 {

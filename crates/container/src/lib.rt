@@ -1,5 +1,5 @@
-// The judge of an image (document 01: refusals 1 to 4): one pass over pairs and states tells whether the metadata is valid,
-// and finds the backup segment of each main segment.
+// The judge of an image (SPECIFICATION 14: refusals 1 to 4): one pass over pairs and states tells whether the metadata is
+// valid, and finds the backup segment of each main segment.
 use model::Layout;
 use model::Status;
 ghost use mathlib.Core.Path.{_≡_};

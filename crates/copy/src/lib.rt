@@ -1,4 +1,4 @@
-// Copy on write (document 01: Write): before the first store to a main segment that holds its checkpoint itself, the segment
+// Copy on write (SPECIFICATION 10.3): before the first store to a main segment that holds its checkpoint itself, the segment
 // is copied to a backup segment and its state becomes 2. The plan of the copy, how many operations it is, and the
 // operations. Every function `put_..` writes its operations from number n on and answers the number of the next one.
 use metadata::Found;
@@ -78,7 +78,7 @@ pub fn none_free(plan: Plan) -> bool
     }
 }
 
-// How many operations the copy is (document 01: what a write writes).
+// How many operations the copy is (SPECIFICATION 10.6).
 pub fn copy_count(plan: Plan, segment: Segment) -> u64
     requires { ⌜ (segment .layout .blocks ≤ most) × (segment .word < 2 ^ segment .layout .blocks) ⌝ }
     ensures { λ r. ⌜ ((I : Image) → r ≡ length (copyOnWriteOps (segment .layout) I (segment .word) (segment .main) plan)) × (r ≤ 2 ^ 32) ⌝ }

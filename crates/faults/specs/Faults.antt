@@ -1,5 +1,5 @@
--- Document 01's "Faults a reader could mistake for good work". Each fault is model's own definition with one change, and
--- each statement says that demand 3 then fails: a crash may leave an image that opening refuses, or of which it shows a
+-- Faults that a reader could mistake for good work (SPECIFICATION 18.1). Each fault is model's own definition with one change,
+-- and each statement says that demand 3 then fails: a crash may leave an image that opening refuses, or of which it shows a
 -- page that is not permitted, which nobody notices. Proved in proofs/.
 use Prim.Native.Nat.{ℕ, _+_}
 use mathlib.Core.Path.{_≡_}

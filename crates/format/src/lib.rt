@@ -1,4 +1,4 @@
-// Format of an image (document 01: laying-out): zeros, the three sizes, and every backup segment unpaired.
+// Format of an image (SPECIFICATION 4; the trade: laying-out): zeros, the three sizes, and every backup segment unpaired.
 use model::Layout;
 use model::Status;
 ghost use mathlib.Core.Path.{_≡_};

@@ -1,4 +1,4 @@
-// One group of a bench sheet (document 01: "The bench sheet"): its write, its checkpoint if one is wanted, and its line.
+// One group of a bench sheet (SPECIFICATION 16): its write, its checkpoint if one is wanted, and its line.
 use calls::GroupParts;
 use calls::Ran;
 use model::Layout;

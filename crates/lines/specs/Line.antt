@@ -1,4 +1,4 @@
--- One line of the bench sheet (document 01: "The bench sheet"): the keys in their order, what may stand behind each, and which
+-- One line of the bench sheet (SPECIFICATION 16): the keys in their order, what may stand behind each, and which
 -- line is good. Assumes nothing.
 use Prim.Native.Nat.{ℕ, _-_}
 use mathlib.Core.Bool.{Bool, false, _&&_}
@@ -45,7 +45,8 @@ pub record Key : Type 0 where
   pub name : List ℕ
   pub takes : List ℕ → Bool
 
--- the keys by their places: three sizes (0 to 2), then the five lines of a group (3 to 7; document 01: level, frame, at, bytes, save)
+-- the keys by their places: three sizes (0 to 2), then the five lines of a group (3 to 7; the trade: level, frame, at, bytes,
+-- save)
 abbrev pub keys : List Key
 keys =
     record { name = text "mains="; takes = isSize }

@@ -1,4 +1,4 @@
-// One line of the bench sheet (document 01: "The bench sheet"): its key, its value, and whether it is good. A line or a value
+// One line of the bench sheet (SPECIFICATION 16): its key, its value, and whether it is good. A line or a value
 // is a part of the caller's bytes.
 use text::Number;
 ghost use mathlib.Core.Path.{_≡_};

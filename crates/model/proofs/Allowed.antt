@@ -1,6 +1,6 @@
 -- What the statements of demand 3 permit, and no more: the pages that may be shown, the pages that reads can give, openings
 -- that are cut, calls of a history. These laws need the definitions alone. The checker takes modules by name, this one
--- first: a statement that permits more than document 01, or excludes a call, is refused here.
+-- first: a statement that permits more than the specification, or excludes a call, is refused here.
 use Prim.Native.Nat.{ℕ, _+_, _≤_}
 use mathlib.Core.Path.{_≡_, sym, ap, _∙_}
 use mathlib.Core.Logic.{_≢_, ⊎-elim}

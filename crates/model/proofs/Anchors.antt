@@ -1,5 +1,5 @@
--- Single rules of document 01, each on an instance that is small enough to be computed: closed numbers, a container of one
--- main segment, one backup segment and one block, an image of a few hundred bytes. They need the definitions alone, and no
+-- Single rules of the specification, each on an instance that is small enough to be computed: closed numbers, a container of
+-- one main segment, one backup segment and one block, an image of a few hundred bytes. They need the definitions alone, and no
 -- law rests on them. The checker takes modules by name, this one before all laws: a definition that departs from its rule is
 -- refused here, with the two sides that then differ.
 use Prim.Native.Nat.{ℕ, suc, _+_, _*_, _/_, _≤_}

@@ -1,4 +1,4 @@
--- Checkpoint (document 01: Save). Assumes nothing.
+-- Checkpoint (SPECIFICATION 11; the trade: save). Assumes nothing.
 use Prim.Native.Nat.{ℕ, suc, _+_, _-_, _*_, _^_}
 use mathlib.Core.Bool.{Bool, cond}
 use mathlib.Core.List.{List, [], _∷_, _++_}

@@ -16,11 +16,11 @@ use Rattle.model.specs.Words.{Image, byteAt, wordAt}
 use Rattle.model.specs.Layout.{most, epochAt, mainsAt, backupsAt, blocksAt, pairsAt, unpaired, ssInitial, ssBackup, stateLine, segmentSize, mainAt, backupAt, sizesOk, imageSize}
 use Rattle.model.specs.Status.{Errors}
 
--- the number of checkpoints (document 01: epoch)
+-- the number of checkpoints (the trade: epoch)
 abbrev pub committedEpoch : Image → ℕ
 committedEpoch I = wordAt I epochAt
 
--- the line of states that the epoch's parity picks, and the other (document 01: active and idle line); a line of states is named
+-- the line of states that the epoch's parity picks, and the other (the trade: active and idle line); a line of states is named
 -- by the place of its first byte
 abbrev pub activeLine : Image → ℕ
 activeLine I = stateLine (committedEpoch I)
@@ -36,11 +36,11 @@ segState I line i = byteAt I (line + i)
 abbrev pub activeState : Image → ℕ → ℕ
 activeState I = segState I (activeLine I)
 
--- the main segment of backup segment j, or `unpaired` (document 01: pairs)
+-- the main segment of backup segment j, or `unpaired` (SPECIFICATION 2.2)
 abbrev pub backupToMain : Image → ℕ → ℕ
 backupToMain I j = byteAt I (pairsAt + j)
 
--- ---- valid metadata (document 01: sound); st gives the states, pr the pairs
+-- ---- valid metadata (SPECIFICATION 3.1; the trade: sound); st gives the states, pr the pairs
 
 pub record Valid (l : Layout) (st pr : ℕ → ℕ) : Type 0 where
   -- states of main segments are 0, 1 or 2, and the rest of the line is 0
@@ -72,12 +72,12 @@ validMetadata l st pr =
 
 -- ---- backup segments
 
--- the backup segment of main segment i, or the number of backups where it has none (document 01: its spare)
+-- the backup segment of main segment i, or the number of backups where it has none (the trade: its spare)
 unfoldable pub pairedBackup : Layout → (ℕ → ℕ) → ℕ → ℕ
 pairedBackup l pr i = firstB (l .backups) (λ j. eqb (pr j) i)
 
 -- a backup segment that may be given to another main segment: it is unpaired, or its main segment is not in state 2
--- (document 01: a free spare)
+-- (SPECIFICATION 3.2; the trade: a free spare)
 abbrev pub Free : Layout → (ℕ → ℕ) → (ℕ → ℕ) → ℕ → Type 0
 Free l st pr j = (j < l .backups) × ((pr j ≡ unpaired) ⊎ (st (pr j) ≢ ssBackup))
 
@@ -88,7 +88,7 @@ isFree st pr j = eqb (pr j) unpaired || not (eqb (st (pr j)) ssBackup)
 unfoldable pub anyFree : Layout → (ℕ → ℕ) → (ℕ → ℕ) → Bool
 anyFree l st pr = anyB (l .backups) (isFree st pr)
 
--- ---- the checkpoint state (document 01: saved bytes)
+-- ---- the checkpoint state (SPECIFICATION 2.6; the trade: saved bytes)
 
 -- a choice by the state of a main segment: initial, main, backup; any other number counts as backup, and refusal 4 comes
 -- before that could be seen

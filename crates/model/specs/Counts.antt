@@ -1,6 +1,6 @@
--- A helper's file: nothing that users rely on is said in its terms, and no outcome is defined by them. What document 01
--- counts: main segments that opening treats, dirty blocks (m). Contracts of helper functions cite it, and so do the laws that the
--- operations of a call number what the document says (proofs/Laws/Counts.antt). Assumes nothing.
+-- A helper's file: nothing that users rely on is said in its terms, and no outcome is defined by them. What the
+-- specification counts: main segments that opening treats, dirty blocks (m). Contracts of helper functions cite it, and so do
+-- the laws that the operations of a call number what it says (proofs/Laws/Counts.antt). Assumes nothing.
 use Prim.Native.Nat.{ℕ}
 use mathlib.Core.List.{List}
 use lib.ListN.{getD}
@@ -24,7 +24,8 @@ acts CopyToMain = 1
 unfoldable pub treated : Layout → Image → ℕ → ℕ
 treated l I line = sumTo (l .mains) (λ i. acts (recoveryAction (segState I line i) (isPaired l (backupToMain I) i)))
 
--- how many of n blocks are dirty by their bits in a word, and how many in all main segments by their words (document 01: m)
+-- how many of n blocks are dirty by their bits in a word, and how many in all main segments by their words (SPECIFICATION
+-- 10.6, 11.2: m)
 unfoldable pub dirtyCount : ℕ → ℕ → ℕ
 dirtyCount word n = sumTo n (λ b. oneIf (isDirty word b))
 

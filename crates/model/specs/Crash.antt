@@ -1,8 +1,8 @@
--- What a crash may leave (document 01: a cut; what then stands). The whole crash model is this file.
+-- What a crash may leave (SPECIFICATION 7; the trade: a cut, what then stands). The whole crash model is this file.
 --
--- I was durable (document 01: held), and O is every operation played since, across calls. Each line, on its own, holds its
+-- I was durable (the trade: held), and O is every operation played since, across calls. Each line, on its own, holds its
 -- bytes after some first part of O, and not less than every store before a clwb of that line that a later sfence of O
--- followed. What is assumed of the hardware is in README.md: a word is not torn, stores to one line arrive in program
+-- followed. What is assumed of the hardware is in SPECIFICATION 7.5: a word is not torn, stores to one line arrive in program
 -- order, and clwb with sfence keep their promise.
 use Prim.Native.Nat.{ℕ, _/_, _≤_}
 use mathlib.Core.Path.{_≡_}
@@ -23,7 +23,7 @@ KeepsDurable ℓ O k = (A C D : Ops) (p : ℕ) → p / lineSize ≡ ℓ → O �
 abbrev pub AgreeOn : ℕ → Image → Image → Type 0
 AgreeOn ℓ H J = (i : ℕ) → i / lineSize ≡ ℓ → byteAt H i ≡ byteAt J i
 
--- line ℓ of H is one that a crash may leave (document 01: a stage of the line)
+-- line ℓ of H is one that a crash may leave (SPECIFICATION 7.2)
 pub record Stage (ℓ : ℕ) (I : Image) (O : Ops) (H : Image) : Type 0 where
   pub k : ℕ
   pub within : k ≤ length O

@@ -1,6 +1,6 @@
--- That the crash relation (specs/Crash.antt) is document 01's sentence, no more and no less: a stage of a line is a first part
--- of the stores to that line, from its floor on; lines are independent; n waiting stores on n lines give exactly 2 ^ n images.
--- Demand 3 does not need this file. Proved in proofs/Laws/Crash/. Assumes nothing.
+-- That the crash relation (specs/Crash.antt) is the sentence of SPECIFICATION 7.2, no more and no less: a stage of a line is a
+-- first part of the stores to that line, from its floor on; lines are independent; n waiting stores on n lines give exactly
+-- 2 ^ n images. Demand 3 does not need this file. Proved in proofs/Laws/Crash/. Assumes nothing.
 use Prim.Native.Nat.{ℕ, suc, _^_, _/_, _%_, _≤_, _<_, max}
 use mathlib.Core.Path.{_≡_}
 use mathlib.Core.Logic.{_↔_, _≢_}
@@ -103,7 +103,7 @@ Waiting I (store p w ∷ O) =
 Waiting I (clwb p ∷ O) = ⊥
 Waiting I (sfence ∷ O) = ⊥
 
--- n waiting stores on n lines, each line old or new; ten of them (document 01: 1,024)
+-- n waiting stores on n lines, each line old or new; ten of them (SPECIFICATION 7.3: 1,024)
 abbrev pub CrashCount : Type 0
 CrashCount = (I : Image) (O : Ops) → Waiting I O → Exactly (2 ^ length O) (CrashImage I O)
 

@@ -18,7 +18,8 @@ use Rattle.model.specs.History.{Call, Device, State, outcome, playedOps,
 
 -- ---- what the reads show
 
--- the two reads of block b of main segment i give the pages W and P; an empty segment has no saved part, and P has zeros there
+-- the two reads of block b of main segment i give the pages W and P; one in state 0 has no checkpoint
+-- part, and P has zeros there
 pub record ReadsBlock (l : Layout) (I : Image) (W P : Page) (i b : ℕ) : Type 0 where
   pub status : readStatus l I i b ≡ 0
   pub working : workingBlock l I i b ≡ pageBlock l W i b
@@ -30,7 +31,7 @@ abbrev pub Reads : Layout → Image → Page → Page → Type 0
 Reads l I W P = (i b : ℕ) → i < l .mains → b < l .blocks → ReadsBlock l I W P i b
 
 -- opening is served and, replayed whole, leaves an image of which both reads give the page Q; Q is also the page that a
--- history which starts at this opening begins with (document 01: an opening shows a page)
+-- history which starts at this opening begins with (SPECIFICATION 8.8: an opening shows a page)
 pub record Recovers (l : Layout) (H : Image) (t : Trace) (Q : Page) : Type 0 where
   pub accepted : openStatus l H t ≡ 0
   pub shows : Reads l (openedImage l H t) Q Q
@@ -38,7 +39,7 @@ pub record Recovers (l : Layout) (H : Image) (t : Trace) (Q : Page) : Type 0 whe
 
 -- ---- the moment of the crash
 
--- between two calls, or after the first p operations of one more call that has more (document 01: a cut); a call that was
+-- between two calls, or after the first p operations of one more call that has more (the trade: a cut); a call that was
 -- played whole is one of the history's calls
 pub data Moment : Type 0 where
   between : Moment
@@ -63,7 +64,7 @@ abbrev pub Window : Device → Call → ℕ → Type 0
 Window d c p = (c .args ≡ checkpointArgs) × EpochStored (calledOps d c p) × (p < length (outcome d c .ops))
 
 -- the pages that may be shown after a crash: the last completed checkpoint, which is the checkpoint page after the calls
--- whose traces were played whole (document 01: the last finished save), and in the window also the working state
+-- whose traces were played whole (SPECIFICATION 8.6), and in the window also the working state
 abbrev pub MayShow : State → Moment → Page → Type 0
 MayShow s between Q = Q ≡ s .model .checkpoint
 MayShow s (during c p) Q = (Q ≡ s .model .checkpoint) ⊎ (Window (s .device) c p × (Q ≡ s .model .working))
@@ -100,10 +101,10 @@ CrashSafetyFor R = InEveryHistory (λ s.
     -- it is served, and shows one of the permitted pages, whole; what stands are bytes, so that another life can start there
     → (Q : Page) × MayShow s m Q × Recovers (s .device .layout) H′ t′ Q × Bytes H′)
 
--- DEMAND 3. In the customer's words: "Opening with the same sizes and a long enough tape accepts what then stands, also after
--- any number of such openings that were themselves cut in the same way, and the first that finishes shows every byte of the
--- last finished save. Only a cut from a save's epoch store up to its last fence may show that save's bytes instead, and then
--- all of them."
+-- DEMAND 3 (SPECIFICATION 15.3). In the customer's words: "Opening with the same sizes and a long enough tape accepts what then
+-- stands, also after any number of such openings that were themselves cut in the same way, and the first that finishes shows
+-- every byte of the last finished save. Only a cut from a save's epoch store up to its last fence may show that save's bytes
+-- instead, and then all of them."
 abbrev pub CrashSafety : Type 0
 CrashSafety = CrashSafetyFor CrashImage
 

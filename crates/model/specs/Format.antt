@@ -1,4 +1,4 @@
--- Format (document 01: laying-out) and the bytes of an image in their order. Assumes nothing.
+-- Format (SPECIFICATION 4; the trade: laying-out) and the bytes of an image in their order. Assumes nothing.
 use Prim.Native.Nat.{ℕ, _+_, _-_, _*_}
 use mathlib.Core.Bool.{cond}
 use mathlib.Core.List.{List, _++_}

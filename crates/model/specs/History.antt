@@ -17,7 +17,7 @@ use Rattle.model.specs.Write.{WriteArgs, writeOutcome, Chosen}
 use Rattle.model.specs.Checkpoint.{checkpointOutcome}
 use Rattle.model.specs.Reference.{Model, CallArgs, openArgs, writeArgs, checkpointArgs, modelStep}
 
--- a call (document 01: openings, writes and saves): its arguments, which are all of it that the model is fed; its trace; and
+-- a call (the trade: openings, writes and saves): its arguments, which are all of it that the model is fed; its trace; and
 -- the backup segment that a write takes if it needs a new one, which the other calls do not look at
 pub record Call : Type 0 where
   pub args : CallArgs

@@ -1,11 +1,11 @@
--- Sizes and places of an image (document 01: "The module's image"). Every size is named here, and as a constant of
+-- Sizes and places of an image (SPECIFICATION 1 and 2). Every size is named here, and as a constant of
 -- `Layout` in src/. Assumes nothing.
 use Prim.Native.Nat.{ℕ, _+_, _*_, _%_, _≤_}
 use mathlib.Core.Bool.{Bool, _&&_}
 use lib.Dec.{leb}
 use Rattle.model.specs.declared.Layout.{Layout}
 
--- bytes of a word, a line, a block (document 01: frame), the metadata
+-- bytes of a word, a line, a block (the trade: frame), the metadata
 abbrev pub wordSize : ℕ
 wordSize = 8
 

@@ -1,4 +1,4 @@
--- What a reader must believe: definitions and statements, in the order of document 01.
+-- What a reader must believe: definitions and statements, in the order of docs/SPECIFICATION.md.
 -- ranges of numbers; places and sizes of an image; words
 pub mod Range
 pub mod Layout
@@ -10,7 +10,7 @@ pub mod Session
 pub mod Ops
 pub mod Outcome
 pub mod Replay
--- the calls: laying-out, opening, write, save, reads, likeness
+-- the calls: format, opening, write, checkpoint, reads, same checkpoint
 pub mod Format
 pub mod Open
 pub mod Write

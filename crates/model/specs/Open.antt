@@ -1,4 +1,4 @@
--- Opening, which recovers (document 01: Opening). Assumes nothing.
+-- Opening, which recovers (SPECIFICATION 9). Assumes nothing.
 use Prim.Native.Nat.{ℕ}
 use mathlib.Core.Bool.{Bool, true, false}
 use mathlib.Core.List.{[], _∷_, _++_}

@@ -1,4 +1,4 @@
--- Persist operations and the trace that holds them (document 01: orders and tape). Assumes nothing.
+-- Persist operations and the trace that holds them (SPECIFICATION 6; the trade: orders and tape). Assumes nothing.
 use Prim.Native.Nat.{ℕ, _+_, _*_, _/_}
 use mathlib.Core.Bool.{Bool, true, cond}
 use mathlib.Core.List.{List, [], _∷_, _++_}
@@ -11,7 +11,7 @@ use Rattle.model.specs.Words.{Image, byteAt, wordOf, wordAt, storeWord, 
 use Rattle.model.specs.Layout.{wordSize, lineSize, blockSize, blockWords, blockLines}
 use Rattle.model.specs.Session.{isDirty}
 
--- store a word at a place; write the line of a place back; wait for what was written back (document 01: store, flush, fence); a
+-- store a word at a place; write the line of a place back; wait for what was written back (the trade: store, flush, fence); a
 -- place is the number of a byte of the image
 pub data Op : Type 0 where
   store : ℕ → ℕ → Op
@@ -21,7 +21,7 @@ pub data Op : Type 0 where
 abbrev pub Ops : Type 0
 Ops = List Op
 
--- a run of numbers, three an operation: kind, place, word (document 01: tape)
+-- a run of numbers, three an operation: kind, place, word (the trade: tape)
 abbrev pub Trace : Type 0
 Trace = List ℕ
 
@@ -77,7 +77,7 @@ apply (store p w) I = storeWord I p w
 apply (clwb p) I = I
 apply sfence I = I
 
--- the operations, one after the other (document 01: play)
+-- the operations, one after the other (the trade: play)
 unfoldable pub replay : Ops → Image → Image
 replay [] I = I
 replay (o ∷ O) I = replay O (apply o I)
@@ -96,7 +96,7 @@ clwbs n a = cat n (λ k. clwb (a + lineSize * k) ∷ [])
 unfoldable pub putBlock : Bool → ℕ → (ℕ → ℕ) → Ops
 putBlock flush a w = stores blockWords a w ++ cond flush (clwbs blockLines a) []
 
--- a block copied (document 01: copying a frame), its words gathered from the image, and a block of zeros by the same operations
+-- a block copied (SPECIFICATION 6.8), its words gathered from the image, and a block of zeros by the same operations
 unfoldable pub persistCopy : Image → ℕ → ℕ → Ops
 persistCopy I from to = putBlock true to (λ k. wordAt I (from + wordSize * k))
 

@@ -21,7 +21,7 @@ pub record Outcome : Type 0 where
 unfoldable pub outcomeOf : ℕ → Session → Session → Ops → Outcome
 outcomeOf e kept next O = record { status = e; session = cond (served e) next kept; ops = cond (served e) O [] }
 
--- an answer of the code and the trace that it leaves give an outcome: document 01's number of its status, its session, its
+-- an answer of the code and the trace that it leaves give an outcome: the number of its status, its session, its
 -- number of operations, and these on the trace t
 abbrev pub Gives : Outcome → Trace → Answer → Trace → Type 0
 Gives o t a after =

@@ -1,4 +1,5 @@
--- The two reads (document 01: working read and saved read) and the companion that gives their number. Assumes nothing.
+-- The two reads (SPECIFICATION 12; the trade: working read and saved read) and the companion that gives their number. Assumes
+-- nothing.
 use Prim.Native.Nat.{ℕ, _+_, _*_}
 use mathlib.Core.Bool.{cond}
 use mathlib.Core.List.{List, _++_}
@@ -44,7 +45,7 @@ locatedPart (At p) b = blockPart p b
 unfoldable pub workingPart : Layout → Image → ℕ → ℕ → Part
 workingPart l I i b = cond (served (readStatus l I i b)) (blockPart (mainAt l i) b) noPart
 
--- the saved read: the block where the checkpoint stands, by the active line
+-- the checkpoint read: the block where the checkpoint stands, by the active line
 unfoldable pub checkpointPart : Layout → Image → ℕ → ℕ → Part
 checkpointPart l I i b =
     cond (served (readStatus l I i b)) (locatedPart (checkpointLocated l I (activeLine I) i) b) noPart

@@ -1,5 +1,5 @@
--- The reference model (document 01: the book) that a history is compared with. It sees the arguments of a call and
--- whether it was served, and neither image, session nor trace. Assumes nothing.
+-- The reference model (SPECIFICATION 8.3; the trade: the book) that a history is compared with. It sees the arguments of a
+-- call and whether it was served, and neither image, session nor trace. Assumes nothing.
 use Prim.Native.Nat.{ℕ, _+_, _*_}
 use mathlib.Core.Bool.{Bool, true, false}
 use mathlib.Core.List.{List}
@@ -13,7 +13,7 @@ use Rattle.model.specs.Write.{WriteArgs}
 abbrev pub Page : Type 0
 Page = List ℕ
 
--- the working state and the checkpoint state (document 01: working and saved page)
+-- the working state and the checkpoint state (the trade: working and saved page)
 pub record Model : Type 0 where
   pub working : Page
   pub checkpoint : Page

@@ -1,5 +1,5 @@
--- Demand 1: a call is served, or refused with the number of the first of its conditions that holds (document 01: "Refusals by
--- number"). What is said of any list of refusals, the numbers that each call's list has, and the statements. Proved in
+-- Demand 1: a call is served, or refused with the number of the first of its conditions that holds (SPECIFICATION
+-- 14 and 15.1). What is said of any list of refusals, the numbers that each call's list has, and the statements. Proved in
 -- proofs/Laws/Refusals.antt. Assumes nothing.
 use Prim.Native.Nat.{ℕ, _≤_, _<_}
 use mathlib.Core.Path.{_≡_}
@@ -71,7 +71,7 @@ abbrev pub NumberKnown : Type 0
 NumberKnown = (es : Errors) → OneOf (0 ∷ numbers es) (firstError es)
 
 -- ---- a closing remark, on which nothing rests: today's lists ascend but that of `same`, which is one list twice, so that the
--- number given is the lowest that applies (document 01)
+-- number given is the lowest that applies (SPECIFICATION 14.2)
 
 -- the numbers are above k and ascend
 abbrev pub Ascending : ℕ → Errors → Type 0

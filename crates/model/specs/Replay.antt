@@ -1,4 +1,4 @@
--- Replay of a trace (document 01: the player). Assumes nothing.
+-- Replay of a trace (SPECIFICATION 6.6; the trade: the player). Assumes nothing.
 use Prim.Native.Nat.{ℕ, _+_, _*_, _/_, _%_, min}
 use mathlib.Core.Bool.{Bool, not, cond, _&&_, _||_}
 use mathlib.Core.List.{[], _∷_}

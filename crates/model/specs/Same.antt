@@ -1,4 +1,4 @@
--- Equality of two checkpoints (document 01: likeness). Assumes nothing.
+-- Equality of two checkpoints (SPECIFICATION 13; the trade: likeness). Assumes nothing.
 use Prim.Native.Nat.{ℕ, _*_}
 use mathlib.Core.Bool.{Bool, false, cond}
 use mathlib.Core.List.{List, _++_}

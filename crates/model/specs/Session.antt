@@ -1,4 +1,4 @@
--- The volatile session (document 01: the card): which main segments and blocks are dirty, and when it is valid.
+-- The volatile session (SPECIFICATION 5; the trade: the card): which main segments and blocks are dirty, and when it is valid.
 -- Assumes nothing.
 use Prim.Native.Nat.{ℕ, zero, suc, _+_, _^_, _/_, _%_, _<_}
 use mathlib.Core.Path.{_≡_}
@@ -36,11 +36,11 @@ setBits m f (suc n) = setBit (setBits m f n) (f + n)
 abbrev pub dirtyWord : Session → ℕ → ℕ
 dirtyWord s i = getD (s .«dirty_blocks») i 0
 
--- main segment i was written since the last checkpoint (document 01: touched)
+-- main segment i was written since the last checkpoint (the trade: touched)
 unfoldable pub dirtySegment : Session → ℕ → Bool
 dirtySegment s i = isDirty (s .«dirty_segments») i
 
--- block b of main segment i is dirty (document 01: marked)
+-- block b of main segment i is dirty (the trade: marked)
 unfoldable pub dirtyBlock : Session → ℕ → ℕ → Bool
 dirtyBlock s i b = isDirty (dirtyWord s i) b
 
@@ -61,7 +61,8 @@ withDirty s i b n m =
 unfoldable pub withCheckpoint : Session → Session
 withCheckpoint s = record { layout = s .layout; «dirty_segments» = 0; «dirty_blocks» = s .«dirty_blocks» }
 
--- a valid session (document 01: a true card): no bit is set beyond the sizes, and no dirty segment is in state 1
+-- a valid session (SPECIFICATION 5.2; the trade: a true card): no bit is set beyond the sizes, and no dirty segment is in
+-- state 1
 pub record SessionValid (s : Session) (st : ℕ → ℕ) : Type 0 where
   pub segments : (i : ℕ) → dirtySegment s i ≡ true → i < s .layout .mains
   pub blocks : (i b : ℕ) → dirtyBlock s i b ≡ true → (i < s .layout .mains) × (b < s .layout .blocks)

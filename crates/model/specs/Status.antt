@@ -1,4 +1,4 @@
--- Status numbers (document 01: refusals by number) and the rule that picks one. Assumes nothing.
+-- Status numbers (SPECIFICATION 14) and the rule that picks one. Assumes nothing.
 use Prim.Native.Nat.{ℕ}
 use mathlib.Core.Bool.{Bool, cond}
 use mathlib.Core.List.{List, [], _∷_}
@@ -6,7 +6,7 @@ use lib.Dec.{eqb}
 use Rattle.model.specs.declared.Status.{Status}
 use Rattle.model.specs.declared.Status.the-variants.{Served, BadSize, BadLength, Foreign, Invalid, BadSession, NoSuchMain, NoSuchBlock, BadSpan, NoFreeBackup, EpochLimit, TraceShort, TraceBad}
 
--- document 01's number of each status
+-- the number of each status (SPECIFICATION 14.1)
 abbrev pub codeOf : Status → ℕ
 codeOf Served = 0
 codeOf BadSize = 1

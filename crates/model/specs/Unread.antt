@@ -1,6 +1,5 @@
--- Bytes that no call reads (document 01: "Metadata bytes not named are never read"; the idle line's "contents are not
--- checked"), as one statement: on two images that agree on all other bytes every call answers the same. Proved in
--- proofs/Laws/Unread.antt. Assumes nothing.
+-- Bytes that no call reads (SPECIFICATION 2.4: metadata bytes not named; 2.5: the inactive line), as one statement: on two
+-- images that agree on all other bytes every call answers the same. Proved in proofs/Laws/Unread.antt. Assumes nothing.
 use Prim.Native.Nat.{ℕ, _+_, _≤_, _<_}
 use mathlib.Core.Path.{_≡_}
 use lib.ListN.{length}

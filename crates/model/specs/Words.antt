@@ -7,7 +7,7 @@ use lib.ListN.{getD}
 use lib.Seq.{sets}
 use Rattle.model.specs.Layout.{wordSize}
 
--- the contents of a persistent container (document 01: the module's image)
+-- the contents of a persistent container (SPECIFICATION 2.1)
 abbrev pub Image : Type 0
 Image = List ℕ
 

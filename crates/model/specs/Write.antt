@@ -1,4 +1,4 @@
--- Write (document 01: Write). The backup segment that a write takes when it needs a new one is left open: it is the
+-- Write (SPECIFICATION 10). The backup segment that a write takes when it needs a new one is left open: it is the
 -- argument j of the plan and of what is made of the plan, `Chosen` says what holds of it, and all else follows from it.
 -- Assumes nothing.
 use Prim.Native.Nat.{ℕ, _+_, _-_, _*_, _/_}
@@ -19,7 +19,7 @@ use Rattle.model.specs.Session.{dirtySegment, dirtyWord, withDirty, cont
 use Rattle.model.specs.Ops.{clwb, sfence, Ops, Trace, traceErrors, stores, persistCopy, copySegment, eachDirty, wordPlace, storeByte}
 use Rattle.model.specs.Outcome.{Outcome, outcomeOf}
 
--- what a write is given: main segment, block, offset in the block, and the bytes (document 01: level, frame, offset, bytes)
+-- what a write is given: main segment, block, offset in the block, and the bytes (the trade: level, frame, offset, bytes)
 pub record WriteArgs : Type 0 where
   pub main : ℕ
   pub block : ℕ
@@ -29,7 +29,7 @@ pub record WriteArgs : Type 0 where
 abbrev pub writeArgsOf : ℕ → ℕ → ℕ → List ℕ → WriteArgs
 writeArgsOf main block offset bytes = record { main = main; block = block; offset = offset; bytes = bytes }
 
--- the segment must be copied first: it is not dirty, and its state is 1 (document 01: untouched and in state 1)
+-- the segment must be copied first: it is not dirty, and its state is 1 (SPECIFICATION 10.3)
 unfoldable pub needsCopy : Session → Image → ℕ → Bool
 needsCopy s I i = not (dirtySegment s i) && eqb (activeState I i) ssMain
 
@@ -85,7 +85,7 @@ stateOps I i = storeByte I (activeLine I + i) ssBackup ∷ clwb (activeLine I) �
 unfoldable pub copyOnWriteOps : Layout → Image → ℕ → ℕ → Plan → Ops
 copyOnWriteOps l I word i p = cond (copies p) (backupOps l I word i p ++ sfence ∷ stateOps I i ++ sfence ∷ []) []
 
--- where a span starts, how many words it meets (document 01: w), and how many blocks
+-- where a span starts, how many words it meets (SPECIFICATION 10.4: w), and how many blocks
 abbrev pub spanAt : Layout → WriteArgs → ℕ
 spanAt l w = mainAt l (w .main) + (blockSize * w .block + w .offset)
 

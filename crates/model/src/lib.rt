@@ -6,13 +6,13 @@ ghost use Rattle.model.specs.Session.{freshSession};
 ghost use Rattle.model.specs.Status.{codeOf, served};
 ghost use Rattle.model.specs.declared.Status.the-variants.{Served};
 
-// The sizes of a container (document 01: M levels, S spares, B frames), each 1 to 64.
+// The sizes of a container (the trade: M levels, S spares, B frames), each 1 to 64 (SPECIFICATION 1.2).
 pub struct Layout {
-    // Main segments (document 01: levels).
+    // Main segments (the trade: levels).
     pub mains: u64,
-    // Backup segments (document 01: spares).
+    // Backup segments (the trade: spares).
     pub backups: u64,
-    // Blocks in each segment (document 01: frames).
+    // Blocks in each segment (the trade: frames).
     pub blocks: u64,
 }
 
@@ -70,12 +70,12 @@ impl Layout {
     }
 }
 
-// What is kept in volatile memory between calls (document 01: the card).
+// What is kept in volatile memory between calls (the trade: the card; SPECIFICATION 5).
 pub struct Session {
     pub layout: Layout,
-    // One bit for each main segment written since the last checkpoint (document 01: touched).
+    // One bit for each main segment written since the last checkpoint (the trade: touched).
     pub dirty_segments: u64,
-    // For each main segment one word, with one bit for each dirty block (document 01: marked).
+    // For each main segment one word, with one bit for each dirty block (the trade: marked).
     pub dirty_blocks: [u64; Layout::MOST_LEN],
 }
 
@@ -92,7 +92,7 @@ impl Session {
     }
 }
 
-// How a call ends (document 01: refusals by number).
+// How a call ends (SPECIFICATION 14).
 pub enum Status {
     Served,
     BadSize,
@@ -110,7 +110,7 @@ pub enum Status {
 }
 
 impl Status {
-    // Document 01's number of the status.
+    // The number of the status (SPECIFICATION 14.1).
     pub fn code(self) -> u64
         ensures { λ r. ⌜ r ≡ codeOf self ⌝ }
     {
@@ -185,7 +185,7 @@ pub enum Plan {
     NoneFree,
 }
 
-// What recovery does to a main segment and its backup (document 01: the opening table).
+// What recovery does to a main segment and its backup (SPECIFICATION 9.2).
 pub enum Action {
     Nothing,
     ZeroMain,

@@ -1,4 +1,4 @@
-// Opening, which recovers (document 01: opening): each main segment is treated by the table of states and pairs, so that its
+// Opening, which recovers (SPECIFICATION 9): each main segment is treated by the table of states and pairs, so that its
 // bytes are the checkpoint again. What recovery does is given a line of states; an opening goes by the active one.
 use container::SLOTS;
 use model::Action;
@@ -193,8 +193,8 @@ fn recover(image: &[u8], layout: Layout, line: usize, trace: &mut [u64]) -> Answ
     Answer::served(Session::fresh(layout), ops)
 }
 
-// Opening (document 01): recovers the checkpoint after any crash, and answers a session in which nothing is dirty. A refused
-// opening answers a session of zeros.
+// Opening (SPECIFICATION 9): recovers the checkpoint after any crash, and answers a session in which nothing is dirty. A
+// refused opening answers a session of zeros.
 pub fn crpm_open(image: &[u8], mains: u64, backups: u64, blocks: u64, trace: &mut [u64]) -> Answer
     ensures { λ r. ⌜ Gives (openOutcome (layoutOf mains backups blocks) (now (image .entry)) (now (trace .entry))) (now (trace .entry)) r (now (trace .exit)) ⌝ }
 {

@@ -1,6 +1,6 @@
--- Corner sheets with the number that they print, worked out by hand from document 01: 0 for a good sheet, else the number of the
--- first bad or missing line; and what some good sheets say. `Corners` says that the definitions give all this. Proved in
--- proofs/Corners.antt.
+-- Corner sheets with the number that they print, worked out by hand from SPECIFICATION 16: 0 for a good sheet, else the number
+-- of the first bad or missing line; and what some good sheets say. `Corners` says that the definitions give all this. Proved
+-- in proofs/Corners.antt.
 use Prim.Native.Nat.{ℕ}
 use Prim.Native.String.{String}
 use mathlib.Core.Path.{_≡_}
@@ -60,7 +60,7 @@ sizeCorners =
 -- sheets with groups
 abbrev pub groupCorners : List Corner
 groupCorners =
-    -- good: the sheet of document 01; no bytes, numbers that the call will refuse, two groups
+    -- good: the sheet of SPECIFICATION 16.4; no bytes, numbers that the call will refuse, two groups
     corner "mains=2\nspares=1\nframes=1\nlevel=0\nframe=0\nat=6\nbytes=a1b2c3d4\nsave=1\n" 0
     ∷ corner "mains=2\nframes=1\nlevel=999\nframe=10\nat=100\nbytes=\nsave=0\n" 0
     ∷ corner "mains=2\nframes=1\nlevel=0\nframe=0\nat=0\nbytes=\nsave=0\nlevel=1\nframe=0\nat=0\nbytes=0f\nsave=1\n" 0
@@ -91,7 +91,7 @@ groupCorners =
 
 -- ---- what good sheets say, and lengths
 
--- the sheet of document 01
+-- the sheet of SPECIFICATION 16.4
 abbrev pub exampleSheet : String
 exampleSheet = "mains=2\nspares=1\nframes=1\nlevel=0\nframe=0\nat=6\nbytes=a1b2c3d4\nsave=1\n"
 

@@ -1,4 +1,4 @@
--- The language of the bench sheet (document 01: "The bench sheet"): key=value lines in fixed order, which of them is the first
+-- The language of the bench sheet (SPECIFICATION 16): key=value lines in fixed order, which of them is the first
 -- bad or missing one, and what a good sheet says. Assumes nothing.
 use Prim.Native.Nat.{ℕ, zero, suc, _/_}
 use mathlib.Core.Bool.{Bool, not, cond, _&&_}
@@ -37,7 +37,7 @@ firstBad k n (l ∷ ls) = cond (goodLine (keyFor k l) l) (firstBad (following (k
 
 -- ---- what a good sheet says
 
--- a group: a write, and whether a checkpoint follows (document 01: level, frame, at, bytes, save)
+-- a group: a write, and whether a checkpoint follows (the trade: level, frame, at, bytes, save)
 pub record Group : Type 0 where
   pub main : ℕ
   pub block : ℕ

@@ -1,4 +1,4 @@
-// The bench sheet read (document 01: "The bench sheet"): the first bad line, the sizes, and one group after the other.
+// The bench sheet read (SPECIFICATION 16): the first bad line, the sizes, and one group after the other.
 use model::Layout;
 ghost use mathlib.Core.Path.{_≡_};
 ghost use Prim.Native.Nat.{_≤_};

@@ -1,5 +1,5 @@
-// The two reads (document 01: working read and saved read), which answer with a part of the caller's image, and the
-// companion that gives their status.
+// The two reads (SPECIFICATION 12; the trade: working read and saved read), which answer with a part of the caller's image,
+// and the companion that gives their status.
 use model::Layout;
 use model::Located;
 use model::Status;

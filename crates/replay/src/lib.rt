@@ -1,4 +1,5 @@
-// Replay of a trace on an image (document 01: the player). The operations to be played are judged first, then played.
+// Replay of a trace on an image (SPECIFICATION 6.6; the trade: the player). The operations to be played are judged first, then
+// played.
 use model::Layout;
 use model::Status;
 ghost use mathlib.Core.Path.{_≡_};

@@ -1,4 +1,5 @@
-// Equality of two checkpoints (document 01: likeness): segment by segment, wherever each image holds the segment.
+// Equality of two checkpoints (SPECIFICATION 13; the trade: likeness): segment by segment, wherever each image holds the
+// segment.
 use model::Layout;
 use model::Located;
 use model::Status;

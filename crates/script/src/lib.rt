@@ -1,4 +1,4 @@
-// A bench sheet run (document 01: "The bench sheet"): it is judged, its image laid out and opened, its groups run, and what it
+// A bench sheet run (SPECIFICATION 16): it is judged, its image laid out and opened, its groups run, and what it
 // prints put into a buffer.
 use calls::GroupParts;
 use calls::Ran;

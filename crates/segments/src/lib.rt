@@ -1,4 +1,4 @@
-// The blocks of a segment (document 01: the frames of a level or a spare): all of them copied or zeroed, the dirty ones copied
+// The blocks of a segment (the trade: the frames of a level or a spare): all of them copied or zeroed, the dirty ones copied
 // or written back, by operations on a trace. Every function `put_..` writes its operations from number n on and answers the
 // number of the next one.
 ghost use mathlib.Core.Path.{_≡_};

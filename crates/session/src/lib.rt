@@ -1,5 +1,5 @@
-// The volatile session (document 01: the card), lent by its parts: tests and changes of its dirty bits, its validity against
-// the states of main segments, how many blocks are dirty, and the one judge of an image and a session.
+// The volatile session (SPECIFICATION 5; the trade: the card), lent by its parts: tests and changes of its dirty bits, its
+// validity against the states of main segments, how many blocks are dirty, and the one judge of an image and a session.
 use model::Layout;
 use model::Session;
 use model::Status;

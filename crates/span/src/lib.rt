@@ -1,4 +1,4 @@
-// The span of a write (document 01: level, frame, offset and bytes): its limits, its place, the words and blocks that it
+// The span of a write (the trade: level, frame, offset and bytes): its limits, its place, the words and blocks that it
 // meets, and the stores of its bytes, laid over what stands in the image. Every function `put_..` writes its operations from
 // number n on and answers the number of the next one.
 use model::Layout;

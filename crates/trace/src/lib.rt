@@ -1,4 +1,4 @@
-// The trace of a call (document 01: tape): three numbers an operation, its kind, its place and its word.
+// The trace of a call (SPECIFICATION 6.1; the trade: tape): three numbers an operation, its kind, its place and its word.
 ghost use mathlib.Core.Path.{_≡_};
 ghost use mathlib.Core.List.{[], _∷_};
 ghost use Prim.Native.Nat.{_+_, _*_, _^_, _≤_};
@@ -12,7 +12,7 @@ use model::Status;
 // The numbers that an operation takes on a trace.
 pub const OP_NUMBERS: usize = 3;
 
-// The kinds of operations (document 01: store, flush, fence).
+// The kinds of operations (the trade: store, flush, fence).
 pub const OP_STORE: u64 = 1;
 
 pub const OP_CLWB: u64 = 2;

@@ -1,4 +1,4 @@
-// Write (document 01: Write): the bytes of a span come to stand in a block of a main segment. Its refusals, the operations
+// Write (SPECIFICATION 10): the bytes of a span come to stand in a block of a main segment. Its refusals, the operations
 // (the copy on write, then the span), and the session afterwards.
 use copy::Segment;
 use model::Answer;

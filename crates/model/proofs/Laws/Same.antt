@@ -1,4 +1,4 @@
--- Equality of two checkpoints (document 01: likeness) is equality of their bytes.
+-- Equality of two checkpoints (the trade: likeness) is equality of their bytes.
 use Prim.Native.Nat.{ℕ, zero, suc, _+_, _*_, _<_}
 use mathlib.Core.Path.{_≡_, refl, sym, ap, _∙_}
 use mathlib.Core.Logic.{_↔_}
