@@ -3,24 +3,24 @@
  * stores, clwb and sfence. Header only, C99 and C++11, gcc or clang; no
  * compiler flag is needed. examples/c/module.c shows its use.
  *
- *     crpm_carry_out(image, trace, ops)   after each call that was served
+ *     crpm_carry_out(image, trace, ops)   after every call that was served
  *     crpm_flush_all(image, length)       after crpm_format
  *
- * A processor without clwb gets clflushopt, and without that clflush; which of
- * them is asked of the processor once.
+ * A processor without clwb gets clflushopt, and one without that clflush; the
+ * processor is asked once, at run time.
  *
- * What must hold, for no function can see to it
- *  - The image is the module's memory, mapped so that a flush reaches it: by
- *    MAP_SYNC from a file system with DAX, from a DAX device, or by libpmem.
- *    On another file the same calls run, but only fsync or msync makes what
- *    they did durable.
- *  - Byte 0 of the image stands at an address divisible by 64 (a mapping
- *    does), and a cache line has 64 bytes.
+ * What must hold, since no function can see to it
+ *  - The image is the module's memory, mapped so that a flush reaches it: a
+ *    file of a DAX file system with MAP_SYNC, a DAX device, or by libpmem. In
+ *    another file all runs alike, but no flush makes anything durable.
+ *  - Byte 0 of the image stands at an address divisible by 64, as in every
+ *    mapping (an assertion), and a cache line has 64 bytes.
  *  - An aligned 8-byte store is not torn. Stores to one line reach the module
- *    in program order, as x86-64 keeps it in write-back memory. What was
- *    stored to a line before its clwb is durable once a later sfence is done.
- *  - The trace is one that a call of crpm.h wrote, and n at most the number of
- *    operations that it reported: nothing is checked here.
+ *    in program order, as x86-64 keeps it in write-back memory. What was stored
+ *    to a line before its clwb is durable once a later sfence is done (the
+ *    platform has ADR).
+ *  - The trace is one that a call of crpm.h wrote, and n is at most the number
+ *    of operations that it reported. The trace is not checked.
  */
 #ifndef CRPM_X86_H
 #define CRPM_X86_H
@@ -35,9 +35,9 @@
 #include <cpuid.h>
 
 /* The instructions that flush a line; a greater number is better. */
-#define CRPM_CLFLUSH 1
-#define CRPM_CLFLUSHOPT 2
-#define CRPM_CLWB 3
+#define CRPM_BY_CLFLUSH 1
+#define CRPM_BY_CLFLUSHOPT 2
+#define CRPM_BY_CLWB 3
 
 /* The best of them that this processor has. Asked once; two threads that ask
    at the same time get the same answer. */
@@ -48,7 +48,7 @@ static inline int crpm_best_flush(void)
     if (flush == 0) {
         unsigned int eax, ebx = 0, ecx, edx;
         (void)__get_cpuid_count(7, 0, &eax, &ebx, &ecx, &edx);
-        flush = (ebx >> 24 & 1) ? CRPM_CLWB : (ebx >> 23 & 1) ? CRPM_CLFLUSHOPT : CRPM_CLFLUSH;
+        flush = (ebx >> 24 & 1) ? CRPM_BY_CLWB : (ebx >> 23 & 1) ? CRPM_BY_CLFLUSHOPT : CRPM_BY_CLFLUSH;
         __atomic_store_n(&best, flush, __ATOMIC_RELAXED);
     }
     return flush;
@@ -58,9 +58,9 @@ static inline int crpm_best_flush(void)
    no store across it. */
 static inline void crpm_flush_line(const void *line, int flush)
 {
-    if (flush == CRPM_CLWB)
+    if (flush == CRPM_BY_CLWB)
         __asm__ __volatile__("clwb %0" : : "m"(*(const char *)line) : "memory");
-    else if (flush == CRPM_CLFLUSHOPT)
+    else if (flush == CRPM_BY_CLFLUSHOPT)
         __asm__ __volatile__("clflushopt %0" : : "m"(*(const char *)line) : "memory");
     else
         __asm__ __volatile__("clflush %0" : : "m"(*(const char *)line) : "memory");

@@ -13,14 +13,20 @@
  * FILE is mapped into memory, and the operations of each call are carried out
  * there: by crpm_x86.h, or, compiled with -DCRPM_LIBPMEM, by PMDK's libpmem.
  * With a FILE on persistent memory (a file system with DAX) this is all that a
- * program has to do. Another FILE stands in for the module: a killed process
- * leaves there what it has stored, all of it, since the kernel keeps the
- * pages. So killing shows only crashes in which every store arrived. When the
- * power fails, each line may lack the last of its stores, and no flush or
- * fence that a program forgets is noticed before: that every such crash is
- * safe is proved, not tried (docs/SPECIFICATION.md, sections 7 and 15).
+ * program has to do. Another FILE stands in for the module.
  *
- * examples/c/module-run builds this and kills it after every operation.
+ * A killed process leaves in FILE all that it has stored, since the kernel
+ * keeps the pages. So killing shows only crashes in which every store arrived,
+ * and it notices no flush or fence that is left out. When the power fails, any
+ * line may lack the last of its stores: that every such crash is safe is
+ * proved, not tried (docs/SPECIFICATION.md, sections 7 and 15).
+ *
+ * With the library installed (./install):
+ *
+ *     gcc module.c $(pkg-config --cflags --libs crpm) -o module
+ *     gcc -DCRPM_LIBPMEM module.c $(pkg-config --cflags --libs crpm libpmem) -o module
+ *
+ * examples/c/module-run builds both and kills them operation by operation.
  */
 #define _DEFAULT_SOURCE /* MAP_SYNC */
 
@@ -108,13 +114,17 @@ static void make_page(int k, page blocks)
 
 /* ---- the module: a mapping, 64-byte aligned as every mapping is */
 
+/* Whether the mapping is persistent memory. A program for a board ends here if
+   it is not: flushes make nothing durable in another file. */
+static int persistent;
+
 #ifdef CRPM_LIBPMEM
 
 static uint8_t *map_module(const char *path, int create)
 {
     size_t length = 0;
-    void *image = create ? pmem_map_file(path, IMAGE_SIZE, PMEM_FILE_CREATE, 0666, &length, NULL)
-                         : pmem_map_file(path, 0, 0, 0, &length, NULL);
+    void *image = create ? pmem_map_file(path, IMAGE_SIZE, PMEM_FILE_CREATE, 0666, &length, &persistent)
+                         : pmem_map_file(path, 0, 0, 0, &length, &persistent);
     if (image == NULL)
         fail(path, pmem_errormsg());
     if (length != IMAGE_SIZE)
@@ -122,7 +132,8 @@ static uint8_t *map_module(const char *path, int create)
     return image;
 }
 
-static void carry_out(uint8_t *image, const uint64_t *trace, uint64_t n)
+/* The two functions of crpm_x86.h, by libpmem. */
+static void crpm_carry_out(uint8_t *image, const uint64_t *trace, uint64_t n)
 {
     for (; n > 0; n--, trace += CRPM_OP_NUMBERS) {
         void *at = image + trace[1];
@@ -140,7 +151,7 @@ static void carry_out(uint8_t *image, const uint64_t *trace, uint64_t n)
     }
 }
 
-static void flush_all(const uint8_t *image, size_t length)
+static void crpm_flush_all(const uint8_t *image, size_t length)
 {
     pmem_flush(image, length);
     pmem_drain();
@@ -157,19 +168,17 @@ static uint8_t *map_module(const char *path, int create)
         fail(path, strerror(errno));
     if (file.st_size != (off_t)IMAGE_SIZE)
         fail(path, "not as long as an image");
-    /* MAP_SYNC: on persistent memory a flush is enough, and no msync is needed.
-       It is refused elsewhere, and the file stands in for a module. */
+    /* MAP_SYNC is granted for persistent memory only: there a flush is enough,
+       and no msync is needed. */
     image = mmap(NULL, IMAGE_SIZE, PROT_READ | PROT_WRITE, MAP_SHARED_VALIDATE | MAP_SYNC, fd, 0);
-    if (image == MAP_FAILED)
+    persistent = image != MAP_FAILED;
+    if (!persistent)
         image = mmap(NULL, IMAGE_SIZE, PROT_READ | PROT_WRITE, MAP_SHARED, fd, 0);
     if (image == MAP_FAILED)
         fail(path, strerror(errno));
     close(fd);
     return image;
 }
-
-#define carry_out crpm_carry_out
-#define flush_all crpm_flush_all
 
 #endif
 
@@ -183,14 +192,15 @@ enum { TRACE = sizeof trace / sizeof trace[0] };
 
 /* Carries out the operations that a call put on the trace, or, if the process
    is to be killed among them, those before that. */
-static void finish(uint8_t *image, uint64_t ops)
+static void carry_out(uint8_t *image, const char *call, uint64_t ops)
 {
     if (ops >= left) {
-        carry_out(image, trace, left);
+        crpm_carry_out(image, trace, left);
         kill(getpid(), SIGKILL);
     }
-    carry_out(image, trace, ops);
+    crpm_carry_out(image, trace, ops);
     left -= ops;
+    printf("%s: %" PRIu64 " operations\n", call, ops);
 }
 
 /* A format is flushed and fenced as a whole before the first opening. An
@@ -200,7 +210,8 @@ static void finish(uint8_t *image, uint64_t ops)
 static void format_image(uint8_t *image)
 {
     served("format", crpm_format(image, IMAGE_SIZE, MAINS, BACKUPS, BLOCKS));
-    flush_all(image, IMAGE_SIZE);
+    crpm_flush_all(image, IMAGE_SIZE);
+    printf("format: %zu bytes, %s\n", IMAGE_SIZE, persistent ? "persistent memory" : "a file that stands in for a module");
 }
 
 /* The session belongs to this process: it is never kept over a restart. */
@@ -208,8 +219,7 @@ static void open_image(uint8_t *image, struct crpm_session *session)
 {
     uint64_t ops;
     served("open", crpm_open(image, IMAGE_SIZE, MAINS, BACKUPS, BLOCKS, session, trace, TRACE, &ops));
-    finish(image, ops);
-    printf("open: %" PRIu64 " operations\n", ops);
+    carry_out(image, "open", ops);
 }
 
 static void write_bytes(uint8_t *image, struct crpm_session *session, size_t w)
@@ -217,26 +227,27 @@ static void write_bytes(uint8_t *image, struct crpm_session *session, size_t w)
     uint64_t ops;
     served("write", crpm_write(image, IMAGE_SIZE, session, writes[w].main, writes[w].block, writes[w].offset,
                                bytes_of(w), writes[w].length, trace, TRACE, &ops));
-    finish(image, ops);
-    printf("write: %" PRIu64 " operations\n", ops);
+    carry_out(image, "write", ops);
 }
 
 static void make_checkpoint(uint8_t *image, struct crpm_session *session)
 {
     uint64_t ops;
     served("checkpoint", crpm_checkpoint(image, IMAGE_SIZE, session, trace, TRACE, &ops));
-    finish(image, ops);
-    printf("checkpoint: %" PRIu64 " operations\n", ops);
+    carry_out(image, "checkpoint", ops);
 }
 
 /* ---- what an opened image shows */
 
-/* Whether both reads give these bytes in every block. The checkpoint read finds
-   no bytes of a main segment that no checkpoint has: then they are zeros. */
-static int shows(const uint8_t *image, page blocks)
+/* Whether both reads give what checkpoint k holds, in every block. The
+   checkpoint read finds no bytes of a main segment that no checkpoint has: then
+   they are zeros. */
+static int shows(const uint8_t *image, int k)
 {
     static const uint8_t zeros[CRPM_BLOCK_SIZE];
     uint64_t i, b, start, size;
+    page blocks;
+    make_page(k, blocks);
     for (i = 0; i < MAINS; i++)
         for (b = 0; b < BLOCKS; b++) {
             served("read", crpm_read_working(image, IMAGE_SIZE, MAINS, BACKUPS, BLOCKS, i, b, &start, &size));
@@ -252,17 +263,12 @@ static int shows(const uint8_t *image, page blocks)
 /* The number of the checkpoint that is shown: 0 before the first. */
 static int shown(const uint8_t *image)
 {
-    page blocks;
-    int k;
-    for (k = 0; k <= CHECKPOINTS; k++) {
-        make_page(k, blocks);
-        if (shows(image, blocks)) {
-            printf("shown: checkpoint %d\n", k);
-            return k;
-        }
-    }
-    fail("shown", "no checkpoint of the history");
-    return -1;
+    int k = 0;
+    while (!shows(image, k))
+        if (k++ == CHECKPOINTS)
+            fail("shown", "no checkpoint of the history");
+    printf("shown: checkpoint %d\n", k);
+    return k;
 }
 
 /* Goes on where the checkpoint that is shown left off. */
@@ -290,24 +296,23 @@ static int number(const char *text, uint64_t *value)
 
 int main(int argc, char **argv)
 {
-    struct crpm_session session;
     const char *mode = argc > 1 ? argv[1] : "";
-    int format = strcmp(mode, "format") == 0, runs = strcmp(mode, "run") == 0;
+    const int runs = strcmp(mode, "run") == 0;
+    struct crpm_session session;
     uint8_t *image;
 
-    if (!(format ? argc == 3 : (runs || strcmp(mode, "show") == 0) && (argc == 3 || (argc == 4 && number(argv[3], &left))))) {
-        fprintf(stderr, "usage: module format FILE | module run FILE [N] | module show FILE [N]\n");
-        return 2;
-    }
-    image = map_module(argv[2], format);
-    if (format) {
-        format_image(image);
-    } else {
+    if (argc == 3 && strcmp(mode, "format") == 0) {
+        format_image(map_module(argv[2], 1));
+    } else if ((argc == 3 || (argc == 4 && number(argv[3], &left))) && (runs || strcmp(mode, "show") == 0)) {
+        image = map_module(argv[2], 0);
         open_image(image, &session);
         if (runs)
             run(image, &session);
         else
             shown(image);
+    } else {
+        fprintf(stderr, "usage: module format FILE | module run FILE [N] | module show FILE [N]\n");
+        return 2;
     }
     return fflush(stdout) == 0 && !ferror(stdout) ? 0 : 1;
 }
