@@ -99,10 +99,10 @@ static const uint8_t *bytes_of(size_t w)
     return bytes;
 }
 
-/* Every block as checkpoint k holds it: zeros, and on them all writes that came
-   before. Made without the library, so that the library is held against it. */
 typedef uint8_t page[MAINS][BLOCKS][CRPM_BLOCK_SIZE];
 
+/* Every block as checkpoint k holds it: zeros, and on them all writes that came
+   before. The library has no part in this. */
 static void make_page(int k, page blocks)
 {
     size_t w;
@@ -114,8 +114,8 @@ static void make_page(int k, page blocks)
 
 /* ---- the module: a mapping, 64-byte aligned as every mapping is */
 
-/* Whether the mapping is persistent memory. A program for a board ends here if
-   it is not: flushes make nothing durable in another file. */
+/* Whether the mapping is persistent memory. A program for a board ends if it is
+   not: in another file no flush makes anything durable. */
 static int persistent;
 
 #ifdef CRPM_LIBPMEM
