@@ -1,0 +1,318 @@
+/*
+ * Running on a module of persistent memory, and what a killed process leaves.
+ *
+ *     module format FILE      makes FILE an empty image
+ *     module run FILE [N]     opens the image and makes what is still to be
+ *                             made of a history of writes and checkpoints
+ *     module show FILE [N]    opens the image and says which checkpoint it shows
+ *
+ * With N the process is killed (SIGKILL) once N operations are carried out.
+ * Exit status: 0; 1 if the file cannot be used, a call is refused or what is
+ * shown is no checkpoint of the history; 2 for wrong arguments.
+ *
+ * FILE is mapped into memory, and the operations of each call are carried out
+ * there: by crpm_x86.h, or, compiled with -DCRPM_LIBPMEM, by PMDK's libpmem.
+ * With a FILE on persistent memory (a file system with DAX) this is all that a
+ * program has to do. Another FILE stands in for the module.
+ *
+ * A killed process leaves in FILE all that it has stored, since the kernel
+ * keeps the pages. So killing shows only crashes in which every store arrived,
+ * and it notices no flush or fence that is left out. When the power fails, any
+ * line may lack the last of its stores: that every such crash is safe is
+ * proved, not tried (docs/SPECIFICATION.md, sections 7 and 15).
+ *
+ * With the library installed (./install):
+ *
+ *     gcc module.c $(pkg-config --cflags --libs crpm) -o module
+ *     gcc -DCRPM_LIBPMEM module.c $(pkg-config --cflags --libs crpm libpmem) -o module
+ *
+ * examples/c/module-run builds both and kills them operation by operation.
+ */
+#define _DEFAULT_SOURCE /* MAP_SYNC */
+
+#ifdef CRPM_LIBPMEM
+#include "crpm.h"
+
+#include <libpmem.h>
+#else
+#include "crpm_x86.h"
+
+#include <fcntl.h>
+#include <sys/mman.h>
+#include <sys/stat.h>
+#endif
+
+#include <errno.h>
+#include <inttypes.h>
+#include <signal.h>
+#include <stdio.h>
+#include <stdlib.h>
+#include <string.h>
+#include <unistd.h>
+
+enum { MAINS = 2, BACKUPS = 1, BLOCKS = 2 };
+
+#define IMAGE_SIZE CRPM_IMAGE_SIZE(MAINS, BACKUPS, BLOCKS)
+
+static void fail(const char *what, const char *why)
+{
+    fprintf(stderr, "module: %s: %s\n", what, why);
+    exit(1);
+}
+
+/* Ends the program unless the call was served. */
+static void served(const char *call, uint64_t status)
+{
+    if (status != CRPM_SERVED) {
+        fprintf(stderr, "module: %s: refused with %" PRIu64 "\n", call, status);
+        exit(1);
+    }
+}
+
+/* ---- the history, and the record of what each checkpoint holds */
+
+enum { CHECKPOINTS = 4 };
+
+/* Each write with the number of the checkpoint that it comes before. No
+   checkpoint comes after the last write: no opening shows it. */
+static const struct write {
+    int checkpoint;
+    uint64_t main, block, offset;
+    size_t length;
+} writes[] = {
+    {1, 0, 0, 6, 4},
+    {2, 0, 1, 0, 24}, {2, 1, 1, 248, 8},
+    {3, 0, 0, 8, 3},
+    {4, 1, 0, 100, 20}, {4, 1, 1, 0, 8},
+    {CHECKPOINTS + 1, 1, 1, 0, 8},
+};
+
+enum { WRITES = sizeof writes / sizeof writes[0] };
+
+/* The bytes that write w stores; no two writes share one. */
+static const uint8_t *bytes_of(size_t w)
+{
+    static uint8_t bytes[CRPM_BLOCK_SIZE];
+    size_t i;
+    for (i = 0; i < writes[w].length; i++)
+        bytes[i] = (uint8_t)(32 * (w + 1) + i);
+    return bytes;
+}
+
+typedef uint8_t page[MAINS][BLOCKS][CRPM_BLOCK_SIZE];
+
+/* Every block as checkpoint k holds it: zeros, and on them all writes that came
+   before. The library has no part in this. */
+static void make_page(int k, page blocks)
+{
+    size_t w;
+    memset(blocks, 0, sizeof(page));
+    for (w = 0; w < WRITES; w++)
+        if (writes[w].checkpoint <= k)
+            memcpy(blocks[writes[w].main][writes[w].block] + writes[w].offset, bytes_of(w), writes[w].length);
+}
+
+/* ---- the module: a mapping, 64-byte aligned as every mapping is */
+
+/* Whether the mapping is persistent memory. A program for a board ends if it is
+   not: in another file no flush makes anything durable. */
+static int persistent;
+
+#ifdef CRPM_LIBPMEM
+
+static uint8_t *map_module(const char *path, int create)
+{
+    size_t length = 0;
+    void *image = create ? pmem_map_file(path, IMAGE_SIZE, PMEM_FILE_CREATE, 0666, &length, &persistent)
+                         : pmem_map_file(path, 0, 0, 0, &length, &persistent);
+    if (image == NULL)
+        fail(path, pmem_errormsg());
+    if (length != IMAGE_SIZE)
+        fail(path, "not as long as an image");
+    return image;
+}
+
+/* The two functions of crpm_x86.h, by libpmem. */
+static void crpm_carry_out(uint8_t *image, const uint64_t *trace, uint64_t n)
+{
+    for (; n > 0; n--, trace += CRPM_OP_NUMBERS) {
+        void *at = image + trace[1];
+        switch (trace[0]) {
+        case CRPM_OP_STORE:
+            *(volatile uint64_t *)at = trace[2];
+            break;
+        case CRPM_OP_CLWB:
+            pmem_flush(at, CRPM_LINE_SIZE);
+            break;
+        case CRPM_OP_SFENCE:
+            pmem_drain();
+            break;
+        }
+    }
+}
+
+static void crpm_flush_all(const uint8_t *image, size_t length)
+{
+    pmem_flush(image, length);
+    pmem_drain();
+}
+
+#else
+
+static uint8_t *map_module(const char *path, int create)
+{
+    struct stat file;
+    void *image;
+    int fd = open(path, create ? O_RDWR | O_CREAT : O_RDWR, 0666);
+    if (fd < 0 || (create && ftruncate(fd, (off_t)IMAGE_SIZE) != 0) || fstat(fd, &file) != 0)
+        fail(path, strerror(errno));
+    if (file.st_size != (off_t)IMAGE_SIZE)
+        fail(path, "not as long as an image");
+    /* MAP_SYNC is granted for persistent memory only: there a flush is enough,
+       and no msync is needed. */
+    image = mmap(NULL, IMAGE_SIZE, PROT_READ | PROT_WRITE, MAP_SHARED_VALIDATE | MAP_SYNC, fd, 0);
+    persistent = image != MAP_FAILED;
+    if (!persistent)
+        image = mmap(NULL, IMAGE_SIZE, PROT_READ | PROT_WRITE, MAP_SHARED, fd, 0);
+    if (image == MAP_FAILED)
+        fail(path, strerror(errno));
+    close(fd);
+    return image;
+}
+
+#endif
+
+/* ---- the calls: each is followed by its operations, before the next call */
+
+/* How many operations there are until the process is killed. */
+static uint64_t left = UINT64_MAX;
+
+static uint64_t trace[CRPM_TRACE(MAINS, BLOCKS)];
+enum { TRACE = sizeof trace / sizeof trace[0] };
+
+/* Carries out the operations that a call put on the trace, or, if the process
+   is to be killed among them, those before that. */
+static void carry_out(uint8_t *image, const char *call, uint64_t ops)
+{
+    if (ops >= left) {
+        crpm_carry_out(image, trace, left);
+        kill(getpid(), SIGKILL);
+    }
+    crpm_carry_out(image, trace, ops);
+    left -= ops;
+    printf("%s: %" PRIu64 " operations\n", call, ops);
+}
+
+/* A format is flushed and fenced as a whole before the first opening. An
+   opening flushes only segments: the line with the sizes would stay in the
+   cache, and after a power cut the image could be refused (CRPM_FOREIGN), with
+   every checkpoint lost that was made meanwhile. */
+static void format_image(uint8_t *image)
+{
+    served("format", crpm_format(image, IMAGE_SIZE, MAINS, BACKUPS, BLOCKS));
+    crpm_flush_all(image, IMAGE_SIZE);
+    printf("format: %zu bytes, %s\n", IMAGE_SIZE, persistent ? "persistent memory" : "a file that stands in for a module");
+}
+
+/* The session belongs to this process: it is never kept over a restart. */
+static void open_image(uint8_t *image, struct crpm_session *session)
+{
+    uint64_t ops;
+    served("open", crpm_open(image, IMAGE_SIZE, MAINS, BACKUPS, BLOCKS, session, trace, TRACE, &ops));
+    carry_out(image, "open", ops);
+}
+
+static void write_bytes(uint8_t *image, struct crpm_session *session, size_t w)
+{
+    uint64_t ops;
+    served("write", crpm_write(image, IMAGE_SIZE, session, writes[w].main, writes[w].block, writes[w].offset,
+                               bytes_of(w), writes[w].length, trace, TRACE, &ops));
+    carry_out(image, "write", ops);
+}
+
+static void make_checkpoint(uint8_t *image, struct crpm_session *session)
+{
+    uint64_t ops;
+    served("checkpoint", crpm_checkpoint(image, IMAGE_SIZE, session, trace, TRACE, &ops));
+    carry_out(image, "checkpoint", ops);
+}
+
+/* ---- what an opened image shows */
+
+/* Whether both reads give what checkpoint k holds, in every block. The
+   checkpoint read finds no bytes of a main segment that no checkpoint has: then
+   they are zeros. */
+static int shows(const uint8_t *image, int k)
+{
+    static const uint8_t zeros[CRPM_BLOCK_SIZE];
+    uint64_t i, b, start, size;
+    page blocks;
+    make_page(k, blocks);
+    for (i = 0; i < MAINS; i++)
+        for (b = 0; b < BLOCKS; b++) {
+            served("read", crpm_read_working(image, IMAGE_SIZE, MAINS, BACKUPS, BLOCKS, i, b, &start, &size));
+            if (size != CRPM_BLOCK_SIZE || memcmp(image + start, blocks[i][b], CRPM_BLOCK_SIZE) != 0)
+                return 0;
+            served("read", crpm_read_checkpoint(image, IMAGE_SIZE, MAINS, BACKUPS, BLOCKS, i, b, &start, &size));
+            if (memcmp(size == 0 ? zeros : image + start, blocks[i][b], CRPM_BLOCK_SIZE) != 0)
+                return 0;
+        }
+    return 1;
+}
+
+/* The number of the checkpoint that is shown: 0 before the first. */
+static int shown(const uint8_t *image)
+{
+    int k = 0;
+    while (!shows(image, k))
+        if (k++ == CHECKPOINTS)
+            fail("shown", "no checkpoint of the history");
+    printf("shown: checkpoint %d\n", k);
+    return k;
+}
+
+/* Goes on where the checkpoint that is shown left off. */
+static void run(uint8_t *image, struct crpm_session *session)
+{
+    int k;
+    size_t w;
+    for (k = shown(image) + 1; k <= CHECKPOINTS + 1; k++) {
+        for (w = 0; w < WRITES; w++)
+            if (writes[w].checkpoint == k)
+                write_bytes(image, session, w);
+        if (k <= CHECKPOINTS)
+            make_checkpoint(image, session);
+    }
+}
+
+/* A decimal number from 0 on; anything else is a wrong argument. */
+static int number(const char *text, uint64_t *value)
+{
+    char *end;
+    errno = 0;
+    *value = strtoull(text, &end, 10);
+    return text[0] >= '0' && text[0] <= '9' && *end == '\0' && errno == 0;
+}
+
+int main(int argc, char **argv)
+{
+    const char *mode = argc > 1 ? argv[1] : "";
+    const int runs = strcmp(mode, "run") == 0;
+    struct crpm_session session;
+    uint8_t *image;
+
+    if (argc == 3 && strcmp(mode, "format") == 0) {
+        format_image(map_module(argv[2], 1));
+    } else if ((argc == 3 || (argc == 4 && number(argv[3], &left))) && (runs || strcmp(mode, "show") == 0)) {
+        image = map_module(argv[2], 0);
+        open_image(image, &session);
+        if (runs)
+            run(image, &session);
+        else
+            shown(image);
+    } else {
+        fprintf(stderr, "usage: module format FILE | module run FILE [N] | module show FILE [N]\n");
+        return 2;
+    }
+    return fflush(stdout) == 0 && !ferror(stdout) ? 0 : 1;
+}
