@@ -6,33 +6,32 @@ use mathlib.Core.List.{List, [], _++_, append-nil}
 use native.Mathlib.Omega.{arith}
 use Rattle.model.specs.declared.Layout.{Layout}
 use Rattle.model.specs.declared.Session.{Session}
-use Rattle.model.specs.declared.Answer.{Answer}
 use Rattle.model.specs.Words.{Image, Bytes}
-use Rattle.model.specs.Status.{codeOf, served}
+use Rattle.model.specs.Status.{served}
 use Rattle.model.specs.Container.{activeLine, checkpointBytes}
 use Rattle.model.specs.Ops.{Ops, Trace}
 use Rattle.model.specs.Outcome.{outcomeOf}
 use Rattle.model.specs.Open.{openStatus, openOutcome}
 use Rattle.model.specs.Crash.{CrashImage}
 use Rattle.model.specs.Reference.{Page, modelStep}
-use Rattle.model.specs.History.{Call, callOpen, State, outcome, deviceStep, step, run, start, openedImage, replayedImage, AllPermitted}
+use Rattle.model.specs.History.{Call, callOpen, Device, State, outcome, deviceStep, step, run, start, openedImage, replayedImage, AllPermitted}
 use Rattle.model.specs.CrashSafety.{Moment, PermittedAt, playedAt, CutOpenings, Reads, Recovers}
 use Rattle.model.specs.CrashSafety as model
 use Rattle.model.proofs.CrashSafety.{crash-safety}
 use Rattle.model.proofs.Sisters.{reads-follow-model, opening-safety}
-use Rattle.driver.specs.Stepped.{Called, Stepped}
+use Rattle.driver.specs.Stepped.{Report, Called, Stepped}
 use Rattle.driver.specs.Driven.{savedModel, opened, after, Driven, done, next, Made, rests, makes, CutDriven, none, again, ShowsAfter, DrivenSafety, DrivenOpeningSafety}
-use Rattle.driver.proofs.SteppedLaws.{part-image, part-played, called-played, stepped-device}
+use Rattle.driver.proofs.SteppedLaws.{called-carried, stepped-device}
 
 -- ---- the program's state is the history's
 
 -- a step of the code is the step of a history
-stepped-state : (s : State) (c : Call) (r : Answer) (t : Trace) (I′ : Image) → Stepped (s .device .image) (s .device .session) c r t I′
+stepped-state : (s : State) (c : Call) (r : Report) (t : Trace) (I′ : Image) → Stepped (s .device .image) (s .device .session) c r t I′
     → step s c ≡ after s c r t I′
 unfolding step deviceStep
 stepped-state s c r t I′ k =
     let q = stepped-device (s .device) c r t I′ k in
-    let e : served (outcome (s .device) c .status) ≡ served (codeOf (r .status)) = ap served (sym (k .0 .1 .0)) in
+    let e : served (outcome (s .device) c .status) ≡ served (r .number) = ap served (sym (k .0 .1 .0)) in
     λ i. record {
       device = record {
         layout = s .device .layout;
@@ -55,20 +54,22 @@ driven-runs _ _ _ (next s s″ c cs r t I′ k d) =
 
 -- ---- openings
 
+-- a module at an image and a session
+abbrev «at» : Session → Image → Device
+«at» x I = record { layout = x .layout; durable = I; played = []; image = I; session = x }
+
 -- an opening that the code makes has the status of the model's opening
-opened-status : (l : Layout) (I : Image) (x : Session) (T : Trace) (r : Answer) (t : Trace) → Called I x (callOpen l T) r t → codeOf (r .status) ≡ openStatus l I T
+opened-status : (l : Layout) (I : Image) (x : Session) (T : Trace) (r : Report) (t : Trace) → Called I x (callOpen l T) r t → r .number ≡ openStatus l I T
 unfolding openOutcome outcomeOf
 opened-status l I x T r t k = k .1 .0
 
 -- what it leaves, replayed, is what the model's opening leaves
-opened-image : (l : Layout) (I : Image) (x : Session) (T : Trace) (r : Answer) (t : Trace) (I₁ : Image) → Stepped I x (callOpen l T) r t I₁ → openedImage l I T ≡ I₁
-unfolding openedImage
-opened-image l I x T r t I₁ k =
-    let g = k .0 .1 in
-    sym (k .1 ∙ part-image (openOutcome l I T) T r t g I (r .ops) ∙ ap (λ (n : ℕ). replayedImage I (openOutcome l I T .ops) T n) (g .2))
+opened-image : (l : Layout) (I : Image) (x : Session) (T : Trace) (r : Report) (t : Trace) (I₁ : Image) → Stepped I x (callOpen l T) r t I₁ → openedImage l I T ≡ I₁
+unfolding openedImage deviceStep
+opened-image l I x T r t I₁ k = stepped-device («at» x I) (callOpen l T) r t I₁ k .0
 
 -- and where the program then stands is the start of a history
-opened-starts : (l : Layout) (I : Image) (x : Session) (T : Trace) (r : Answer) (t : Trace) (I₁ : Image) → Stepped I x (callOpen l T) r t I₁
+opened-starts : (l : Layout) (I : Image) (x : Session) (T : Trace) (r : Report) (t : Trace) (I₁ : Image) → Stepped I x (callOpen l T) r t I₁
     → start l I T ≡ opened l I r I₁
 unfolding start
 opened-starts l I x T r t I₁ k =
@@ -82,9 +83,9 @@ opened-starts l I x T r t I₁ k =
 -- openings that the code makes and that are cut are the model's
 cut-openings : {l : Layout} {H H′ : Image} → CutDriven l H H′ → CutOpenings CrashImage l H H′
 cut-openings none = model.none
-cut-openings {l} (again {H = H} {H′ = H₁} x T p r t k ne c rest) =
+cut-openings {l} (again {H = H} {H′ = H₁} x T p r t k ne inside c rest) =
     model.again T p (λ e. ne (opened-status l H x T r t k ∙ e))
-    (subst (λ (X : Ops). CrashImage H X H₁) (part-played (openOutcome l H T) T r t (k .1) H p) c) (cut-openings rest)
+    (subst (λ (X : Ops). CrashImage H X H₁) (called-carried («at» x H) (callOpen l T) r t k p inside) c) (cut-openings rest)
 
 -- what the last opening shows
 shows-after : (l : Layout) (H : Image) (May : Page → Type 0)
@@ -106,7 +107,7 @@ shows-after l H May f H′ o x T r t I k ne =
 made-moment : (s : State) (m : Moment) (M : Ops) → Made s m M → PermittedAt (s .device) m × (playedAt (s .device) m ≡ s .device .played ++ M)
 made-moment s _ _ rests = (tt, sym (append-nil (s .device .played)))
 made-moment s _ _ (makes c p r t k h) =
-    ((k .0, omega (arith, h, k .1 .2)), ap (λ (X : Ops). s .device .played ++ X) (sym (called-played (s .device) c r t k p)))
+    ((k .0, omega (arith, h, k .1 .2)), ap (λ (X : Ops). s .device .played ++ X) (sym (called-carried (s .device) c r t k p (omega (arith, h)))))
 
 -- DEMANDS 2 AND 3 OF THE CODE
 pub driven-safety : DrivenSafety

@@ -1,51 +1,138 @@
--- Laws of a call that the code made: what it reports is what the model's call writes, and its step is the model's step.
-use Prim.Native.Nat.{ℕ, _*_, _≤_}
-use mathlib.Core.Path.{_≡_, sym, ap, ap₂, _∙_}
-use mathlib.Core.List.{_++_}
+-- Laws of a call that the code made: what is carried out of it is what the model's call writes, and its step is the model's
+-- step.
+use Prim.Native.Nat.{ℕ, _*_, _%_, _≤_}
+use mathlib.Core.Path.{_≡_, refl, sym, ap, ap₂, _∙_}
+use mathlib.Core.Bool.{Bool, true, false, cond}
+use mathlib.Core.Logic.{_≢_}
+use mathlib.Core.List.{[], _++_}
 use native.Mathlib.Omega.{arith}
+use native.Mathlib.Decide.{ℕ-discrete}
 use lib.ListN.{length, take, drop, length-append}
-use Rattle.model.specs.declared.Answer.{Answer}
+use lib.Seq.{take-nil, take-length, take-append-le}
+use borrow.Author.Tests.{ne-eqb}
+use Rattle.model.specs.declared.Session.{Session}
 use Rattle.model.specs.Words.{Image}
-use Rattle.model.specs.Ops.{Ops, Trace, encode, written}
-use Rattle.model.specs.Outcome.{Outcome, Gives}
-use Rattle.model.specs.Replay.{replayOutcome, replayedOps}
-use Rattle.model.specs.History.{Call, Device, outcome, reported, playedOps, calledOps, replayedImage, deviceStep}
-use Rattle.model.proofs.Laws.Ops.{length-encode}
-use Rattle.driver.specs.Stepped.{Called, reportedPart, playedPart, Stepped}
+use Rattle.model.specs.Layout.{lineSize}
+use Rattle.model.specs.Status.{served}
+use Rattle.model.specs.Ops.{opNumbers, Ops, Trace, encode, decode, written, replay}
+use Rattle.model.specs.Outcome.{Outcome, outcomeOf}
+use Rattle.model.specs.Open.{openStatus, openOutcome}
+use Rattle.model.specs.Write.{writeStatus, writeOutcome}
+use Rattle.model.specs.Checkpoint.{checkpointStatus, checkpointOutcome}
+use Rattle.model.specs.Replay.{replayCount, replayStatus, replayOutcome, replayedOps}
+use Rattle.model.specs.Reference.{CallArgs, openArgs, writeArgs, checkpointArgs}
+use Rattle.model.specs.History.{Call, Device, answers, outcome, reported, playedOps, calledOps, replayedImage, deviceStep, Permitted}
+use Rattle.model.proofs.Laws.Layout.{image-lines}
+use Rattle.model.proofs.Laws.Container.{container-then}
+use Rattle.model.proofs.Laws.Ops.{length-encode, take-encode, decode-encode, reported-is, played-ops, replayed-image}
+use Rattle.model.proofs.Laws.Replay.{call-ok}
+use Rattle.driver.specs.Stepped.{Report, Reports, Called, carried, Stepped}
 
-module _ (o : Outcome) (T : Trace) (r : Answer) (t : Trace) (g : Gives o T r t) where
-  -- the operations that an answer reports stand on the trace
+-- ---- what stands on the trace
+
+module _ (o : Outcome) (T : Trace) (r : Report) (t : Trace) (g : Reports o T r t) where
+  -- the operations that are reported stand on the trace
   pub part-inside : 3 * r .ops ≤ length t
   unfolding written
   part-inside =
       omega (arith, g .2, ap (λ (x : Trace). length x) (g .3), length-append (encode (o .ops)) (drop (3 * length (o .ops)) T), length-encode (o .ops))
 
-  pub part-reported : reportedPart r t ≡ reported (o .ops) T
+  pub part-reported : take (opNumbers * r .ops) t ≡ reported (o .ops) T
   unfolding reported
   part-reported = ap₂ (λ (n : ℕ) (x : Trace). take (3 * n) x) (g .2) (g .3)
 
-  -- and what replay plays of them
-  pub part-played : (I : Image) (p : ℕ) → playedPart I r t p ≡ playedOps I (o .ops) T p
-  unfolding playedOps
-  part-played I p = ap (λ (x : Trace). replayedOps x (replayOutcome I x p .played)) part-reported
+  -- and the first of them are the call's first operations
+  pub carried-first : (p : ℕ) → p ≤ r .ops → carried t p ≡ take p (o .ops)
+  unfolding written
+  carried-first p h =
+      ap (λ (x : Trace). carried x p) (g .3)
+      ∙ ap decode (take-append-le (3 * p) (encode (o .ops)) _ (omega (arith, h, g .2, length-encode (o .ops))) ∙ take-encode p (o .ops))
+      ∙ decode-encode (take p (o .ops))
 
-  pub part-image : (I : Image) (p : ℕ) → replayOutcome I (reportedPart r t) p .image ≡ replayedImage I (o .ops) T p
+  pub carried-all : carried t (r .ops) ≡ o .ops
+  carried-all = carried-first (r .ops) (omega arith) ∙ ap (λ (n : ℕ). take n (o .ops)) (g .2) ∙ take-length (o .ops)
+
+-- ---- what replay plays of it
+
+-- only an image of whole lines is served
+served-whole : (s : Session) (I : Image) (a : CallArgs) (t : Trace) (j : ℕ) → answers s I a t j .status ≡ 0 → length I % lineSize ≡ 0
+unfolding openOutcome writeOutcome checkpointOutcome outcomeOf openStatus writeStatus checkpointStatus
+served-whole s I (openArgs l) t j h = omega (arith, container-then l I _ h .0 .long, image-lines l)
+served-whole s I (writeArgs w) t j h = omega (arith, container-then (s .layout) I _ h .0 .long, image-lines (s .layout))
+served-whole s I checkpointArgs t j h = omega (arith, container-then (s .layout) I _ h .0 .long, image-lines (s .layout))
+
+-- and a refused call writes nothing
+none-written : (e : ℕ) (O : Ops) → e ≢ 0 → cond (served e) O [] ≡ []
+none-written e O h = rw (ne-eqb e 0 h) refl
+
+refused-none : (s : Session) (I : Image) (a : CallArgs) (t : Trace) (j : ℕ) → answers s I a t j .status ≢ 0 → answers s I a t j .ops ≡ []
+unfolding openOutcome writeOutcome checkpointOutcome outcomeOf
+refused-none s I (openArgs l) t j h = none-written (openStatus l I t) _ h
+refused-none s I (writeArgs w) t j h = none-written (writeStatus s I w j t) _ h
+refused-none s I checkpointArgs t j h = none-written (checkpointStatus s I t) _ h
+
+none-played : (I : Image) (t : Trace) (p : ℕ) → playedOps I [] t p ≡ []
+unfolding playedOps replayedOps encode decode
+none-played I t p = rw (reported-is [] t) (ap decode (take-nil (3 * replayOutcome I [] p .played)))
+
+none-replayed : (I : Image) (t : Trace) (p : ℕ) → replayedImage I [] t p ≡ I
+unfolding replayedImage replayOutcome replayedOps encode decode replay
+none-replayed I t p = rw (reported-is [] t) (go (served (replayStatus I [] p)) (replayCount [] p))
+  where
+    go : (b : Bool) (n : ℕ) → cond b (replay (decode (take (3 * n) [])) I) I ≡ I
+    go true n = rw (take-nil (3 * n)) refl
+    go false n = refl
+
+module _ (d : Device) (c : Call) (permitted : Permitted d c) where
+  -- so replay plays what a call writes, whatever the image
+  pub replay-carries : (p : ℕ) → calledOps d c p ≡ take p (outcome d c .ops)
+  replay-carries p = go (ℕ-discrete (length (d .image) % lineSize) 0)
+    where
+      go : Dec (length (d .image) % lineSize ≡ 0) → calledOps d c p ≡ take p (outcome d c .ops)
+      go (yes whole) = played-ops _ _ _ p whole (call-ok d c permitted)
+      go (no not) =
+          let e : outcome d c .ops ≡ [] = refused-none _ _ (c .args) _ _ (λ h. not (served-whole _ _ (c .args) _ _ h)) in
+          rw e (none-played (d .image) (c .trace) p ∙ sym (take-nil p))
+
+  pub replay-leaves : replayedImage (d .image) (outcome d c .ops) (c .trace) (length (outcome d c .ops)) ≡ replay (outcome d c .ops) (d .image)
+  unfolding replay
+  replay-leaves = go (ℕ-discrete (length (d .image) % lineSize) 0)
+    where
+      go : Dec (length (d .image) % lineSize ≡ 0)
+          → replayedImage (d .image) (outcome d c .ops) (c .trace) (length (outcome d c .ops)) ≡ replay (outcome d c .ops) (d .image)
+      go (yes whole) =
+          replayed-image _ _ _ _ whole (call-ok d c permitted) ∙ ap (λ (X : Ops). replay X (d .image)) (take-length (outcome d c .ops))
+      go (no not) =
+          let e : outcome d c .ops ≡ [] = refused-none _ _ (c .args) _ _ (λ h. not (served-whole _ _ (c .args) _ _ h)) in
+          rw e (none-replayed (d .image) (c .trace) 0)
+
+-- ---- the step of the code is the module's step
+
+module _ (d : Device) (c : Call) (r : Report) (t : Trace) (k : Called (d .image) (d .session) c r t) where
+  pub called-carried : (p : ℕ) → p ≤ r .ops → carried t p ≡ calledOps d c p
+  called-carried p h = carried-first (outcome d c) (c .trace) r t (k .1) p h ∙ sym (replay-carries d c (k .0) p)
+
+  -- replay of the reported part leaves what carrying it out leaves
+  device-replayed : (I′ : Image) → I′ ≡ replayOutcome (d .image) (take (opNumbers * r .ops) t) (r .ops) .image
+      → Stepped (d .image) (d .session) c r t I′
   unfolding replayedImage
-  part-image I p = ap (λ (x : Trace). replayOutcome I x p .image) part-reported
+  device-replayed I′ e = (
+    k,
+    e ∙ ap₂ (λ (x : Trace) (n : ℕ). replayOutcome (d .image) x n .image) (part-reported (outcome d c) (c .trace) r t (k .1)) (k .1 .2)
+        ∙ replay-leaves d c (k .0) ∙ ap (λ (X : Ops). replay X (d .image)) (sym (carried-all (outcome d c) (c .trace) r t (k .1))),
+  )
 
--- a call that the code makes where a module stands plays the operations that are called
-module _ (d : Device) (c : Call) (r : Answer) (t : Trace) (k : Called (d .image) (d .session) c r t) where
-  pub called-played : (p : ℕ) → playedPart (d .image) r t p ≡ calledOps d c p
-  called-played p = part-played (outcome d c) (c .trace) r t (k .1) (d .image) p
+pub replayed-step : (I : Image) (s : Session) (c : Call) (r : Report) (t : Trace) (I′ : Image) → Called I s c r t
+    → I′ ≡ replayOutcome I (take (opNumbers * r .ops) t) (r .ops) .image → Stepped I s c r t I′
+replayed-step I s c r t I′ k e =
+    device-replayed (record { layout = s .layout; durable = I; played = []; image = I; session = s }) c r t k I′ e
 
--- and a step of the code is the module's step
-pub stepped-device : (d : Device) (c : Call) (r : Answer) (t : Trace) (I′ : Image) → Stepped (d .image) (d .session) c r t I′
-    → (deviceStep d c .image ≡ I′) × (deviceStep d c .session ≡ r .session)
-    × (deviceStep d c .played ≡ d .played ++ playedPart (d .image) r t (r .ops))
+pub stepped-device : (d : Device) (c : Call) (r : Report) (t : Trace) (I′ : Image) → Stepped (d .image) (d .session) c r t I′
+    → (deviceStep d c .image ≡ I′) × (deviceStep d c .session ≡ r .session) × (deviceStep d c .played ≡ d .played ++ carried t (r .ops))
 unfolding deviceStep
 stepped-device d c r t I′ k =
     let g = k .0 .1 in (
-      sym (k .1 ∙ part-image (outcome d c) (c .trace) r t g (d .image) (r .ops) ∙ ap (λ (n : ℕ). replayedImage (d .image) (outcome d c .ops) (c .trace) n) (g .2)),
+      sym (k .1 ∙ ap (λ (X : Ops). replay X (d .image)) (carried-all (outcome d c) (c .trace) r t g) ∙ sym (replay-leaves d c (k .0 .0))),
       sym (g .1),
-      ap (λ (X : Ops). d .played ++ X) (ap (λ (n : ℕ). calledOps d c n) (sym (g .2)) ∙ sym (called-played d c r t (k .0) (r .ops))),
+      ap (λ (X : Ops). d .played ++ X) (ap (λ (n : ℕ). calledOps d c n) (sym (g .2)) ∙ sym (called-carried d c r t (k .0) (r .ops) (omega arith))),
     )

@@ -1,68 +1,68 @@
 -- Programs that open a container and then make call after call, each on the image and the session that the last one left;
 -- and demands 2 and 3 said of them (`DrivenSafety`). Where such a program stands is said in terms of the code: the images
--- that replay left, the sessions that were answered, the operations read from the traces, and a reference model that is fed
--- whether each call was served by its answer. The call in which power failed, the openings that were cut and the last one are
--- calls that the code made too. Proved in proofs/Driven.antt. Assumes nothing.
-use Prim.Native.Nat.{ℕ, _<_}
+-- that stood, the sessions that were answered, the operations read from the traces and carried out, and a reference model that is
+-- fed whether each call was served by its number. The call in which power failed, the openings that were cut and the last one are
+-- calls that the code made too. It covers programs that carry the operations out by replay, as this crate's functions do, and callers
+-- of the C interface that do it themselves (crate carried). Proved in proofs/Driven.antt. Assumes nothing.
+use Prim.Native.Nat.{ℕ, _≤_, _<_}
 use mathlib.Core.Path.{_≡_}
 use mathlib.Core.Logic.{_≢_}
 use mathlib.Core.List.{List, [], _∷_, _++_}
 use Rattle.model.specs.declared.Layout.{Layout}
 use Rattle.model.specs.declared.Session.{Session}
-use Rattle.model.specs.declared.Answer.{Answer}
 use Rattle.model.specs.Words.{Image, Bytes}
-use Rattle.model.specs.Status.{codeOf, served}
+use Rattle.model.specs.Status.{served}
 use Rattle.model.specs.Container.{activeLine, checkpointBytes}
 use Rattle.model.specs.Ops.{Ops, Trace}
 use Rattle.model.specs.Crash.{CrashImage}
 use Rattle.model.specs.Reference.{Page, Model, modelStep}
 use Rattle.model.specs.History.{Call, callOpen, State}
 use Rattle.model.specs.CrashSafety.{Moment, between, during, MayShow, Reads}
-use Rattle.driver.specs.Stepped.{Called, playedPart, Stepped}
+use Rattle.driver.specs.Stepped.{Report, Called, carried, Stepped}
 
 -- both pages hold the checkpoint of the image I
 abbrev pub savedModel : Layout → Image → Model
 savedModel l I = record { working = checkpointBytes l I (activeLine I); checkpoint = checkpointBytes l I (activeLine I) }
 
--- where a program stands after an opening of the image I that answered r and, replayed, left the image I₁: with all durable
-abbrev pub opened : Layout → Image → Answer → Image → State
+-- where a program stands after an opening of the image I that reported r and, carried out, left the image I₁: with all durable
+abbrev pub opened : Layout → Image → Report → Image → State
 opened l I r I₁ = record {
   device = record { layout = l; durable = I₁; played = []; image = I₁; session = r .session };
   model = savedModel l I;
 }
 
--- and, from the state s on, after the call c that answered r with the trace t and, replayed, left the image I′
-abbrev pub after : State → Call → Answer → Trace → Image → State
+-- and, from the state s on, after the call c that reported r with the trace t and, carried out, left the image I′
+abbrev pub after : State → Call → Report → Trace → Image → State
 after s c r t I′ = record {
   device = record {
     layout = s .device .layout;
     durable = s .device .durable;
-    played = s .device .played ++ playedPart (s .device .image) r t (r .ops);
+    played = s .device .played ++ carried t (r .ops);
     image = I′;
     session = r .session;
   };
-  model = modelStep (s .device .layout) (c .args) (served (codeOf (r .status))) (s .model);
+  model = modelStep (s .device .layout) (c .args) (served (r .number)) (s .model);
 }
 
 -- steps one after the other, from a state to that after the last
 pub data Driven : State → List Call → State → Type 0 where
   done : (s : State) → Driven s [] s
-  next : (s s″ : State) (c : Call) (cs : List Call) (r : Answer) (t : Trace) (I′ : Image)
+  next : (s s″ : State) (c : Call) (cs : List Call) (r : Report) (t : Trace) (I′ : Image)
       → Stepped (s .device .image) (s .device .session) c r t I′ → Driven (after s c r t I′) cs s″ → Driven s (c ∷ cs) s″
 
 -- the crash falls between two steps, or after the first p operations of a call that the code makes where it stands and that
--- reports more; with the operations of that call that were played
+-- reports more; with the operations of that call that were carried out
 pub data Made (s : State) : Moment → Ops → Type 0 where
   rests : Made s between []
-  makes : (c : Call) (p : ℕ) (r : Answer) (t : Trace) → Called (s .device .image) (s .device .session) c r t → p < r .ops
-      → Made s (during c p) (playedPart (s .device .image) r t p)
+  makes : (c : Call) (p : ℕ) (r : Report) (t : Trace) → Called (s .device .image) (s .device .session) c r t → p < r .ops
+      → Made s (during c p) (carried t p)
 
 -- H becomes H′ through openings that the code makes with the sizes l, each of them given what stands and any trace that 11
 -- does not refuse, and cut after any number of its operations
 pub data CutDriven (l : Layout) : Image → Image → Type 0 where
   none : {H : Image} → CutDriven l H H
-  again : {H H′ H″ : Image} (s : Session) (T : Trace) (p : ℕ) (r : Answer) (t : Trace) → Called H s (callOpen l T) r t
-      → codeOf (r .status) ≢ 11 → CrashImage H (playedPart H r t p) H′ → CutDriven l H′ H″ → CutDriven l H H″
+  again : {H H′ H″ : Image} (s : Session) (T : Trace) (p : ℕ) (r : Report) (t : Trace) → Called H s (callOpen l T) r t
+      → r .number ≢ 11 → p ≤ r .ops → CrashImage H (carried t p) H′ → CutDriven l H′ H″ → CutDriven l H H″
 
 -- after the crash image H: any number of openings that are cut, which leave H′, and one that is not. It is served, and both
 -- reads of the image that it leaves give a page Q of which May holds; H′ are bytes, and the pages with which a program starts
@@ -70,15 +70,15 @@ pub data CutDriven (l : Layout) : Image → Image → Type 0 where
 abbrev pub ShowsAfter : Layout → Image → (Page → Type 0) → Type 0
 ShowsAfter l H May =
     (H′ : Image) → CutDriven l H H′
-    → (s : Session) (T : Trace) (r : Answer) (t : Trace) (I : Image) → Stepped H′ s (callOpen l T) r t I → codeOf (r .status) ≢ 11
-    → (Q : Page) × May Q × (codeOf (r .status) ≡ 0) × Reads l I Q Q × Bytes H′ × (savedModel l H′ ≡ record { working = Q; checkpoint = Q })
+    → (s : Session) (T : Trace) (r : Report) (t : Trace) (I : Image) → Stepped H′ s (callOpen l T) r t I → r .number ≢ 11
+    → (Q : Page) × May Q × (r .number ≡ 0) × Reads l I Q Q × Bytes H′ × (savedModel l H′ ≡ record { working = Q; checkpoint = Q })
 
 -- demands 2 and 3 of the code
 abbrev pub DrivenSafety : Type 0
 DrivenSafety =
-    -- an opening of any image, with any sizes and any trace, that is served and replayed
+    -- an opening of any image, with any sizes and any trace, that is served and carried out
     (l : Layout) (I : Image) (T : Trace) → Bytes I
-    → (x : Session) (r : Answer) (t : Trace) (I₁ : Image) → Stepped I x (callOpen l T) r t I₁ → codeOf (r .status) ≡ 0
+    → (x : Session) (r : Report) (t : Trace) (I₁ : Image) → Stepped I x (callOpen l T) r t I₁ → r .number ≡ 0
     -- then any steps, which lead to the state s
     → (cs : List Call) (s : State) → Driven (opened l I r I₁) cs s
     -- DEMAND 2: both reads of the image give the pages of the reference model
@@ -90,5 +90,5 @@ DrivenSafety =
 -- openings alone: any image that an opening of the code serves, cut in any number of openings of the code, shows its checkpoint
 abbrev pub DrivenOpeningSafety : Type 0
 DrivenOpeningSafety =
-    (l : Layout) (I : Image) (T : Trace) → Bytes I → (x : Session) (r : Answer) (t : Trace) → Called I x (callOpen l T) r t → codeOf (r .status) ≡ 0
+    (l : Layout) (I : Image) (T : Trace) → Bytes I → (x : Session) (r : Report) (t : Trace) → Called I x (callOpen l T) r t → r .number ≡ 0
     → ShowsAfter l I (λ Q. Q ≡ checkpointBytes l I (activeLine I))

@@ -2,7 +2,9 @@ use native.Mathlib.Omega.{arith}
 use borrow.Author.Needs.{needs}
 use Rattle.model.specs.Layout.{layoutOf}
 use Rattle.model.specs.Open.{openOutcome}
-use Rattle.driver.proofs.SteppedLaws.{part-inside}
+use Rattle.model.specs.History.{callOpen}
+use Rattle.driver.specs.Stepped.{reportOf}
+use Rattle.driver.proofs.SteppedLaws.{part-inside, replayed-step}
 use Rattle.driver.proofs.step_open.Statement.{statement}
 use Rattle.driver.proofs.step_open.Tie as tie
 
@@ -13,7 +15,7 @@ play-reported-requires : tie.Need-play-reported-requires
 play-reported-requires c κs =
     let r = c .before .before .before .before in
     let a = r .before .before .before .before .before .args in
-    omega (arith, part-inside (openOutcome (layoutOf (a .mains) (a .backups) (a .blocks)) (a .image .now) (a .trace .now)) (a .trace .now) (r .crpm-open .result) _ (r .crpm-open .ensures))
+    omega (arith, part-inside (openOutcome (layoutOf (a .mains) (a .backups) (a .blocks)) (a .image .now) (a .trace .now)) (a .trace .now) (reportOf (r .crpm-open .result)) _ (r .crpm-open .ensures))
 
 same-length : tie.Need-same-length
 same-length c = search needs
@@ -25,7 +27,8 @@ returns : tie.Need-returns
 returns c =
     let p = c .before .before in
     let r = p .before .before .before .before .before in
-    λ s. ((tt, r .crpm-open .ensures), p .play-reported .ensures .1 .1)
+    let a = r .before .before .before .before .before .args in
+    λ s. replayed-step (a .image .now) s (callOpen (layoutOf (a .mains) (a .backups) (a .blocks)) (a .trace .now)) (reportOf (r .crpm-open .result)) _ _ (tt, r .crpm-open .ensures) (p .play-reported .ensures .1 .1)
 
 pub step-open-spec : {M : Type 1} → statement M
 step-open-spec =

@@ -1,8 +1,9 @@
 use native.Mathlib.Omega.{arith}
 use borrow.Author.Needs.{needs}
-use Rattle.model.specs.Write.{writeOutcome}
-use Rattle.model.specs.Write.{writeArgsOf}
-use Rattle.driver.proofs.SteppedLaws.{part-inside}
+use Rattle.model.specs.Write.{writeArgsOf, writeOutcome}
+use Rattle.model.specs.History.{callWrite}
+use Rattle.driver.specs.Stepped.{reportOf}
+use Rattle.driver.proofs.SteppedLaws.{part-inside, replayed-step}
 use Rattle.driver.proofs.step_write.Statement.{statement}
 use Rattle.driver.proofs.step_write.Tie as tie
 
@@ -14,7 +15,7 @@ play-reported-requires c κs =
     let r = c .before .before .before .before in
     let a = r .before .before .before .before .before .before .args in
     let g = r .crpm-write .ensures in
-    omega (arith, part-inside (writeOutcome (a .session) (a .image .now) (writeArgsOf (a .main) (a .block) (a .offset) (a .bytes .now)) (g .0) (a .trace .now)) (a .trace .now) (r .crpm-write .result) _ (g .2))
+    omega (arith, part-inside (writeOutcome (a .session) (a .image .now) (writeArgsOf (a .main) (a .block) (a .offset) (a .bytes .now)) (g .0) (a .trace .now)) (a .trace .now) (reportOf (r .crpm-write .result)) _ (g .2))
 
 same-length : tie.Need-same-length
 same-length c = search needs
@@ -27,8 +28,9 @@ returns c =
     let p = c .before .before in
     let r = p .before .before .before .before .before in
     let b = r .before .before .before .before in
+    let a = b .before .before .args in
     let g = r .crpm-write .ensures in
-    (g .0, ((((λ i. b .shared-slice-known .given i .fits), g .1), g .2), p .play-reported .ensures .1 .1))
+    (g .0, replayed-step (a .image .now) (a .session) (callWrite (writeArgsOf (a .main) (a .block) (a .offset) (a .bytes .now)) (a .trace .now) (g .0)) (reportOf (r .crpm-write .result)) _ _ (((λ i. b .shared-slice-known .given i .fits), g .1), g .2) (p .play-reported .ensures .1 .1))
 
 pub step-write-spec : {M : Type 1} → statement M
 step-write-spec =

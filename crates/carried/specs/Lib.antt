@@ -1,0 +1,2 @@
+-- Callers of the C interface that carry the operations out themselves.
+pub mod Carried

@@ -1,0 +1,1 @@
+// Callers of the C interface that carry the operations out themselves. This crate has no function.
