@@ -104,11 +104,10 @@ extern "C" {
 #define CRPM_WRITE_TRACE(B) ((size_t)CRPM_OP_NUMBERS * (36 * (size_t)(B) + 6 + 32))
 #define CRPM_CHECKPOINT_TRACE(M, B) ((size_t)CRPM_OP_NUMBERS * (4 * (size_t)(B) * (size_t)(M) + 14))
 
-/* Numbers that are always enough for all three: the greatest of them. */
+/* Numbers that are always enough for all three: the greatest of them. A
+   checkpoint never needs as many as an opening. */
 #define CRPM_TRACE(M, B) \
-    (CRPM_OPEN_TRACE(M, B) > CRPM_WRITE_TRACE(B) ? \
-        (CRPM_OPEN_TRACE(M, B) > CRPM_CHECKPOINT_TRACE(M, B) ? CRPM_OPEN_TRACE(M, B) : CRPM_CHECKPOINT_TRACE(M, B)) : \
-        (CRPM_WRITE_TRACE(B) > CRPM_CHECKPOINT_TRACE(M, B) ? CRPM_WRITE_TRACE(B) : CRPM_CHECKPOINT_TRACE(M, B)))
+    (CRPM_OPEN_TRACE(M, B) > CRPM_WRITE_TRACE(B) ? CRPM_OPEN_TRACE(M, B) : CRPM_WRITE_TRACE(B))
 
 /* ---- the session */
 
