@@ -495,14 +495,17 @@ static void places(void)
     finish(&t);
 }
 
-/* The fields of a session, in bytes. */
+/* The fields of a session: places and sizes, in bytes. */
+#define FIELD(name, place, size) \
+    CHECK(offsetof(struct crpm_session, name) == (place) && sizeof(((struct crpm_session *)0)->name) == (size))
+
 static void session_fields(void)
 {
-    CHECK(offsetof(struct crpm_session, mains) == 0);
-    CHECK(offsetof(struct crpm_session, backups) == 8);
-    CHECK(offsetof(struct crpm_session, blocks) == 16);
-    CHECK(offsetof(struct crpm_session, dirty_segments) == 24);
-    CHECK(offsetof(struct crpm_session, dirty_blocks) == 32);
+    FIELD(mains, 0, 8);
+    FIELD(backups, 8, 8);
+    FIELD(blocks, 16, 8);
+    FIELD(dirty_segments, 24, 8);
+    FIELD(dirty_blocks, 32, 512);
     CHECK(sizeof(struct crpm_session) == 544);
 }
 
@@ -560,6 +563,8 @@ static void trace_lengths_of(const struct lengths *of)
             SERVED(crpm_write(t.image, t.image_length, &t.session, i, b, 0, ONE, 1, t.trace, 3, &t.ops));
             SERVED(crpm_replay(t.image, t.image_length, t.trace, 3, 1, &played));
         }
+    CHECK(t.session.dirty_segments == UINT64_MAX >> (64 - of->mains));
+    CHECK(t.session.dirty_blocks[of->mains - 1] == UINT64_MAX >> (64 - of->blocks));
     STEP(needs(&t, checkpoint, CRPM_CHECKPOINT_TRACE(of->mains, of->blocks), of->checkpoint));
     SERVED(checkpoint(&t));
     STEP(play(&t, 9, 4 * of->mains * of->blocks + 2, 3));
@@ -588,13 +593,13 @@ static void trace_lengths(void)
     CHECK(wrong == 0);
     CHECK(sizeof of_constants == 222 * 8);
 
-    /* arguments may be expressions */
-    CHECK(CRPM_IMAGE_SIZE(1 + 2, 1 + 1, 2 + 2) == 5632);
-    CHECK(CRPM_MAIN_AT(2 + 2, 1 + 1) == 2560);
-    CHECK(CRPM_BACKUP_AT(1 + 2, 2 + 2, 0 + 1) == 4608);
-    CHECK(CRPM_OPEN_TRACE(1 + 2, 2 + 3) == 1623 && CRPM_TRACE(1 + 2, 2 + 3) == 1623);
-    CHECK(CRPM_WRITE_TRACE(2 + 3) == 654 && CRPM_TRACE(0 + 1, 2 + 3) == 654);
-    CHECK(CRPM_CHECKPOINT_TRACE(1 + 2, 2 + 3) == 222);
+    /* arguments may be any expressions; here 3 and 5 */
+    CHECK(CRPM_IMAGE_SIZE(1 | 2, 1 | 4, 1 | 4) == 10752);
+    CHECK(CRPM_MAIN_AT(1 | 4, 1 | 2) == 4352);
+    CHECK(CRPM_BACKUP_AT(1 | 2, 1 | 4, 1 | 4) == 10752);
+    CHECK(CRPM_OPEN_TRACE(1 | 2, 1 | 4) == 1623 && CRPM_TRACE(1 | 2, 1 | 4) == 1623);
+    CHECK(CRPM_WRITE_TRACE(1 | 4) == 654 && CRPM_TRACE(0 | 1, 1 | 4) == 654);
+    CHECK(CRPM_CHECKPOINT_TRACE(1 | 2, 1 | 4) == 222);
 }
 
 /* ---- refusals: each call has all that it can be refused for at once, and loses
