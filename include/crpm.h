@@ -28,6 +28,10 @@
  *  - One image, one writer: nothing else stores into it, and its calls do not
  *    run at the same time. Calls on different images may; the library keeps no
  *    data of its own.
+ *  - The library takes below 16 KiB of code and constants and below 3 KiB of
+ *    stack in any call, and needs memcpy and memset (scripts/footprint measures
+ *    it). It uses the red zone: an interrupt handler that runs on the stack of
+ *    a call must step over 128 bytes below the stack pointer, as Linux does.
  *
  * Rules for every call
  *  - A buffer is a pointer and a length: of bytes for an image and for the
@@ -99,7 +103,9 @@ extern "C" {
 #define CRPM_OP_SFENCE 3 /* wait for what was written back; place and word are 0 */
 
 /* Numbers of a trace that are always enough for an opening, a write and a
-   checkpoint of an image with M main segments and B blocks in each. */
+   checkpoint of an image with M main segments and B blocks in each. A trace can
+   be larger than the image: with 64 of each the image has 2,097,664 bytes, and
+   the trace of its first opening 3,538,968. */
 #define CRPM_OPEN_TRACE(M, B) ((size_t)CRPM_OP_NUMBERS * (36 * (size_t)(B) * (size_t)(M) + 1))
 #define CRPM_WRITE_TRACE(B) ((size_t)CRPM_OP_NUMBERS * (36 * (size_t)(B) + 6 + 32))
 #define CRPM_CHECKPOINT_TRACE(M, B) ((size_t)CRPM_OP_NUMBERS * (4 * (size_t)(B) * (size_t)(M) + 14))
