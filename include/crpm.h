@@ -74,8 +74,9 @@ extern "C" {
 #define CRPM_MAINS_AT 64   /* main segments: a word */
 #define CRPM_BACKUPS_AT 72 /* backup segments: a word */
 #define CRPM_BLOCKS_AT 80  /* blocks of a segment: a word */
-#define CRPM_STATES_AT 128 /* states for even epochs, then (a line on) for odd epochs: a byte for each main segment */
-#define CRPM_PAIRS_AT 256  /* for each backup segment its main segment: a byte each */
+#define CRPM_STATES_AT 128 /* states for even epochs, a byte for each main segment; those for
+                              odd epochs stand a line on */
+#define CRPM_PAIRS_AT 256  /* the main segment of each backup segment: a byte each */
 #define CRPM_UNPAIRED 255  /* the pair byte of a backup segment that has none */
 
 /* The states of a main segment: its checkpoint is all zero, stands in itself,
@@ -87,7 +88,8 @@ extern "C" {
 /* Bytes of an image of M main segments, S backup segments and B blocks in
    each segment; M, S and B are each 1 to CRPM_MOST. */
 #define CRPM_IMAGE_SIZE(M, S, B) \
-    ((size_t)CRPM_METADATA_SIZE + (size_t)CRPM_BLOCK_SIZE * (size_t)(B) * ((size_t)(M) + (size_t)(S)))
+    ((size_t)CRPM_METADATA_SIZE + \
+     (size_t)CRPM_BLOCK_SIZE * (size_t)(B) * ((size_t)(M) + (size_t)(S)))
 
 /* Where main segment I and backup segment J start. */
 #define CRPM_MAIN_AT(B, I) \
@@ -124,7 +126,8 @@ struct crpm_session {
     uint64_t backups;        /* backup segments */
     uint64_t blocks;         /* blocks of a segment */
     uint64_t dirty_segments; /* bit i: main segment i was written to since the last checkpoint */
-    uint64_t dirty_blocks[CRPM_MOST]; /* word i, bit b: block b of main segment i may differ from its backup segment */
+    uint64_t dirty_blocks[CRPM_MOST]; /* word i, bit b: block b of main segment i may differ
+                                         from its backup segment */
 };
 
 /* ---- the numbers that calls return */

