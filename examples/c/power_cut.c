@@ -56,7 +56,8 @@ static void served(const char *call, uint64_t status)
 static void replay(uint8_t *image, const uint64_t *trace, uint64_t ops, uint64_t n)
 {
     uint64_t played;
-    served("replay", crpm_replay(image, IMAGE_SIZE, trace, CRPM_OP_NUMBERS * (size_t)ops, n, &played));
+    size_t length = CRPM_OP_NUMBERS * (size_t)ops;
+    served("replay", crpm_replay(image, IMAGE_SIZE, trace, length, n, &played));
     if (played != n)
         fail("not all operations were carried out");
 }
@@ -65,7 +66,8 @@ static void replay(uint8_t *image, const uint64_t *trace, uint64_t ops, uint64_t
 static uint64_t reopen(uint8_t *image, struct crpm_session *session)
 {
     uint64_t trace[TRACE_LENGTH], ops;
-    served("open", crpm_open(image, IMAGE_SIZE, MAINS, BACKUPS, BLOCKS, session, trace, TRACE_LENGTH, &ops));
+    served("open", crpm_open(image, IMAGE_SIZE, MAINS, BACKUPS, BLOCKS, session,
+                             trace, TRACE_LENGTH, &ops));
     replay(image, trace, ops, ops);
     return ops;
 }
@@ -89,14 +91,16 @@ static const uint8_t zeros[CRPM_BLOCK_SIZE];
 static const uint8_t *checkpoint_block(const uint8_t *image)
 {
     uint64_t start, size;
-    served("read", crpm_read_checkpoint(image, IMAGE_SIZE, MAINS, BACKUPS, BLOCKS, 0, 0, &start, &size));
+    served("read", crpm_read_checkpoint(image, IMAGE_SIZE, MAINS, BACKUPS, BLOCKS, 0, 0,
+                                        &start, &size));
     return size == 0 ? zeros : image + start;
 }
 
 static const uint8_t *working_block(const uint8_t *image)
 {
     uint64_t start, size;
-    served("read", crpm_read_working(image, IMAGE_SIZE, MAINS, BACKUPS, BLOCKS, 0, 0, &start, &size));
+    served("read", crpm_read_working(image, IMAGE_SIZE, MAINS, BACKUPS, BLOCKS, 0, 0,
+                                     &start, &size));
     return image + start;
 }
 
@@ -104,7 +108,8 @@ static const uint8_t *working_block(const uint8_t *image)
 static int same_checkpoint(const uint8_t *a, const uint8_t *b)
 {
     uint64_t same;
-    served("comparison", crpm_same_checkpoint(a, IMAGE_SIZE, b, IMAGE_SIZE, MAINS, BACKUPS, BLOCKS, &same));
+    served("comparison", crpm_same_checkpoint(a, IMAGE_SIZE, b, IMAGE_SIZE, MAINS, BACKUPS, BLOCKS,
+                                              &same));
     return same == 1;
 }
 
@@ -130,7 +135,8 @@ static void show_checkpoint(const uint8_t *before, const uint8_t *image)
 
 /* Loses power after n operations of the checkpoint, with the line of the
    epoch arrived or not, opens again, and shows the checkpoint. */
-static void lose_power(const uint8_t *before, const uint64_t *trace, uint64_t ops, uint64_t n, int arrived)
+static void lose_power(const uint8_t *before, const uint64_t *trace, uint64_t ops, uint64_t n,
+                       int arrived)
 {
     uint8_t image[IMAGE_SIZE];
     struct crpm_session session;
