@@ -133,6 +133,8 @@ static void finish(struct bench *t)
    was, numbers behind the operations keep their contents, and a refused call
    writes 0 operations and leaves the session that it should */
 
+typedef uint64_t bench_call(struct bench *);
+
 static void before_call(struct bench *t)
 {
     size_t i;
@@ -519,7 +521,7 @@ static void session_fields(void)
 /* ---- lengths of a trace: with so many numbers a call is served, and uses them
    all; with one less it is refused */
 
-static void needs(struct bench *t, uint64_t (*call)(struct bench *), size_t length, size_t numbers)
+static void needs(struct bench *t, bench_call *call, size_t length, size_t numbers)
 {
     struct crpm_session as_it_came = t->session;
     size_t whole = t->trace_length;
@@ -547,7 +549,7 @@ static const struct lengths LENGTHS[] = {
     {2, 2, 2, 2560, 435, 330, 90},
     {3, 2, 5, 6912, 1623, 654, 222},
     {64, 1, 1, 17152, 6915, 222, 810},
-    {64, 64, 64, 2097664, 442371, 7026, 49194},
+    {CRPM_MOST, CRPM_MOST, CRPM_MOST, 2097664, 442371, 7026, 49194},
 };
 
 static void trace_lengths_of(const struct lengths *of)
@@ -610,8 +612,8 @@ static void trace_lengths(void)
     CHECK(CRPM_CHECKPOINT_TRACE(1 | 2, 1 | 4) == 222);
 }
 
-/* ---- refusals: each call has all that it can be refused for at once, and loses
-   one after the other, since the lowest number is given */
+/* ---- refusals, by name and number. The calls come through the functions above
+   and below, which see that a refusal changes nothing. */
 
 /* An image, changed at a byte for one call and then as it was. */
 #define CHANGED(t, place, value, call) \
@@ -622,7 +624,8 @@ static void trace_lengths(void)
         (t)->image[place] = kept_byte; \
     } while (0)
 
-static void refused_sizes(uint64_t (*call)(struct bench *), const struct bench *t)
+/* 1 */
+static void refused_sizes(bench_call *call, const struct bench *t)
 {
     static const uint64_t BAD[] = {0, CRPM_MOST + 1, UINT64_MAX};
     size_t i;
@@ -639,7 +642,8 @@ static void refused_sizes(uint64_t (*call)(struct bench *), const struct bench *
     }
 }
 
-static void refused_lengths(uint64_t (*call)(struct bench *), const struct bench *t)
+/* 2 */
+static void refused_lengths(bench_call *call, const struct bench *t)
 {
     struct bench wrong = *t;
     wrong.image_length = t->image_length - 1;
@@ -650,9 +654,9 @@ static void refused_lengths(uint64_t (*call)(struct bench *), const struct bench
     RETURNS(call(&wrong), CRPM_BAD_LENGTH, 2);
 }
 
-/* Images of other sizes, and those that are not valid; of three main segments
-   and two backup segments, the first with state 2 and paired with the first. */
-static void refused_images(uint64_t (*call)(struct bench *), struct bench *t)
+/* 3 and 4: of three main segments and two backup segments, the first has state 2
+   and is paired with the first. */
+static void refused_images(bench_call *call, struct bench *t)
 {
     size_t states = CRPM_STATES_AT + CRPM_LINE_SIZE * (word_at(t->image, CRPM_EPOCH_AT) % 2);
     CHECK(state_of(t, 0) == CRPM_SS_BACKUP && main_of(t, 0) == 0 && main_of(t, 1) == CRPM_UNPAIRED);
@@ -668,6 +672,14 @@ static void refused_images(uint64_t (*call)(struct bench *), struct bench *t)
     CHANGED(t, CRPM_PAIRS_AT + 1, 0, RETURNS(call(t), CRPM_INVALID, 4));
     CHANGED(t, CRPM_PAIRS_AT + 2, 1, RETURNS(call(t), CRPM_INVALID, 4));
     CHANGED(t, CRPM_PAIRS_AT + CRPM_MOST - 1, 1, RETURNS(call(t), CRPM_INVALID, 4));
+}
+
+/* 1 to 4 */
+static void refused_layouts(bench_call *call, struct bench *t)
+{
+    refused_sizes(call, t);
+    refused_lengths(call, t);
+    refused_images(call, t);
 }
 
 static uint64_t format_image(struct bench *t)
@@ -727,7 +739,7 @@ static uint64_t same_second(struct bench *t)
     return status;
 }
 
-/* A session that takes the bench's sizes is a wrong one if they are wrong. */
+/* Write and checkpoint have their sizes in the session. */
 static void take_sizes(struct bench *t)
 {
     t->session.mains = t->mains;
@@ -747,8 +759,8 @@ static uint64_t checkpoint_with_sizes(struct bench *t)
     return checkpoint(t);
 }
 
-/* What calls that take a session refuse it for. */
-static void refused_sessions(uint64_t (*call)(struct bench *), const struct bench *t)
+/* 5 */
+static void refused_sessions(bench_call *call, const struct bench *t)
 {
     struct bench wrong = *t;
     CHECK(state_of(t, 1) == CRPM_SS_MAIN);
@@ -767,8 +779,8 @@ static void refused_sessions(uint64_t (*call)(struct bench *), const struct benc
     RETURNS(call(&wrong), CRPM_BAD_SESSION, 5);
 }
 
-/* What calls that take a block refuse it for. */
-static void refused_blocks(uint64_t (*call)(struct bench *), struct bench *t)
+/* 6 and 7, before 8 */
+static void refused_blocks(bench_call *call, struct bench *t)
 {
     RETURNS(call(at(t, 3, 2, 0, ONE, 1)), CRPM_NO_SUCH_MAIN, 6);
     RETURNS(call(at(t, UINT64_MAX, 0, 0, ONE, 1)), CRPM_NO_SUCH_MAIN, 6);
@@ -781,19 +793,17 @@ static void refused_blocks(uint64_t (*call)(struct bench *), struct bench *t)
    every segment has a checkpoint and main segment 0 was written to since. */
 static void start_written(struct bench *t)
 {
-    size_t j;
     start(t, 3, 2, 2);
     SERVED(open_image(t));
     STEP(play(t, 192, 24, 1));
     fill_every_block(t);
     SERVED(write_bytes(at(t, 0, 0, 0, ONE, 8)));
     STEP(play(t, 67, 10, 2));
-    for (j = 0; j < 2; j++) /* whichever backup segment it took, it is to be the first */
-        if (main_of(t, j) == 0 && j != 0) {
-            t->image[CRPM_PAIRS_AT + j] = CRPM_UNPAIRED;
-            t->image[CRPM_PAIRS_AT] = 0;
-            memcpy(t->image + CRPM_BACKUP_AT(3, 2, 0), t->image + CRPM_BACKUP_AT(3, 2, j), 512);
-        }
+    if (main_of(t, 1) == 0) { /* it may take either backup segment; here it is to have the first */
+        t->image[CRPM_PAIRS_AT] = 0;
+        t->image[CRPM_PAIRS_AT + 1] = CRPM_UNPAIRED;
+        memcpy(t->image + CRPM_BACKUP_AT(3, 2, 0), t->image + CRPM_BACKUP_AT(3, 2, 1), 512);
+    }
 }
 
 static void refusals(void)
@@ -802,42 +812,27 @@ static void refusals(void)
     uint8_t *other;
     start_written(&t);
 
-    /* 1 to 4, of all calls that know them; the session's own sizes for write and checkpoint */
     STEP(refused_sizes(format_image, &t));
     STEP(refused_lengths(format_image, &t));
-    opened = t; /* its session is lost by an opening that is refused */
-    STEP(refused_sizes(open_image, &opened));
-    STEP(refused_lengths(open_image, &opened));
-    STEP(refused_images(open_image, &opened));
-    STEP(refused_sizes(write_with_sizes, &t));
-    STEP(refused_lengths(write_with_sizes, &t));
-    STEP(refused_images(write_bytes, &t));
-    STEP(refused_sizes(checkpoint_with_sizes, &t));
-    STEP(refused_lengths(checkpoint_with_sizes, &t));
-    STEP(refused_images(checkpoint, &t));
-    STEP(refused_sizes(read_working, &t));
-    STEP(refused_lengths(read_working, &t));
-    STEP(refused_images(read_working, &t));
-    STEP(refused_sizes(read_checkpoint, &t));
-    STEP(refused_lengths(read_checkpoint, &t));
-    STEP(refused_images(read_checkpoint, &t));
+    opened = t; /* a refused opening leaves a session of zeros */
+    STEP(refused_layouts(open_image, &opened));
+    STEP(refused_layouts(write_with_sizes, &t));
+    STEP(refused_layouts(checkpoint_with_sizes, &t));
+    STEP(refused_layouts(read_working, &t));
+    STEP(refused_layouts(read_checkpoint, &t));
 
-    /* of the comparison, for either image; the first wholly before the second */
+    /* either image of a comparison; the first wholly before the second */
     other = (uint8_t *)allocated(t.image_length);
     memcpy(other, t.image, t.image_length);
     other_image = other;
     other_length = t.image_length;
-    STEP(refused_sizes(same_first, &t));
-    STEP(refused_lengths(same_first, &t));
-    STEP(refused_images(same_first, &t));
-    STEP(refused_lengths(same_second, &t));
-    STEP(refused_images(same_second, &t));
+    STEP(refused_layouts(same_first, &t));
+    STEP(refused_layouts(same_second, &t));
     SERVED(same_first(&t));
     other_length = 0;
     CHANGED(&t, CRPM_PAIRS_AT, 3, RETURNS(same_first(&t), CRPM_INVALID, 4));
     free(other);
 
-    /* 5, 6, 7 */
     STEP(refused_sessions(write_bytes, &t));
     STEP(refused_sessions(checkpoint, &t));
     STEP(refused_blocks(read_working, &t));
