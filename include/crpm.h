@@ -28,6 +28,10 @@
  *  - One image, one writer: nothing else stores into it, and its calls do not
  *    run at the same time. Calls on different images may; the library keeps no
  *    data of its own.
+ *  - The library takes below 16 KiB of code and constants and below 3 KiB of
+ *    stack in any call, and needs memcpy and memset (scripts/footprint measures
+ *    it). It uses the red zone: an interrupt handler that runs on the stack of
+ *    a call must step over 128 bytes below the stack pointer, as Linux does.
  *
  * Rules for every call
  *  - A buffer is a pointer and a length: of bytes for an image and for the
@@ -70,8 +74,9 @@ extern "C" {
 #define CRPM_MAINS_AT 64   /* main segments: a word */
 #define CRPM_BACKUPS_AT 72 /* backup segments: a word */
 #define CRPM_BLOCKS_AT 80  /* blocks of a segment: a word */
-#define CRPM_STATES_AT 128 /* states for even epochs, then (a line on) for odd epochs: a byte for each main segment */
-#define CRPM_PAIRS_AT 256  /* for each backup segment its main segment: a byte each */
+#define CRPM_STATES_AT 128 /* states for even epochs, a byte for each main segment; those for
+                              odd epochs stand a line on */
+#define CRPM_PAIRS_AT 256  /* the main segment of each backup segment: a byte each */
 #define CRPM_UNPAIRED 255  /* the pair byte of a backup segment that has none */
 
 /* The states of a main segment: its checkpoint is all zero, stands in itself,
@@ -83,7 +88,8 @@ extern "C" {
 /* Bytes of an image of M main segments, S backup segments and B blocks in
    each segment; M, S and B are each 1 to CRPM_MOST. */
 #define CRPM_IMAGE_SIZE(M, S, B) \
-    ((size_t)CRPM_METADATA_SIZE + (size_t)CRPM_BLOCK_SIZE * (size_t)(B) * ((size_t)(M) + (size_t)(S)))
+    ((size_t)CRPM_METADATA_SIZE + \
+     (size_t)CRPM_BLOCK_SIZE * (size_t)(B) * ((size_t)(M) + (size_t)(S)))
 
 /* Where main segment I and backup segment J start. */
 #define CRPM_MAIN_AT(B, I) \
@@ -99,16 +105,17 @@ extern "C" {
 #define CRPM_OP_SFENCE 3 /* wait for what was written back; place and word are 0 */
 
 /* Numbers of a trace that are always enough for an opening, a write and a
-   checkpoint of an image with M main segments and B blocks in each. */
+   checkpoint of an image with M main segments and B blocks in each. A trace can
+   be larger than the image: with 64 of each the image has 2,097,664 bytes, and
+   the trace of its first opening 3,538,968. */
 #define CRPM_OPEN_TRACE(M, B) ((size_t)CRPM_OP_NUMBERS * (36 * (size_t)(B) * (size_t)(M) + 1))
 #define CRPM_WRITE_TRACE(B) ((size_t)CRPM_OP_NUMBERS * (36 * (size_t)(B) + 6 + 32))
 #define CRPM_CHECKPOINT_TRACE(M, B) ((size_t)CRPM_OP_NUMBERS * (4 * (size_t)(B) * (size_t)(M) + 14))
 
-/* Numbers that are always enough for all three: the greatest of them. */
+/* Numbers that are always enough for all three: the greatest of them. A
+   checkpoint never needs as many as an opening. */
 #define CRPM_TRACE(M, B) \
-    (CRPM_OPEN_TRACE(M, B) > CRPM_WRITE_TRACE(B) ? \
-        (CRPM_OPEN_TRACE(M, B) > CRPM_CHECKPOINT_TRACE(M, B) ? CRPM_OPEN_TRACE(M, B) : CRPM_CHECKPOINT_TRACE(M, B)) : \
-        (CRPM_WRITE_TRACE(B) > CRPM_CHECKPOINT_TRACE(M, B) ? CRPM_WRITE_TRACE(B) : CRPM_CHECKPOINT_TRACE(M, B)))
+    (CRPM_OPEN_TRACE(M, B) > CRPM_WRITE_TRACE(B) ? CRPM_OPEN_TRACE(M, B) : CRPM_WRITE_TRACE(B))
 
 /* ---- the session */
 
@@ -119,7 +126,8 @@ struct crpm_session {
     uint64_t backups;        /* backup segments */
     uint64_t blocks;         /* blocks of a segment */
     uint64_t dirty_segments; /* bit i: main segment i was written to since the last checkpoint */
-    uint64_t dirty_blocks[CRPM_MOST]; /* word i, bit b: block b of main segment i may differ from its backup segment */
+    uint64_t dirty_blocks[CRPM_MOST]; /* word i, bit b: block b of main segment i may differ
+                                         from its backup segment */
 };
 
 /* ---- the numbers that calls return */

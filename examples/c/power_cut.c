@@ -3,17 +3,21 @@
  *
  * Formats an image of two main segments, one backup segment and one block in
  * each, opens it, writes the bytes a1 b2 c3 d4 at offset 6 of main segment 0,
- * and makes a checkpoint (document 01: the bench sheet). Then the power fails
- * after 15, 16, 17 and 18 operations of the checkpoint; each time the image
- * is opened again, and what the reads show is printed.
+ * and makes a checkpoint. Then the power fails after 15, 16, 17 and 18
+ * operations of the checkpoint; each time the image is opened again, and what
+ * the reads show is printed.
  *
  * After operation 15 all but the epoch is sure to have arrived. Operation 16
  * stores the epoch, 17 flushes its line and 18 is the fence that waits for
  * it. So after 16 and after 17 that line may have arrived or not, and both
  * are shown.
  *
- * `rt staticlib capi` builds the library; `bash examples/c/run` then builds
- * and runs this and compares what it prints with expected.txt.
+ * The image is ordinary memory here, and crpm_replay stores into it. On a
+ * module, flush every line after the format and carry out each operation
+ * (crpm_x86.h).
+ *
+ * examples/c/run builds and runs this and compares what it prints with
+ * expected.txt.
  */
 #include "crpm.h"
 
@@ -26,6 +30,9 @@ enum { MAINS = 2, BACKUPS = 1, BLOCKS = 1 };
 
 #define IMAGE_SIZE CRPM_IMAGE_SIZE(MAINS, BACKUPS, BLOCKS)
 
+/* Enough for any call on the image. */
+#define TRACE_LENGTH CRPM_TRACE(MAINS, BLOCKS)
+
 /* What is written, and where in block 0 of main segment 0. */
 static const uint8_t BYTES[] = {0xa1, 0xb2, 0xc3, 0xd4};
 enum { OFFSET = 6 };
@@ -37,46 +44,45 @@ static void fail(const char *what)
 }
 
 /* Ends the program unless the call was served. */
-static void served(const char *call, uint64_t number)
+static void served(const char *call, uint64_t status)
 {
-    if (number != CRPM_SERVED) {
-        fprintf(stderr, "power_cut: %s was refused with %" PRIu64 "\n", call, number);
+    if (status != CRPM_SERVED) {
+        fprintf(stderr, "power_cut: %s was refused with %" PRIu64 "\n", call, status);
         exit(EXIT_FAILURE);
     }
 }
 
-/* Carries out the first n operations of a tape that holds so many. */
-static void replay(uint8_t *image, const uint64_t *tape, uint64_t operations, uint64_t n)
+/* Carries out the first n operations of a trace that holds so many. */
+static void replay(uint8_t *image, const uint64_t *trace, uint64_t ops, uint64_t n)
 {
-    uint64_t out[CRPM_OUT_WORDS];
-    size_t length = CRPM_OP_WORDS * (size_t)operations;
-    served("replay", crpm_replay(image, IMAGE_SIZE, tape, length, n, out, CRPM_OUT_WORDS));
-    if (out[0] != n)
+    uint64_t played;
+    size_t length = CRPM_OP_NUMBERS * (size_t)ops;
+    served("replay", crpm_replay(image, IMAGE_SIZE, trace, length, n, &played));
+    if (played != n)
         fail("not all operations were carried out");
 }
 
 /* Opens an image and carries out the operations. How many they were. */
-static uint64_t reopen(uint8_t *image, uint64_t *card)
+static uint64_t reopen(uint8_t *image, struct crpm_session *session)
 {
-    uint64_t tape[CRPM_OPEN_TAPE(MAINS, BLOCKS)], out[CRPM_OUT_WORDS];
-    served("open", crpm_open(image, IMAGE_SIZE, MAINS, BACKUPS, BLOCKS, card, CRPM_CARD_WORDS,
-                             tape, CRPM_OPEN_TAPE(MAINS, BLOCKS), out, CRPM_OUT_WORDS));
-    replay(image, tape, out[0], out[0]);
-    return out[0];
+    uint64_t trace[TRACE_LENGTH], ops;
+    served("open", crpm_open(image, IMAGE_SIZE, MAINS, BACKUPS, BLOCKS, session,
+                             trace, TRACE_LENGTH, &ops));
+    replay(image, trace, ops, ops);
+    return ops;
 }
 
 /* Writes the bytes and carries out the operations. */
-static void write_bytes(uint8_t *image, uint64_t *card)
+static void write_bytes(uint8_t *image, struct crpm_session *session)
 {
-    uint64_t tape[CRPM_WRITE_TAPE(BLOCKS)], out[CRPM_OUT_WORDS];
-    served("write", crpm_write(image, IMAGE_SIZE, card, CRPM_CARD_WORDS, 0, 0, OFFSET,
-                               BYTES, sizeof BYTES,
-                               tape, CRPM_WRITE_TAPE(BLOCKS), out, CRPM_OUT_WORDS));
-    if (out[0] != 2 || tape[0] != CRPM_OP_STORE || tape[3] != CRPM_OP_STORE)
+    uint64_t trace[TRACE_LENGTH], ops;
+    served("write", crpm_write(image, IMAGE_SIZE, session, 0, 0, OFFSET, BYTES, sizeof BYTES,
+                               trace, TRACE_LENGTH, &ops));
+    if (ops != 2 || trace[0] != CRPM_OP_STORE || trace[CRPM_OP_NUMBERS] != CRPM_OP_STORE)
         fail("the write is not two stores");
     printf("write: %" PRIu64 " operations, words stored at %" PRIu64 " and %" PRIu64 "\n",
-           out[0], tape[1], tape[4]);
-    replay(image, tape, out[0], out[0]);
+           ops, trace[1], trace[CRPM_OP_NUMBERS + 1]);
+    replay(image, trace, ops, ops);
 }
 
 static const uint8_t zeros[CRPM_BLOCK_SIZE];
@@ -84,29 +90,27 @@ static const uint8_t zeros[CRPM_BLOCK_SIZE];
 /* The block as of the last checkpoint, and as it stands now. */
 static const uint8_t *checkpoint_block(const uint8_t *image)
 {
-    uint64_t out[CRPM_OUT_WORDS];
+    uint64_t start, size;
     served("read", crpm_read_checkpoint(image, IMAGE_SIZE, MAINS, BACKUPS, BLOCKS, 0, 0,
-                                        out, CRPM_OUT_WORDS));
-    return out[1] == 0 ? zeros : image + out[0];
+                                        &start, &size));
+    return size == 0 ? zeros : image + start;
 }
 
 static const uint8_t *working_block(const uint8_t *image)
 {
-    uint64_t out[CRPM_OUT_WORDS];
+    uint64_t start, size;
     served("read", crpm_read_working(image, IMAGE_SIZE, MAINS, BACKUPS, BLOCKS, 0, 0,
-                                     out, CRPM_OUT_WORDS));
-    if (out[1] != CRPM_BLOCK_SIZE)
-        fail("the working read found no block");
-    return image + out[0];
+                                     &start, &size));
+    return image + start;
 }
 
 /* Whether two images have the same checkpoint. */
 static int same_checkpoint(const uint8_t *a, const uint8_t *b)
 {
-    uint64_t out[CRPM_OUT_WORDS];
+    uint64_t same;
     served("comparison", crpm_same_checkpoint(a, IMAGE_SIZE, b, IMAGE_SIZE, MAINS, BACKUPS, BLOCKS,
-                                              out, CRPM_OUT_WORDS));
-    return out[0] == 1;
+                                              &same));
+    return same == 1;
 }
 
 /* Prints what both reads show of the written bytes after an opening, and
@@ -131,44 +135,42 @@ static void show_checkpoint(const uint8_t *before, const uint8_t *image)
 
 /* Loses power after n operations of the checkpoint, with the line of the
    epoch arrived or not, opens again, and shows the checkpoint. */
-static void lose_power(const uint8_t *before, const uint64_t *tape, uint64_t operations,
-                       uint64_t n, int arrived)
+static void lose_power(const uint8_t *before, const uint64_t *trace, uint64_t ops, uint64_t n,
+                       int arrived)
 {
     uint8_t image[IMAGE_SIZE];
-    uint64_t card[CRPM_CARD_WORDS];
+    struct crpm_session session;
     memcpy(image, before, IMAGE_SIZE);
-    replay(image, tape, operations, n);
+    replay(image, trace, ops, n);
     if (!arrived)
         memcpy(image + CRPM_EPOCH_AT, before + CRPM_EPOCH_AT, CRPM_LINE_SIZE);
-    reopen(image, card);
+    reopen(image, &session);
     show_checkpoint(before, image);
 }
 
 int main(void)
 {
     static uint8_t image[IMAGE_SIZE];
-    uint64_t card[CRPM_CARD_WORDS], tape[CRPM_CHECKPOINT_TAPE(MAINS, BLOCKS)];
-    uint64_t out[CRPM_OUT_WORDS], n;
+    struct crpm_session session;
+    uint64_t trace[TRACE_LENGTH], ops, n;
 
     served("format", crpm_format(image, IMAGE_SIZE, MAINS, BACKUPS, BLOCKS));
     printf("format: %zu bytes\n", IMAGE_SIZE);
-    printf("open: %" PRIu64 " operations\n", reopen(image, card));
-    write_bytes(image, card);
-    served("checkpoint", crpm_checkpoint(image, IMAGE_SIZE, card, CRPM_CARD_WORDS,
-                                         tape, CRPM_CHECKPOINT_TAPE(MAINS, BLOCKS),
-                                         out, CRPM_OUT_WORDS));
-    printf("checkpoint: %" PRIu64 " operations\n", out[0]);
+    printf("open: %" PRIu64 " operations\n", reopen(image, &session));
+    write_bytes(image, &session);
+    served("checkpoint", crpm_checkpoint(image, IMAGE_SIZE, &session, trace, TRACE_LENGTH, &ops));
+    printf("checkpoint: %" PRIu64 " operations\n", ops);
 
     printf("power lost after 15 operations: ");
-    lose_power(image, tape, out[0], 15, 1);
+    lose_power(image, trace, ops, 15, 1);
     for (n = 16; n <= 17; n++) {
         printf("power lost after %" PRIu64 " operations, epoch line not arrived: ", n);
-        lose_power(image, tape, out[0], n, 0);
+        lose_power(image, trace, ops, n, 0);
         printf("power lost after %" PRIu64 " operations, epoch line arrived: ", n);
-        lose_power(image, tape, out[0], n, 1);
+        lose_power(image, trace, ops, n, 1);
     }
     printf("power lost after 18 operations: ");
-    lose_power(image, tape, out[0], 18, 1);
+    lose_power(image, trace, ops, 18, 1);
 
     return fflush(stdout) == 0 && !ferror(stdout) ? EXIT_SUCCESS : EXIT_FAILURE;
 }

@@ -1,0 +1,957 @@
+/*
+ * The header held against the specification and against the library.
+ *
+ *     header VERSION        VERSION: that of the pkg-config file
+ *
+ * Every size, place, state, kind, number, macro and field of crpm.h is used
+ * here as a caller uses it, on real images, sessions and traces, and what comes
+ * of it is compared with numbers written out from docs/SPECIFICATION.md.
+ * tests/c/spoil changes each of them in turn and sees that this program no
+ * longer compiles or no longer passes. It is C99 and C++11 at once.
+ */
+#include "crpm.h"
+
+#include <stdio.h>
+#include <stdlib.h>
+#include <string.h>
+
+/* ---- checks */
+
+static unsigned long checks, failures;
+static int step; /* the line of the step that is being tried */
+
+static void check(int holds, const char *what, int line)
+{
+    checks++;
+    if (!holds && ++failures <= 20)
+        fprintf(stderr, "header.c:%d: in the step of line %d, not so: %s\n", line, step, what);
+}
+
+#define CHECK(condition) check((condition) ? 1 : 0, #condition, __LINE__)
+#define STEP(made) (step = __LINE__, made)
+
+/* A call returns the status of this name, which has this number. */
+#define RETURNS(call, name, number) returns(call, name, number, #call " returns " #name, __LINE__)
+#define SERVED(call) RETURNS(call, CRPM_SERVED, 0)
+
+static void returns(uint64_t status, uint64_t name, uint64_t number, const char *what, int line)
+{
+    check(status == name && name == number, what, line);
+}
+
+/* What stands in a number before a call writes it, and in a trace. */
+static const uint64_t UNWRITTEN = 0x5a5a5a5a5a5a5a5a;
+
+/* ---- bytes and words, by the specification's numbers and by the header's */
+
+static void put_word(uint8_t *bytes, size_t at, uint64_t word)
+{
+    int i;
+    for (i = 0; i < 8; i++)
+        bytes[at + (size_t)i] = (uint8_t)(word >> 8 * i);
+}
+
+static uint64_t word_at(const uint8_t *image, size_t at)
+{
+    uint64_t word = 0;
+    size_t i;
+    for (i = CRPM_WORD_SIZE; i > 0; i--)
+        word = word << 8 | image[at + i - 1];
+    return word;
+}
+
+static int all(const uint8_t *bytes, size_t length, uint8_t value)
+{
+    size_t i;
+    for (i = 0; i < length; i++)
+        if (bytes[i] != value)
+            return 0;
+    return 1;
+}
+
+/* ---- a bench: an image, the session of it and a trace */
+
+struct bench {
+    uint64_t mains, backups, blocks;
+    uint8_t *image;
+    size_t image_length;
+    struct crpm_session session;
+    uint64_t behind_session; /* nobody writes here */
+    uint64_t *trace;
+    size_t trace_length;
+    uint64_t ops;
+    /* the write that is to be made */
+    uint64_t main, block, offset;
+    const uint8_t *bytes;
+    size_t bytes_length;
+    /* as allocated; a copy of the image */
+    size_t image_room, trace_room;
+    uint8_t *copy;
+};
+
+/* Room behind image and trace, where nobody writes. */
+enum { BEHIND = 64 };
+
+static void *allocated(size_t size)
+{
+    void *made = malloc(size);
+    if (made == NULL) {
+        fprintf(stderr, "header: no memory\n");
+        exit(2);
+    }
+    return made;
+}
+
+/* A bench with a formatted image; it was full of other bytes before. */
+static void start(struct bench *t, uint64_t mains, uint64_t backups, uint64_t blocks)
+{
+    memset(t, 0, sizeof *t);
+    t->mains = mains;
+    t->backups = backups;
+    t->blocks = blocks;
+    t->image_length = CRPM_IMAGE_SIZE(mains, backups, blocks);
+    t->image_room = t->image_length + BEHIND;
+    t->image = (uint8_t *)allocated(t->image_room);
+    t->copy = (uint8_t *)allocated(t->image_room);
+    t->trace_length = CRPM_TRACE(mains, blocks);
+    t->trace_room = t->trace_length + BEHIND;
+    t->trace = (uint64_t *)allocated(t->trace_room * sizeof *t->trace);
+    t->bytes = t->copy;
+    memset(t->image, 0xee, t->image_room);
+    SERVED(crpm_format(t->image, t->image_length, mains, backups, blocks));
+    CHECK(all(t->image + t->image_length, BEHIND, 0xee));
+}
+
+static void finish(struct bench *t)
+{
+    free(t->image);
+    free(t->copy);
+    free(t->trace);
+}
+
+/* ---- the calls that write a trace, and what holds of each: the image is as it
+   was, numbers behind the operations keep their contents, and a refused call
+   writes 0 operations and leaves the session that it should */
+
+typedef uint64_t bench_call(struct bench *);
+
+static void before_call(struct bench *t)
+{
+    size_t i;
+    memcpy(t->copy, t->image, t->image_room);
+    for (i = 0; i < t->trace_room; i++)
+        t->trace[i] = UNWRITTEN;
+    t->behind_session = UNWRITTEN;
+    t->ops = UNWRITTEN;
+}
+
+static uint64_t after_call(const struct bench *t, uint64_t status, const struct crpm_session *if_refused)
+{
+    size_t i;
+    CHECK(memcmp(t->copy, t->image, t->image_room) == 0);
+    CHECK(t->behind_session == UNWRITTEN);
+    if (status != CRPM_SERVED) {
+        CHECK(t->ops == 0);
+        CHECK(memcmp(&t->session, if_refused, sizeof t->session) == 0);
+    }
+    for (i = CRPM_OP_NUMBERS * (size_t)t->ops; i < t->trace_room && t->trace[i] == UNWRITTEN; i++)
+        ;
+    CHECK(i == t->trace_room);
+    return status;
+}
+
+static uint64_t open_image(struct bench *t)
+{
+    struct crpm_session zeros;
+    memset(&zeros, 0, sizeof zeros);
+    memset(&t->session, 0xff, sizeof t->session);
+    before_call(t);
+    return after_call(t, crpm_open(t->image, t->image_length, t->mains, t->backups, t->blocks,
+                                   &t->session, t->trace, t->trace_length, &t->ops), &zeros);
+}
+
+static uint64_t write_bytes(struct bench *t)
+{
+    struct crpm_session as_it_came = t->session;
+    before_call(t);
+    return after_call(t, crpm_write(t->image, t->image_length, &t->session, t->main, t->block, t->offset,
+                                    t->bytes, t->bytes_length, t->trace, t->trace_length, &t->ops),
+                      &as_it_came);
+}
+
+static uint64_t checkpoint(struct bench *t)
+{
+    struct crpm_session as_it_came = t->session;
+    before_call(t);
+    return after_call(t, crpm_checkpoint(t->image, t->image_length, &t->session, t->trace, t->trace_length,
+                                         &t->ops), &as_it_came);
+}
+
+/* Names the write that comes next. */
+static struct bench *at(struct bench *t, uint64_t main, uint64_t block, uint64_t offset,
+                        const uint8_t *bytes, size_t length)
+{
+    t->main = main;
+    t->block = block;
+    t->offset = offset;
+    t->bytes = bytes;
+    t->bytes_length = length;
+    return t;
+}
+
+/* ---- a trace, carried out by the header's constants */
+
+struct kinds {
+    uint64_t stores, clwbs, sfences;
+};
+
+/* Carries out operations on an image and counts their kinds. Whether each is
+   well formed. */
+static int carry_out(uint8_t *image, size_t length, const uint64_t *trace, uint64_t ops,
+                     struct kinds *found)
+{
+    uint64_t n, i;
+    for (n = 0; n < ops; n++) {
+        uint64_t kind = trace[CRPM_OP_NUMBERS * n], place = trace[CRPM_OP_NUMBERS * n + 1],
+                 word = trace[CRPM_OP_NUMBERS * n + 2];
+        if (kind == CRPM_OP_STORE && place % CRPM_WORD_SIZE == 0 && place < length) {
+            for (i = 0; i < CRPM_WORD_SIZE; i++)
+                image[place + i] = (uint8_t)(word >> 8 * i);
+            found->stores++;
+        } else if (kind == CRPM_OP_CLWB && place % CRPM_LINE_SIZE == 0 && place < length && word == 0) {
+            found->clwbs++;
+        } else if (kind == CRPM_OP_SFENCE && place == 0 && word == 0) {
+            found->sfences++;
+        } else {
+            return 0;
+        }
+    }
+    return 1;
+}
+
+/* Carries out the operations of the last call, here and by crpm_replay: so many
+   of each kind, and the same image. */
+static void play(struct bench *t, uint64_t stores, uint64_t clwbs, uint64_t sfences)
+{
+    struct kinds found = {0, 0, 0};
+    uint64_t played = UNWRITTEN;
+    memcpy(t->copy, t->image, t->image_room);
+    CHECK(t->ops == stores + clwbs + sfences);
+    CHECK(carry_out(t->copy, t->image_length, t->trace, t->ops, &found));
+    CHECK(found.stores == stores);
+    CHECK(found.clwbs == clwbs);
+    CHECK(found.sfences == sfences);
+    SERVED(crpm_replay(t->image, t->image_length, t->trace, CRPM_OP_NUMBERS * (size_t)t->ops, t->ops,
+                       &played));
+    CHECK(played == t->ops);
+    CHECK(memcmp(t->image, t->copy, t->image_room) == 0);
+}
+
+/* ---- what stands in an image, by the header's places */
+
+static uint8_t state_of(const struct bench *t, size_t main)
+{
+    uint64_t odd = word_at(t->image, CRPM_EPOCH_AT) % 2;
+    return t->image[CRPM_STATES_AT + CRPM_LINE_SIZE * odd + main];
+}
+
+static uint8_t main_of(const struct bench *t, size_t backup)
+{
+    return t->image[CRPM_PAIRS_AT + backup];
+}
+
+/* The reads find a block at these places; no checkpoint has it where the second
+   is 0. */
+static void reads_at(const struct bench *t, uint64_t main, uint64_t block, uint64_t working,
+                     uint64_t saved)
+{
+    uint64_t start_of = UNWRITTEN, size = UNWRITTEN;
+    SERVED(crpm_read_working(t->image, t->image_length, t->mains, t->backups, t->blocks, main, block,
+                             &start_of, &size));
+    CHECK(start_of == working && size == 256 && size == CRPM_BLOCK_SIZE);
+    start_of = size = UNWRITTEN;
+    SERVED(crpm_read_checkpoint(t->image, t->image_length, t->mains, t->backups, t->blocks, main, block,
+                                &start_of, &size));
+    CHECK(start_of == saved && size == (saved == 0 ? 0 : 256));
+}
+
+/* Whether the checkpoint of a bench is that of an image. */
+static int same(const struct bench *t, const uint8_t *image)
+{
+    uint64_t yes = UNWRITTEN;
+    SERVED(crpm_same_checkpoint(t->image, t->image_length, image, t->image_length,
+                                t->mains, t->backups, t->blocks, &yes));
+    CHECK(yes <= 1);
+    return yes == 1;
+}
+
+/* The session, word for word: its struct is these 68 words in this order. */
+static void session_is(const struct bench *t, uint64_t dirty_segments, uint64_t first, uint64_t second)
+{
+    uint64_t words[68], want[68] = {0};
+    want[0] = t->mains;
+    want[1] = t->backups;
+    want[2] = t->blocks;
+    want[3] = dirty_segments;
+    want[4] = first;
+    want[5] = second;
+    CHECK(sizeof t->session == sizeof words);
+    memcpy(words, &t->session, sizeof words);
+    CHECK(memcmp(words, want, sizeof words) == 0);
+    CHECK(t->session.mains == t->mains && t->session.backups == t->backups);
+    CHECK(t->session.blocks == t->blocks);
+    CHECK(t->session.dirty_segments == dirty_segments);
+    CHECK(t->session.dirty_blocks[0] == first && t->session.dirty_blocks[1] == second);
+    CHECK(t->session.dirty_blocks[CRPM_MOST - 1] == 0);
+}
+
+/* ---- the worked examples: two main segments, one backup segment, one block in
+   each. `want` is the image by the specification, kept up step by step. */
+
+static const uint8_t ONE[8] = {1, 2, 3, 4, 5, 6, 7, 8}, TWO[8] = {9, 9, 9, 9, 9, 9, 9, 9};
+static const uint8_t FOUR_BYTES[4] = {0xa1, 0xb2, 0xc3, 0xd4};
+
+static void worked_examples(void)
+{
+    static uint8_t want[1280], first_checkpoint[1280];
+    struct bench t;
+    start(&t, 2, 1, 1);
+    CHECK(t.image_length == 1280);
+    put_word(want, 64, 2);
+    put_word(want, 72, 1);
+    put_word(want, 80, 1);
+    memset(want + 256, 255, 64);
+    CHECK(memcmp(t.image, want, 1280) == 0);
+    CHECK(main_of(&t, 0) == CRPM_UNPAIRED && main_of(&t, CRPM_MOST - 1) == CRPM_UNPAIRED);
+
+    /* a fresh opening fills both main segments with zeros */
+    SERVED(open_image(&t));
+    CHECK(t.ops == 73);
+    STEP(play(&t, 64, 8, 1));
+    CHECK(memcmp(t.image, want, 1280) == 0);
+    STEP(session_is(&t, 0, 0, 0));
+    STEP(reads_at(&t, 0, 0, 512, 0));
+
+    /* four bytes over two words of main segment 0 */
+    SERVED(write_bytes(at(&t, 0, 0, 6, FOUR_BYTES, 4)));
+    CHECK(t.trace[0] == CRPM_OP_STORE && t.trace[1] == 512 && t.trace[2] == 0xb2a1000000000000);
+    CHECK(t.trace[3] == CRPM_OP_STORE && t.trace[4] == 520 && t.trace[5] == 0xd4c3);
+    STEP(play(&t, 2, 0, 0));
+    memcpy(want + 518, FOUR_BYTES, 4);
+    CHECK(memcmp(t.image, want, 1280) == 0);
+    STEP(session_is(&t, 1, 1, 0));
+
+    /* the checkpoint: states for odd epochs at 192, epoch 1 */
+    SERVED(checkpoint(&t));
+    CHECK(t.ops == 18);
+    STEP(play(&t, 9, 6, 3));
+    want[192] = 1;
+    put_word(want, 0, 1);
+    CHECK(memcmp(t.image, want, 1280) == 0);
+    CHECK(state_of(&t, 0) == CRPM_SS_MAIN && state_of(&t, 1) == CRPM_SS_INITIAL);
+    CHECK(word_at(t.image, CRPM_EPOCH_AT) == 1);
+    STEP(session_is(&t, 0, 1, 0));
+    STEP(reads_at(&t, 0, 0, 512, 512));
+    memcpy(first_checkpoint, t.image, 1280);
+
+    /* the next write to it pairs and fills the backup segment first */
+    SERVED(write_bytes(at(&t, 0, 0, 8, ONE, 8)));
+    CHECK(t.ops == 43);
+    CHECK(t.trace[0] == CRPM_OP_STORE && t.trace[1] == 256 && t.trace[2] == 0xffffffffffffff00);
+    STEP(play(&t, 35, 6, 2));
+    memcpy(want + 1024, want + 512, 256);
+    want[256] = 0;
+    want[192] = 2;
+    memcpy(want + 520, ONE, 8);
+    CHECK(memcmp(t.image, want, 1280) == 0);
+    CHECK(state_of(&t, 0) == CRPM_SS_BACKUP && main_of(&t, 0) == 0);
+    STEP(session_is(&t, 1, 1, 0));
+    STEP(reads_at(&t, 0, 0, 512, 1024));
+    CHECK(same(&t, first_checkpoint));
+
+    /* later writes are a store each */
+    SERVED(write_bytes(at(&t, 0, 0, 16, TWO, 8)));
+    STEP(play(&t, 1, 0, 0));
+    SERVED(write_bytes(at(&t, 1, 0, 0, ONE, 8)));
+    STEP(play(&t, 1, 0, 0));
+    memcpy(want + 528, TWO, 8);
+    memcpy(want + 768, ONE, 8);
+    CHECK(memcmp(t.image, want, 1280) == 0);
+    STEP(session_is(&t, 3, 1, 1));
+    STEP(reads_at(&t, 1, 0, 768, 0));
+
+    /* the second checkpoint: states for even epochs at 128, epoch 2 */
+    SERVED(checkpoint(&t));
+    CHECK(t.ops == 22);
+    STEP(play(&t, 9, 10, 3));
+    want[128] = want[129] = 1;
+    put_word(want, 0, 2);
+    CHECK(memcmp(t.image, want, 1280) == 0);
+    CHECK(state_of(&t, 0) == CRPM_SS_MAIN && state_of(&t, 1) == CRPM_SS_MAIN);
+    CHECK(!same(&t, first_checkpoint));
+
+    /* main segment 1 takes the only backup segment; none is left for main segment 0 */
+    SERVED(write_bytes(at(&t, 1, 0, 0, TWO, 8)));
+    STEP(play(&t, 35, 6, 2));
+    memcpy(want + 1024, want + 768, 256);
+    want[256] = 1;
+    want[129] = 2;
+    memcpy(want + 768, TWO, 8);
+    CHECK(memcmp(t.image, want, 1280) == 0);
+    CHECK(state_of(&t, 1) == CRPM_SS_BACKUP && main_of(&t, 0) == 1);
+    STEP(reads_at(&t, 1, 0, 768, 1024));
+    RETURNS(write_bytes(at(&t, 0, 0, 0, ONE, 8)), CRPM_NO_FREE_BACKUP, 9);
+    SERVED(write_bytes(at(&t, 1, 0, 255, ONE, 1)));
+    RETURNS(write_bytes(at(&t, 1, 0, 256, ONE, 1)), CRPM_BAD_SPAN, 8);
+    RETURNS(write_bytes(at(&t, 1, 0, 255, ONE, 2)), CRPM_BAD_SPAN, 8);
+    RETURNS(write_bytes(at(&t, 1, 0, 0, ONE, 0)), CRPM_BAD_SPAN, 8);
+    RETURNS(write_bytes(at(&t, 1, 0, UINT64_MAX, ONE, 1)), CRPM_BAD_SPAN, 8);
+
+    /* opening again: main segment 1 has its checkpoint's bytes back */
+    SERVED(open_image(&t));
+    STEP(play(&t, 32, 4, 1));
+    memcpy(want + 768, want + 1024, 256);
+    CHECK(memcmp(t.image, want, 1280) == 0);
+    STEP(session_is(&t, 0, 0, 0));
+    finish(&t);
+}
+
+/* One main segment of four blocks, paired: a write copies only its dirty block. */
+static void dirty_block_example(void)
+{
+    struct bench t;
+    start(&t, 1, 1, 4);
+    SERVED(open_image(&t));
+    STEP(play(&t, 128, 16, 1));
+    SERVED(write_bytes(at(&t, 0, 2, 0, ONE, 8)));
+    STEP(play(&t, 1, 0, 0));
+    STEP(session_is(&t, 1, 4, 0));
+    SERVED(checkpoint(&t));
+    STEP(play(&t, 9, 6, 3));
+    SERVED(write_bytes(at(&t, 0, 3, 0, ONE, 8)));
+    STEP(play(&t, 131, 18, 2));
+    STEP(session_is(&t, 1, 8, 0));
+    SERVED(checkpoint(&t));
+    STEP(play(&t, 9, 6, 3));
+    SERVED(write_bytes(at(&t, 0, 0, 0, TWO, 8)));
+    CHECK(t.ops == 41);
+    STEP(play(&t, 34, 5, 2));
+    STEP(session_is(&t, 1, 1, 0));
+    finish(&t);
+}
+
+/* ---- places, at sizes that all differ: 3 main segments, 2 backup segments, 4 blocks */
+
+static uint8_t shade(uint64_t main, uint64_t block)
+{
+    return (uint8_t)(16 * main + block + 1);
+}
+
+/* Fills every block with its shade, and makes a checkpoint of it. */
+static void fill_every_block(struct bench *t)
+{
+    uint8_t bytes[256];
+    uint64_t i, b, n = t->mains * t->blocks;
+    for (i = 0; i < t->mains; i++)
+        for (b = 0; b < t->blocks; b++) {
+            memset(bytes, shade(i, b), 256);
+            SERVED(write_bytes(at(t, i, b, 0, bytes, 256)));
+            STEP(play(t, 32, 0, 0));
+        }
+    SERVED(checkpoint(t));
+    STEP(play(t, 9, 4 * n + 2, 3));
+}
+
+static void places(void)
+{
+    struct bench t;
+    uint64_t i, b;
+    size_t j, k;
+    start(&t, 3, 2, 4);
+    CHECK(t.image_length == 5632);
+    CHECK(word_at(t.image, CRPM_MAINS_AT) == 3);
+    CHECK(word_at(t.image, CRPM_BACKUPS_AT) == 2);
+    CHECK(word_at(t.image, CRPM_BLOCKS_AT) == 4);
+    SERVED(open_image(&t));
+    STEP(play(&t, 384, 48, 1));
+    fill_every_block(&t);
+    for (i = 0; i < 3; i++)
+        for (b = 0; b < 4; b++) {
+            k = 512 + 1024 * i + 256 * b;
+            CHECK(CRPM_MAIN_AT(4, i) + CRPM_BLOCK_SIZE * b == k);
+            CHECK(all(t.image + k, 256, shade(i, b)));
+            STEP(reads_at(&t, i, b, k, k));
+        }
+
+    /* main segments 2 and 0 take the two backup segments, whichever each takes */
+    SERVED(write_bytes(at(&t, 2, 1, 0, TWO, 8)));
+    STEP(play(&t, 131, 18, 2));
+    SERVED(write_bytes(at(&t, 0, 3, 0, TWO, 8)));
+    STEP(play(&t, 131, 18, 2));
+    CHECK(main_of(&t, 0) + main_of(&t, 1) == 2 && main_of(&t, 0) != 1);
+    for (j = 0; j < 2; j++)
+        for (b = 0; b < 4; b++) {
+            k = 3584 + 1024 * j + 256 * b;
+            i = main_of(&t, j);
+            CHECK(CRPM_BACKUP_AT(3, 4, j) + CRPM_BLOCK_SIZE * b == k);
+            CHECK(all(t.image + k, 256, shade(i, b)));
+            STEP(reads_at(&t, i, b, 512 + 1024 * i + 256 * b, k));
+        }
+    CHECK(state_of(&t, 0) == CRPM_SS_BACKUP && state_of(&t, 2) == CRPM_SS_BACKUP);
+    CHECK(state_of(&t, 1) == CRPM_SS_MAIN);
+    RETURNS(write_bytes(at(&t, 1, 0, 0, ONE, 8)), CRPM_NO_FREE_BACKUP, 9);
+    finish(&t);
+}
+
+/* The fields of a session: places and sizes, in bytes. */
+#define FIELD(name, place, size) \
+    CHECK(offsetof(struct crpm_session, name) == (place)); \
+    CHECK(sizeof(((struct crpm_session *)0)->name) == (size))
+
+static void session_fields(void)
+{
+    FIELD(mains, 0, 8);
+    FIELD(backups, 8, 8);
+    FIELD(blocks, 16, 8);
+    FIELD(dirty_segments, 24, 8);
+    FIELD(dirty_blocks, 32, 512);
+    CHECK(sizeof(struct crpm_session) == 544);
+}
+
+/* ---- lengths of a trace: with so many numbers a call is served, and uses them
+   all; with one less it is refused */
+
+static void needs(struct bench *t, bench_call *call, size_t length, size_t numbers)
+{
+    struct crpm_session as_it_came = t->session;
+    size_t whole = t->trace_length;
+    CHECK(length == numbers);
+    t->trace_length = length - 1;
+    RETURNS(call(t), CRPM_TRACE_SHORT, 11);
+    t->session = as_it_came;
+    t->trace_length = length;
+    SERVED(call(t));
+    CHECK(CRPM_OP_NUMBERS * t->ops == numbers);
+    t->session = as_it_came;
+    t->trace_length = whole;
+}
+
+/* Numbers that an opening, a write and a checkpoint need at most. */
+struct lengths {
+    uint64_t mains, backups, blocks;
+    size_t image, opening, write, checkpoint;
+};
+
+static const struct lengths LENGTHS[] = {
+    {1, 1, 1, 1024, 111, 222, 54},
+    {2, 1, 1, 1280, 219, 222, 66},
+    {1, 1, 4, 2560, 435, 546, 90},
+    {2, 2, 2, 2560, 435, 330, 90},
+    {3, 2, 5, 6912, 1623, 654, 222},
+    {64, 1, 1, 17152, 6915, 222, 810},
+    {CRPM_MOST, CRPM_MOST, CRPM_MOST, 2097664, 442371, 7026, 49194},
+};
+
+static void trace_lengths_of(const struct lengths *of)
+{
+    static const uint8_t block_bytes[256] = {7};
+    struct bench t;
+    uint64_t i, b, played;
+    start(&t, of->mains, of->backups, of->blocks);
+    CHECK(t.image_length == of->image);
+
+    /* the fresh opening treats every main segment */
+    STEP(needs(&t, open_image, CRPM_OPEN_TRACE(of->mains, of->blocks), of->opening));
+    if (of->opening > of->write)
+        STEP(needs(&t, open_image, CRPM_TRACE(of->mains, of->blocks), of->opening));
+    SERVED(open_image(&t));
+
+    /* a checkpoint of which every block is dirty */
+    for (i = 0; i < of->mains; i++)
+        for (b = 0; b < of->blocks; b++) {
+            SERVED(crpm_write(t.image, t.image_length, &t.session, i, b, 0, ONE, 1, t.trace, 3,
+                              &t.ops));
+            SERVED(crpm_replay(t.image, t.image_length, t.trace, 3, 1, &played));
+        }
+    CHECK(t.session.dirty_segments == UINT64_MAX >> (64 - of->mains));
+    CHECK(t.session.dirty_blocks[of->mains - 1] == UINT64_MAX >> (64 - of->blocks));
+    STEP(needs(&t, checkpoint, CRPM_CHECKPOINT_TRACE(of->mains, of->blocks), of->checkpoint));
+    SERVED(checkpoint(&t));
+    STEP(play(&t, 9, 4 * of->mains * of->blocks + 2, 3));
+
+    /* a whole block written to a main segment that has to be copied first */
+    at(&t, of->mains - 1, of->blocks - 1, 0, block_bytes, 256);
+    STEP(needs(&t, write_bytes, CRPM_WRITE_TRACE(of->blocks), of->write));
+    if (of->write > of->opening)
+        STEP(needs(&t, write_bytes, CRPM_TRACE(of->mains, of->blocks), of->write));
+    finish(&t);
+}
+
+static void trace_lengths(void)
+{
+    static uint64_t of_constants[CRPM_TRACE(2, 1)];
+    uint64_t m, b, wrong = 0;
+    size_t i;
+    for (i = 0; i < sizeof LENGTHS / sizeof LENGTHS[0]; i++)
+        trace_lengths_of(&LENGTHS[i]);
+    for (m = 1; m <= 64; m++)
+        for (b = 1; b <= 64; b++) {
+            uint64_t opening = 108 * b * m + 3, write = 108 * b + 114;
+            if (CRPM_TRACE(m, b) != (opening > write ? opening : write))
+                wrong++;
+        }
+    CHECK(wrong == 0);
+    CHECK(sizeof of_constants == 222 * 8);
+
+    /* arguments may be any expressions; here 3 and 5 */
+    CHECK(CRPM_IMAGE_SIZE(1 | 2, 1 | 4, 1 | 4) == 10752);
+    CHECK(CRPM_MAIN_AT(1 | 4, 1 | 2) == 4352);
+    CHECK(CRPM_BACKUP_AT(1 | 2, 1 | 4, 1 | 4) == 10752);
+    CHECK(CRPM_OPEN_TRACE(1 | 2, 1 | 4) == 1623 && CRPM_TRACE(1 | 2, 1 | 4) == 1623);
+    CHECK(CRPM_WRITE_TRACE(1 | 4) == 654 && CRPM_TRACE(0 | 1, 1 | 4) == 654);
+    CHECK(CRPM_CHECKPOINT_TRACE(1 | 2, 1 | 4) == 222);
+}
+
+/* ---- refusals, by name and number. The calls come through the functions above
+   and below, which see that a refusal changes nothing. */
+
+/* An image, changed at a byte for one call and then as it was. */
+#define CHANGED(t, place, value, call) \
+    do { \
+        uint8_t kept_byte = (t)->image[place]; \
+        (t)->image[place] = (uint8_t)(value); \
+        call; \
+        (t)->image[place] = kept_byte; \
+    } while (0)
+
+/* 1 */
+static void refused_sizes(bench_call *call, const struct bench *t)
+{
+    static const uint64_t BAD[] = {0, CRPM_MOST + 1, UINT64_MAX};
+    size_t i;
+    for (i = 0; i < 3; i++) {
+        struct bench wrong = *t;
+        wrong.mains = BAD[i];
+        RETURNS(call(&wrong), CRPM_BAD_SIZE, 1);
+        wrong = *t;
+        wrong.backups = BAD[i];
+        RETURNS(call(&wrong), CRPM_BAD_SIZE, 1);
+        wrong = *t;
+        wrong.blocks = BAD[i];
+        RETURNS(call(&wrong), CRPM_BAD_SIZE, 1);
+    }
+}
+
+/* 2 */
+static void refused_lengths(bench_call *call, const struct bench *t)
+{
+    struct bench wrong = *t;
+    wrong.image_length = t->image_length - 1;
+    RETURNS(call(&wrong), CRPM_BAD_LENGTH, 2);
+    wrong.image_length = t->image_length + 1;
+    RETURNS(call(&wrong), CRPM_BAD_LENGTH, 2);
+    wrong.image_length = 0;
+    RETURNS(call(&wrong), CRPM_BAD_LENGTH, 2);
+}
+
+/* 3 and 4: of three main segments and two backup segments, the first has state 2
+   and is paired with the first. */
+static void refused_images(bench_call *call, struct bench *t)
+{
+    size_t states = CRPM_STATES_AT + CRPM_LINE_SIZE * (word_at(t->image, CRPM_EPOCH_AT) % 2);
+    CHECK(state_of(t, 0) == CRPM_SS_BACKUP && main_of(t, 0) == 0 && main_of(t, 1) == CRPM_UNPAIRED);
+    CHANGED(t, CRPM_MAINS_AT, 2, RETURNS(call(t), CRPM_FOREIGN, 3));
+    CHANGED(t, CRPM_BACKUPS_AT, 3, RETURNS(call(t), CRPM_FOREIGN, 3));
+    CHANGED(t, CRPM_BLOCKS_AT + CRPM_WORD_SIZE - 1, 1, RETURNS(call(t), CRPM_FOREIGN, 3));
+    CHANGED(t, states + 1, CRPM_SS_BACKUP + 1, RETURNS(call(t), CRPM_INVALID, 4));
+    CHANGED(t, states + 3, CRPM_SS_MAIN, RETURNS(call(t), CRPM_INVALID, 4));
+    CHANGED(t, states + CRPM_MOST - 1, CRPM_SS_MAIN, RETURNS(call(t), CRPM_INVALID, 4));
+    CHANGED(t, states + 1, CRPM_SS_BACKUP, RETURNS(call(t), CRPM_INVALID, 4));
+    CHANGED(t, states, CRPM_SS_INITIAL, RETURNS(call(t), CRPM_INVALID, 4));
+    CHANGED(t, CRPM_PAIRS_AT + 1, 3, RETURNS(call(t), CRPM_INVALID, 4));
+    CHANGED(t, CRPM_PAIRS_AT + 1, 0, RETURNS(call(t), CRPM_INVALID, 4));
+    CHANGED(t, CRPM_PAIRS_AT + 2, 1, RETURNS(call(t), CRPM_INVALID, 4));
+    CHANGED(t, CRPM_PAIRS_AT + CRPM_MOST - 1, 1, RETURNS(call(t), CRPM_INVALID, 4));
+}
+
+/* 1 to 4 */
+static void refused_layouts(bench_call *call, struct bench *t)
+{
+    refused_sizes(call, t);
+    refused_lengths(call, t);
+    refused_images(call, t);
+}
+
+static uint64_t format_image(struct bench *t)
+{
+    uint64_t status;
+    memcpy(t->copy, t->image, t->image_room);
+    status = crpm_format(t->image, t->image_length, t->mains, t->backups, t->blocks);
+    if (status != CRPM_SERVED)
+        CHECK(memcmp(t->copy, t->image, t->image_room) == 0);
+    return status;
+}
+
+/* A read of the bench's block: one of the two calls, and what holds of both. */
+typedef uint64_t read_call(const uint8_t *, size_t, uint64_t, uint64_t, uint64_t, uint64_t, uint64_t,
+                           uint64_t *, uint64_t *);
+
+static uint64_t read_by(read_call *call, struct bench *t)
+{
+    uint64_t status, start_of = UNWRITTEN, size = UNWRITTEN;
+    memcpy(t->copy, t->image, t->image_room);
+    status = call(t->image, t->image_length, t->mains, t->backups, t->blocks, t->main, t->block,
+                  &start_of, &size);
+    CHECK(memcmp(t->copy, t->image, t->image_room) == 0);
+    CHECK(status == CRPM_SERVED ? size == 256 : start_of == 0 && size == 0);
+    return status;
+}
+
+static uint64_t read_working(struct bench *t)
+{
+    return read_by(crpm_read_working, t);
+}
+
+static uint64_t read_checkpoint(struct bench *t)
+{
+    return read_by(crpm_read_checkpoint, t);
+}
+
+/* The comparison with an image that is as it should be, on either side. */
+static const uint8_t *other_image;
+static size_t other_length;
+
+static uint64_t same_first(struct bench *t)
+{
+    uint64_t yes = UNWRITTEN;
+    uint64_t status = crpm_same_checkpoint(t->image, t->image_length, other_image, other_length,
+                                           t->mains, t->backups, t->blocks, &yes);
+    CHECK(yes == (status == CRPM_SERVED ? 1 : 0));
+    return status;
+}
+
+static uint64_t same_second(struct bench *t)
+{
+    uint64_t yes = UNWRITTEN;
+    uint64_t status = crpm_same_checkpoint(other_image, other_length, t->image, t->image_length,
+                                           t->mains, t->backups, t->blocks, &yes);
+    CHECK(yes == (status == CRPM_SERVED ? 1 : 0));
+    return status;
+}
+
+/* Write and checkpoint have their sizes in the session. */
+static void take_sizes(struct bench *t)
+{
+    t->session.mains = t->mains;
+    t->session.backups = t->backups;
+    t->session.blocks = t->blocks;
+}
+
+static uint64_t write_with_sizes(struct bench *t)
+{
+    take_sizes(t);
+    return write_bytes(t);
+}
+
+static uint64_t checkpoint_with_sizes(struct bench *t)
+{
+    take_sizes(t);
+    return checkpoint(t);
+}
+
+/* 5 */
+static void refused_sessions(bench_call *call, const struct bench *t)
+{
+    struct bench wrong = *t;
+    CHECK(state_of(t, 1) == CRPM_SS_MAIN);
+    wrong.session.dirty_segments = 2; /* main segment 1, whose state is 1 */
+    RETURNS(call(&wrong), CRPM_BAD_SESSION, 5);
+    wrong.session.dirty_segments = 8; /* there are three */
+    RETURNS(call(&wrong), CRPM_BAD_SESSION, 5);
+    wrong = *t;
+    wrong.session.dirty_blocks[1] = 4; /* there are two blocks */
+    RETURNS(call(&wrong), CRPM_BAD_SESSION, 5);
+    wrong = *t;
+    wrong.session.dirty_blocks[3] = 1;
+    RETURNS(call(&wrong), CRPM_BAD_SESSION, 5);
+    wrong = *t;
+    wrong.session.dirty_blocks[CRPM_MOST - 1] = 1;
+    RETURNS(call(&wrong), CRPM_BAD_SESSION, 5);
+}
+
+/* 6 and 7, before 8 */
+static void refused_blocks(bench_call *call, struct bench *t)
+{
+    RETURNS(call(at(t, 3, 2, 0, ONE, 1)), CRPM_NO_SUCH_MAIN, 6);
+    RETURNS(call(at(t, UINT64_MAX, 0, 0, ONE, 1)), CRPM_NO_SUCH_MAIN, 6);
+    RETURNS(call(at(t, 2, 2, 0, ONE, 0)), CRPM_NO_SUCH_BLOCK, 7);
+    RETURNS(call(at(t, 2, UINT64_MAX, 0, ONE, 0)), CRPM_NO_SUCH_BLOCK, 7);
+    SERVED(call(at(t, 0, 1, 0, ONE, 1)));
+}
+
+/* A bench of three main segments, two backup segments and two blocks, in which
+   every segment has a checkpoint and main segment 0 was written to since. */
+static void start_written(struct bench *t)
+{
+    start(t, 3, 2, 2);
+    SERVED(open_image(t));
+    STEP(play(t, 192, 24, 1));
+    fill_every_block(t);
+    SERVED(write_bytes(at(t, 0, 0, 0, ONE, 8)));
+    STEP(play(t, 67, 10, 2));
+    if (main_of(t, 1) == 0) { /* it may take either backup segment; here it is to have the first */
+        t->image[CRPM_PAIRS_AT] = 0;
+        t->image[CRPM_PAIRS_AT + 1] = CRPM_UNPAIRED;
+        memcpy(t->image + CRPM_BACKUP_AT(3, 2, 0), t->image + CRPM_BACKUP_AT(3, 2, 1), 512);
+    }
+}
+
+static void refusals(void)
+{
+    struct bench t, none, opened;
+    uint8_t *other;
+    start_written(&t);
+
+    STEP(refused_sizes(format_image, &t));
+    STEP(refused_lengths(format_image, &t));
+    opened = t; /* a refused opening leaves a session of zeros */
+    STEP(refused_layouts(open_image, &opened));
+    STEP(refused_layouts(write_with_sizes, &t));
+    STEP(refused_layouts(checkpoint_with_sizes, &t));
+    STEP(refused_layouts(read_working, &t));
+    STEP(refused_layouts(read_checkpoint, &t));
+
+    /* either image of a comparison; the first wholly before the second */
+    other = (uint8_t *)allocated(t.image_length);
+    memcpy(other, t.image, t.image_length);
+    other_image = other;
+    other_length = t.image_length;
+    STEP(refused_layouts(same_first, &t));
+    STEP(refused_layouts(same_second, &t));
+    SERVED(same_first(&t));
+    other_length = 0;
+    CHANGED(&t, CRPM_PAIRS_AT, 3, RETURNS(same_first(&t), CRPM_INVALID, 4));
+    free(other);
+
+    STEP(refused_sessions(write_bytes, &t));
+    STEP(refused_sessions(checkpoint, &t));
+    STEP(refused_blocks(read_working, &t));
+    STEP(refused_blocks(read_checkpoint, &t));
+    none = t;
+    STEP(refused_blocks(write_bytes, &none));
+
+    /* 8 before 9 before 11: the second backup segment goes to main segment 1, none is left for 2 */
+    SERVED(write_bytes(at(&t, 1, 0, 0, ONE, 8)));
+    STEP(play(&t, 67, 10, 2));
+    none = t;
+    none.trace_length = 0;
+    RETURNS(write_bytes(at(&none, 2, 0, 255, ONE, 2)), CRPM_BAD_SPAN, 8);
+    RETURNS(write_bytes(at(&none, 2, 0, 255, ONE, 1)), CRPM_NO_FREE_BACKUP, 9);
+    RETURNS(write_bytes(at(&none, 1, 0, 255, ONE, 1)), CRPM_TRACE_SHORT, 11);
+    RETURNS(checkpoint(&none), CRPM_TRACE_SHORT, 11);
+    RETURNS(open_image(&none), CRPM_TRACE_SHORT, 11);
+    finish(&t);
+}
+
+/* 10: a checkpoint at epoch 2^64 - 1, which only checkpoint refuses, and before 11. */
+static void epoch_limit(void)
+{
+    struct bench t, none;
+    start(&t, 2, 1, 1);
+    put_word(t.image, 0, UINT64_MAX - 1);
+    SERVED(open_image(&t));
+    STEP(play(&t, 64, 8, 1));
+    SERVED(write_bytes(at(&t, 0, 0, 0, ONE, 8)));
+    STEP(play(&t, 1, 0, 0));
+    SERVED(checkpoint(&t));
+    STEP(play(&t, 9, 6, 3));
+    CHECK(word_at(t.image, CRPM_EPOCH_AT) == UINT64_MAX);
+    CHECK(state_of(&t, 0) == CRPM_SS_MAIN);
+    RETURNS(checkpoint(&t), CRPM_EPOCH_LIMIT, 10);
+    none = t;
+    none.trace_length = 0;
+    RETURNS(checkpoint(&none), CRPM_EPOCH_LIMIT, 10);
+    SERVED(write_bytes(at(&t, 0, 0, 0, TWO, 8)));
+    SERVED(open_image(&t));
+    finish(&t);
+}
+
+/* ---- replay: 2 and 12, and how many operations are played */
+
+static uint64_t replay(uint8_t *image, size_t length, const uint64_t *trace, size_t numbers, uint64_t n,
+                       uint64_t *played)
+{
+    uint8_t before[128];
+    uint64_t status;
+    memcpy(before, image, 128);
+    *played = UNWRITTEN;
+    status = crpm_replay(image, length, trace, numbers, n, played);
+    if (status != CRPM_SERVED)
+        CHECK(*played == 0 && memcmp(before, image, 128) == 0);
+    return status;
+}
+
+static void replays(void)
+{
+    /* ill formed, each in its own way; images of 128 bytes */
+    static const uint64_t BAD[][3] = {
+        {0, 0, 0}, {CRPM_OP_SFENCE + 1, 0, 0}, {UINT64_MAX, 0, 0},
+        {CRPM_OP_STORE, 4, 0}, {CRPM_OP_STORE, 128, 0}, {CRPM_OP_STORE, UINT64_MAX - 7, 0},
+        {CRPM_OP_CLWB, 8, 0}, {CRPM_OP_CLWB, 128, 0}, {CRPM_OP_CLWB, 64, 1},
+        {CRPM_OP_SFENCE, 64, 0}, {CRPM_OP_SFENCE, 0, 1},
+    };
+    uint64_t trace[] = {
+        CRPM_OP_STORE, 0, 0x1122334455667788, CRPM_OP_CLWB, 64, 0, CRPM_OP_STORE, 120, UINT64_MAX,
+        CRPM_OP_SFENCE, 0, 0, 0, 0, 0,
+    };
+    uint8_t image[129] = {0};
+    uint64_t played;
+    size_t i;
+    CHECK(sizeof trace == 5 * CRPM_OP_NUMBERS * 8);
+
+    SERVED(replay(image, 128, trace, 15, 0, &played));
+    CHECK(played == 0 && all(image, 129, 0));
+    SERVED(replay(image, 128, trace, 15, 2, &played));
+    CHECK(played == 2 && image[0] == 0x88 && image[7] == 0x11 && all(image + 8, 121, 0));
+    SERVED(replay(image, 128, trace, 15, 4, &played)); /* the fifth, ill formed, is not to be played */
+    CHECK(played == 4 && all(image + 120, 8, 255) && image[128] == 0);
+    SERVED(replay(image, 128, trace, 12, UINT64_MAX, &played));
+    CHECK(played == 4);
+    SERVED(replay(image, 128, trace, 0, 1, &played));
+    CHECK(played == 0);
+    SERVED(replay(image, 0, trace, 0, 1, &played));
+
+    RETURNS(replay(image, 127, trace, 14, 4, &played), CRPM_BAD_LENGTH, 2);
+    RETURNS(replay(image, 129, trace, 12, 4, &played), CRPM_BAD_LENGTH, 2);
+    RETURNS(replay(image, 128, trace, 14, 0, &played), CRPM_TRACE_BAD, 12);
+    RETURNS(replay(image, 128, trace, 13, 0, &played), CRPM_TRACE_BAD, 12);
+    RETURNS(replay(image, 128, trace, 15, 5, &played), CRPM_TRACE_BAD, 12);
+    RETURNS(replay(image, 64, trace, 12, 4, &played), CRPM_TRACE_BAD, 12);
+    for (i = 0; i < sizeof BAD / sizeof BAD[0]; i++) {
+        memcpy(trace + 12, BAD[i], sizeof BAD[i]);
+        memset(image, 0, sizeof image);
+        RETURNS(replay(image, 128, trace, 15, 5, &played), CRPM_TRACE_BAD, 12);
+        SERVED(replay(image, 128, trace, 15, 4, &played));
+    }
+}
+
+/* ---- all of it */
+
+int main(int count, char **arguments)
+{
+    if (count != 2) {
+        fprintf(stderr, "usage: header VERSION\n");
+        return 2;
+    }
+    CHECK(strcmp(CRPM_VERSION, arguments[1]) == 0);
+    session_fields();
+    worked_examples();
+    dirty_block_example();
+    places();
+    trace_lengths();
+    refusals();
+    epoch_limit();
+    replays();
+    printf("header: %lu checks, %lu failed\n", checks, failures);
+    return failures == 0 ? EXIT_SUCCESS : EXIT_FAILURE;
+}
