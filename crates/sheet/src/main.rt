@@ -1,6 +1,6 @@
-// The bench sheet program (document 01: "The bench sheet"): it reads a sheet from standard input, runs it, and writes what it
-// prints to standard output. If a read fails, it runs and writes nothing. If a write fails, what is not yet written is lost: a
-// program has no exit status that could tell.
+// The bench sheet program (docs/SPECIFICATION.md, section 16): it reads a sheet from standard input, runs it, and writes what it
+// prints to standard output. If a read fails, it runs and writes nothing. If a write fails, what is not yet written is lost. A
+// program here has no exit status that could tell: ./sheet reads and writes the streams for it, and tells.
 ghost use Rattle.io.specs.Counts.{Counts};
 
 // One byte more than a sheet may have, so that a longer one is seen.
