@@ -1,46 +1,52 @@
-//! The explorer over the reference alone; needs no library.
+//! The explorer over the reference alone; calls no library.
 //!
-//! Checked against document 01: the bench cases, the cut model, demand 3 over
-//! every permitted image of single calls and short histories and over random
-//! histories, for another choice of free spares too; each of the four faults
-//! must be caught; the corner sheets print what document 01 says. One line a
-//! group; exit status 1 on any failure.
+//! Checked against the specification: the bench cases, the cut model, demand 3
+//! over every permitted image of single calls and short histories and over
+//! random histories, for another choice of free spares too; each of the four
+//! faults must be caught; the corner sheets print as they should.
 
 use crpm_tests::calls::Sizes;
 use crpm_tests::compared::Compared;
-use crpm_tests::explore::{Images, Plan};
+use crpm_tests::explore::{Images, Plan, LEGEND};
 use crpm_tests::fast::Fast;
 use crpm_tests::groups::{self, Random};
 use crpm_tests::reference::{Choice, Fault, Reference};
-use crpm_tests::report::{Outcome, Report};
+use crpm_tests::report::{arguments, Found, Outcome, Report};
 use crpm_tests::{arbitrary, corners, sheet};
 use std::process::ExitCode;
+
+const USAGE: &str = "usage: selftest
+Checks the second program by itself: the reference, the crash model and the explorer.
+A line for each group, totals at the end. Status: 0 passed, 1 failed, 2 wrong arguments.";
 
 const SMALL: Sizes = Sizes::new(1, 1, 1);
 const TWO: Sizes = Sizes::new(2, 1, 1);
 const FOUR: Sizes = Sizes::new(2, 2, 1);
 
 fn main() -> ExitCode {
+    if let Err(status) = arguments(USAGE, &[], 0) {
+        return status;
+    }
+    println!("{LEGEND}");
     let good = Reference::good();
     let other = Reference::choosing(Choice::Highest);
     let mut report = Report::default();
-    let mut group = |name: &str, run: &dyn Fn() -> Outcome| report.group(name, run);
-    group("cut model", &|| groups::crash_model(4000));
-    group("bench cases", &|| groups::bench_cases(&good));
-    group("waiting lines", &|| groups::waiting_lines(&good));
-    group("single calls 1,1,1", &|| groups::single_calls(&good));
-    group("histories up to 5 at 1,1,1", &|| groups::short_histories(&good, SMALL, 5));
-    group("histories up to 4 at 2,1,1", &|| groups::short_histories(&good, TWO, 4));
-    group("histories up to 2 at 2,2,1", &|| groups::short_histories(&good, FOUR, 2));
-    group("other spares, histories up to 2 at 2,2,1", &|| groups::short_histories(&other, FOUR, 2));
-    group("random histories", &|| groups::random_histories(&good, random(21, 40)));
-    group("other spares, random histories", &|| groups::random_histories(&other, random(22, 20)));
+    report.group("cut model", || groups::crash_model(4000));
+    report.group("bench cases", || groups::bench_cases(&good));
+    report.group("waiting lines", || groups::waiting_lines(&good));
+    report.group("single calls 1,1,1", || groups::single_calls(&good));
+    report.group("histories up to 5 at 1,1,1", || groups::short_histories(&good, SMALL, 5));
+    report.group("histories up to 4 at 2,1,1", || groups::short_histories(&good, TWO, 4));
+    report.group("histories up to 2 at 2,2,1", || groups::short_histories(&good, FOUR, 2));
+    report.group("other spares, histories up to 2 at 2,2,1", || groups::short_histories(&other, FOUR, 2));
+    report.group("random histories", || groups::random_histories(&good, random(21, 40)));
+    report.group("other spares, random histories", || groups::random_histories(&other, random(22, 20)));
     for fault in FAULTS {
-        group(&format!("fault {fault:?}"), &|| caught(fault));
+        report.group(&format!("fault {fault:?}"), || caught(fault));
     }
-    group("forms of the benchmark", &|| forms_agree(&good));
-    group("corner sheets", &corner_sheets);
-    report.status()
+    report.group("forms of the benchmark", || forms_agree(&good));
+    report.group("corner sheets", corner_sheets);
+    report.close("selftest")
 }
 
 const FAULTS: [Fault; 4] = [
@@ -62,7 +68,7 @@ fn caught(fault: Fault) -> Outcome {
     for depth in 1..=3 {
         for sizes in [SMALL, TWO] {
             if let Err(witness) = groups::short_histories(&faulty, sizes, depth) {
-                return Ok(format!("caught: {witness}"));
+                return Ok(Found::new(format!("caught: {witness}"), &[("faults caught", 1)]));
             }
         }
     }
@@ -80,7 +86,7 @@ fn forms_agree(good: &Reference) -> Outcome {
         compared.verdict()?;
         calls += compared.calls();
     }
-    Ok(format!("{calls} calls as the reference"))
+    Ok(Found::new(format!("{calls} calls as the reference"), &[("calls compared", calls)]))
 }
 
 fn corner_sheets() -> Outcome {
@@ -92,5 +98,6 @@ fn corner_sheets() -> Outcome {
             return Err(format!("{}: {printed:?}, due {:?}", corner.name, corner.output));
         }
     }
-    Ok(format!("{} sheets print as document 01 says", corners.len()))
+    let sheets = corners.len();
+    Ok(Found::new(format!("{sheets} sheets print as they should"), &[("sheets", sheets as u64)]))
 }

@@ -1,16 +1,16 @@
-//! Reference implementation of every call of document 01 over plain slices.
+//! Reference implementation of every call over plain slices.
 //!
-//! Written from document 01 alone. The metadata are read into a `Board` whose
-//! levels are an enum, so that an unsound image cannot be represented; a call
-//! first makes its whole list of orders and the next card, and only then
-//! touches the tape, so that a refusal changes nothing. Checked against the
-//! bench cases P1 to P10 (`groups`) and, by the explorer, against demand 3;
-//! the library is checked against it.
+//! Written from sections 2 to 6 and 9 to 14. The metadata are read into a
+//! `Board` whose levels are an enum, so that an unsound image cannot be
+//! represented; a call first makes its whole list of orders and the next card,
+//! and only then touches the tape, so that a refusal changes nothing. Checked
+//! against the bench cases P1 to P10 of section 17 (`groups`) and, by the
+//! explorer, against demand 3 (section 15); the library is checked against it.
 
 use crate::calls::*;
 use std::collections::BTreeMap;
 
-/// Document 01's refusals by number.
+/// Section 14's refusals by number.
 #[derive(Clone, Copy, PartialEq, Eq, Debug)]
 pub enum Refusal {
     Size = 1,
@@ -27,7 +27,7 @@ pub enum Refusal {
     TapeBad = 12,
 }
 
-/// Document 01's faults that a reader could mistake for good work.
+/// Section 18's faults, which a reader could mistake for good work.
 #[derive(Clone, Copy, PartialEq, Eq, Debug)]
 pub enum Fault {
     StateBeforeFence,
@@ -36,7 +36,7 @@ pub enum Fault {
     FreeByIdleLine,
 }
 
-/// Which free spare a write takes; document 01 leaves it open.
+/// Which free spare a write takes; section 10 leaves it open.
 #[derive(Clone, Copy, PartialEq, Eq, Debug)]
 pub enum Choice {
     LowestUnpairedElseLowest,
