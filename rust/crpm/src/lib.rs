@@ -10,7 +10,7 @@
 //! An *image* is the contents of the module's memory. A call reads it and
 //! writes what is to be done to it on a *trace* that the caller lends: stores,
 //! write-backs and fences. The caller carries these [`Ops`] out, all of them
-//! and in their order, before the next call. Only [`format`] and [`replay`]
+//! and in their order, before the next call. Only [`format()`] and [`replay`]
 //! change an image.
 //!
 //! ```
@@ -48,7 +48,7 @@
 //!
 //! # What every caller must know
 //!
-//! - After [`format`] on a module, flush every line of the image and fence
+//! - After [`format()`] on a module, flush every line of the image and fence
 //!   before the first opening. A format whose lines never reached the module
 //!   can lose every later checkpoint.
 //! - A [`Session`] belongs to the image that it was opened on, until the next
@@ -84,7 +84,7 @@ pub const VERSION: &str = env!("CARGO_PKG_VERSION");
 /// What is known of an image since it was opened: which main segments and
 /// blocks were written to.
 ///
-/// [`open`] makes it, [`write`] and [`checkpoint`] take it and change it; a
+/// [`open`] makes it, [`write()`] and [`checkpoint`] take it and change it; a
 /// refused call leaves it as it was. It has the layout of `struct
 /// crpm_session`, so that a pointer to one of C can be cast.
 #[derive(PartialEq, Eq, Debug)]

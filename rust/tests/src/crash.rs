@@ -220,8 +220,8 @@ impl Cut<'_> {
     }
 }
 
-/// The rule read off a list of orders played since `held`: what
-/// one line may hold, each contents once.
+/// The rule read off a list of orders played since `held`: what one line may
+/// hold, once for each first part of the stores to it, in their order.
 pub fn permitted(held: &[u8], orders: &[Order], line: usize) -> Vec<LineBytes> {
     let of_line = |place: usize| place / LINE == line;
     let stores_before = |end: usize| {
@@ -244,8 +244,5 @@ pub fn permitted(held: &[u8], orders: &[Order], line: usize) -> Vec<LineBytes> {
             }
         }
     }
-    let mut kept = all.split_off(floor);
-    kept.sort();
-    kept.dedup();
-    kept
+    all.split_off(floor)
 }

@@ -164,7 +164,12 @@ pub fn crash_model(lists: usize) -> Outcome {
 }
 
 fn check_stages(held: &[u8], orders: &[Order], module: &Module) -> Result<usize, String> {
-    let lines: Vec<_> = (0..held.len() / LINE).map(|line| permitted(held, orders, line)).collect();
+    let mut lines: Vec<_> = (0..held.len() / LINE).map(|line| permitted(held, orders, line)).collect();
+    due("ways", module.cut().ways(), lines.iter().map(|line| line.len() as u128).product())?;
+    for line in &mut lines {
+        line.sort();
+        line.dedup();
+    }
     let expected: usize = lines.iter().map(Vec::len).product();
     let cut = module.cut();
     due("permitted images", cut.count(), expected as u128)?;
