@@ -110,6 +110,10 @@ fn served(status: u64) -> Result<(), Refusal> {
 /// paired, every segment zero. Whatever was there is lost.
 ///
 /// A format is not safe against a power cut: format again after one.
+///
+/// # Errors
+///
+/// [`Refusal::BadLength`].
 pub fn format(image: &mut [u8], layout: Layout) -> Result<(), Refusal> {
     // SAFETY: the slice is valid for its length and not shared.
     served(unsafe {
@@ -125,6 +129,10 @@ pub fn format(image: &mut [u8], layout: Layout) -> Result<(), Refusal> {
 
 /// Opens an image, which recovers: once its operations are carried out, the
 /// working bytes are those of the last checkpoint.
+///
+/// # Errors
+///
+/// [`Refusal::BadLength`] to [`Refusal::Invalid`], [`Refusal::TraceShort`].
 pub fn open<'t>(image: &[u8], layout: Layout, trace: &'t mut [u64]) -> Result<(Session, Ops<'t>), Refusal> {
     let (mut session, mut ops) = (ffi::Session::ZEROS, 0);
     // SAFETY: each slice is valid for its length, each reference for what it
@@ -146,6 +154,10 @@ pub fn open<'t>(image: &[u8], layout: Layout, trace: &'t mut [u64]) -> Result<(S
 }
 
 /// Writes bytes to a block of a main segment, from an offset on.
+///
+/// # Errors
+///
+/// [`Refusal::BadLength`] to [`Refusal::NoFreeBackup`], [`Refusal::TraceShort`].
 pub fn write<'t>(
     image: &[u8],
     session: &mut Session,
@@ -177,6 +189,11 @@ pub fn write<'t>(
 
 /// Makes the working bytes the checkpoint, in one step: a power cut shows the
 /// old checkpoint or the new one, whole.
+///
+/// # Errors
+///
+/// [`Refusal::BadLength`] to [`Refusal::BadSession`], [`Refusal::EpochLimit`],
+/// [`Refusal::TraceShort`].
 pub fn checkpoint<'t>(image: &[u8], session: &mut Session, trace: &'t mut [u64]) -> Result<Ops<'t>, Refusal> {
     let mut ops = 0;
     // SAFETY: as in `open`.
@@ -199,6 +216,10 @@ pub fn checkpoint<'t>(image: &[u8], session: &mut Session, trace: &'t mut [u64])
 /// It flushes nothing and waits for nothing: it is for benches, dumps and
 /// simulation. The trace is [`Ops`], or numbers that are operations and
 /// nothing more.
+///
+/// # Errors
+///
+/// [`Refusal::BadLength`], [`Refusal::TraceBad`].
 pub fn replay(image: &mut [u8], trace: impl AsRef<[u64]>, n: usize) -> Result<usize, Refusal> {
     let (trace, mut played) = (trace.as_ref(), 0);
     // SAFETY: as in `open`.
@@ -209,6 +230,11 @@ pub fn replay(image: &mut [u8], trace: impl AsRef<[u64]>, n: usize) -> Result<us
 }
 
 /// A block as it stands now: that part of the image.
+///
+/// # Errors
+///
+/// [`Refusal::BadLength`] to [`Refusal::Invalid`], [`Refusal::NoSuchMain`],
+/// [`Refusal::NoSuchBlock`].
 pub fn read_working(
     image: &[u8],
     layout: Layout,
@@ -221,6 +247,11 @@ pub fn read_working(
 
 /// A block as of the last checkpoint: that part of the image, or none if no
 /// checkpoint has bytes of this main segment: they are then all zero.
+///
+/// # Errors
+///
+/// [`Refusal::BadLength`] to [`Refusal::Invalid`], [`Refusal::NoSuchMain`],
+/// [`Refusal::NoSuchBlock`].
 pub fn read_checkpoint(
     image: &[u8],
     layout: Layout,
@@ -260,6 +291,10 @@ fn read(
 
 /// Whether two images of this layout have the same checkpoint. A refusal of
 /// the first image comes before one of the second.
+///
+/// # Errors
+///
+/// [`Refusal::BadLength`] to [`Refusal::Invalid`].
 pub fn same_checkpoint(a: &[u8], b: &[u8], layout: Layout) -> Result<bool, Refusal> {
     let mut same = 0;
     // SAFETY: as in `open`.

@@ -67,9 +67,9 @@ pub struct Counts {
 }
 
 /// What the counts mean.
-pub const LEGEND: &str =
-    "images: what a cut can leave, each once a cut; ways: the choices of how many stores \
-reached each line, several of which may leave the same image; distinct: different images over all cuts";
+pub const LEGEND: &str = "images: contents that a cut can leave, those looked at, each once a cut
+ways: choices of how many of its waiting stores reached each line; several ways can leave the same image
+distinct: images that differ, over all cuts; each is opened again once";
 
 /// A history in progress: what stands, the card last answered, the book.
 #[derive(Clone)]

@@ -6,6 +6,12 @@
 //! the trade, level, spare, frame, card, tape, order, save: the glossary
 //! (section 20) has the library's names for them. `raw` and `library` stand
 //! where the two meet.
+//!
+//! Four programs: `selftest` checks the reference, the crash model and the
+//! explorer by themselves; `differential` compares the library with the
+//! reference, `sheets` the sheet program; `speed` measures. `cargo test` runs
+//! the first two, the second in short, and holds include/crpm.h against crate
+//! `crpm` and the reference.
 
 pub mod arbitrary;
 pub mod book;
