@@ -8,7 +8,6 @@
 //! explorer, against demand 3 (section 15); the library is checked against it.
 
 use crate::calls::*;
-use std::collections::BTreeMap;
 
 /// Section 14's refusals by number.
 #[derive(Clone, Copy, PartialEq, Eq, Debug)]
@@ -117,19 +116,19 @@ impl Board {
         if states[levels..].iter().any(|s| *s != 0) || pairs[spares..].iter().any(|p| *p != UNPAIRED) {
             return None;
         }
-        let mut spare_of = BTreeMap::new();
+        let mut spare_of = vec![None; levels];
         let mut owners = vec![None; spares];
         for (spare, &level) in pairs[..spares].iter().enumerate() {
             if level == UNPAIRED {
                 continue;
             }
             let level = level as usize;
-            if level >= levels || spare_of.insert(level, spare).is_some() {
+            if level >= levels || spare_of[level].replace(spare).is_some() {
                 return None;
             }
             owners[spare] = Some(level);
         }
-        let read = |level| match (states[level], spare_of.get(&level).copied()) {
+        let read = |level: usize| match (states[level], spare_of[level]) {
             (0, None) => Some(Level::Empty),
             (1, spare) => Some(Level::Own { spare }),
             (2, Some(spare)) => Some(Level::InSpare { spare }),

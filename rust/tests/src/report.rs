@@ -1,8 +1,12 @@
 //! What the programs print, a line for each group and one at the end, what they
 //! answer to their arguments, and their exit status.
 
+use std::collections::BTreeMap;
 use std::ffi::OsString;
 use std::process::ExitCode;
+use std::sync::atomic::{AtomicUsize, Ordering};
+use std::sync::mpsc::{channel, Sender};
+use std::thread;
 use std::time::Instant;
 
 /// What a group found: a line for the reader and counts for the closing line,
@@ -20,20 +24,68 @@ impl Found {
     }
 }
 
-/// Runs groups, adds up what they counted and counts those that failed.
+/// Suite of checks, each by itself.
 #[derive(Default)]
-pub struct Report {
+pub struct Suite<'a>(Vec<Group<'a>>);
+
+struct Group<'a> {
+    name: String,
+    run: Box<dyn Fn() -> Outcome + Sync + 'a>,
+}
+
+impl<'a> Suite<'a> {
+    pub fn add(&mut self, name: impl Into<String>, run: impl Fn() -> Outcome + Sync + 'a) {
+        self.0.push(Group { name: name.into(), run: Box::new(run) });
+    }
+
+    /// Runs all groups, as many at a time as there are processors, and prints a
+    /// line as each is done and one at the end. The status is 1 if one failed.
+    pub fn run(&self, program: &str) -> ExitCode {
+        let next = AtomicUsize::new(0);
+        let work = |done: Sender<Done>| {
+            while let Some(Group { name, run }) = self.0.get(next.fetch_add(1, Ordering::Relaxed)) {
+                let start = Instant::now();
+                let outcome = run();
+                let line = Done { name: name.clone(), outcome, seconds: start.elapsed().as_secs_f64() };
+                done.send(line).expect("someone prints");
+            }
+        };
+        let mut totals = Totals::default();
+        thread::scope(|scope| {
+            let (sender, receiver) = channel();
+            for _ in 0..thread::available_parallelism().map_or(1, usize::from) {
+                let sender = sender.clone();
+                scope.spawn(|| work(sender));
+            }
+            drop(sender);
+            receiver.into_iter().for_each(|done| totals.print(done));
+        });
+        totals.close(program)
+    }
+}
+
+/// A group that was run.
+struct Done {
+    name: String,
+    outcome: Outcome,
+    seconds: f64,
+}
+
+/// What the groups counted, and how many failed.
+#[derive(Default)]
+struct Totals {
     groups: u64,
-    counts: Vec<(&'static str, u64)>,
+    counts: BTreeMap<&'static str, u64>,
     failures: u64,
 }
 
-impl Report {
-    pub fn group(&mut self, name: &str, run: impl FnOnce() -> Outcome) {
-        let start = Instant::now();
-        let (verdict, text) = match run() {
+impl Totals {
+    fn print(&mut self, done: Done) {
+        let (verdict, text) = match done.outcome {
             Ok(found) => {
-                self.add(&found.counts);
+                for (what, count) in found.counts {
+                    *self.counts.entry(what).or_default() += count;
+                }
                 ("ok", found.text)
             }
             Err(text) => {
@@ -42,22 +94,11 @@ impl Report {
             }
         };
         self.groups += 1;
-        println!("{verdict} {name}: {text} ({:.1} s)", start.elapsed().as_secs_f64());
+        println!("{verdict} {}: {text} ({:.1} s)", done.name, done.seconds);
     }
 
-    fn add(&mut self, counts: &[(&'static str, u64)]) {
-        for &(what, count) in counts {
-            match self.counts.iter_mut().find(|(known, _)| *known == what) {
-                Some((_, sum)) => *sum += count,
-                None => self.counts.push((what, count)),
-            }
-        }
-    }
-
-    /// Prints the closing line; the status is 1 if a group failed.
-    pub fn close(&self, program: &str) -> ExitCode {
-        let counts = self.counts.iter().map(|(what, count)| format!("{count} {what}, "));
-        let counts: String = counts.collect();
+    fn close(&self, program: &str) -> ExitCode {
+        let counts: String = self.counts.iter().map(|(what, count)| format!("{count} {what}, ")).collect();
         println!("{program}: {} groups, {counts}failures {}", self.groups, self.failures);
         match self.failures {
             0 => ExitCode::SUCCESS,

@@ -15,7 +15,7 @@ use crpm_tests::explore::{Images, Plan, LEGEND};
 use crpm_tests::groups::{self, Random};
 use crpm_tests::library::{Library, Wrapped};
 use crpm_tests::reference::Reference;
-use crpm_tests::report::{arguments, Found, Outcome, Report};
+use crpm_tests::report::{arguments, Found, Outcome, Suite};
 use std::process::ExitCode;
 
 const USAGE: &str = "usage: differential [--quick]
@@ -37,39 +37,39 @@ fn main() -> ExitCode {
         Err(status) => return status,
     };
     println!("{LEGEND}");
-    let mut report = Report::default();
+    let mut suite = Suite::default();
     match given.is_empty() {
-        true => all(&mut report),
-        false => quick(&mut report),
+        true => all(&mut suite),
+        false => quick(&mut suite),
     }
-    report.close("differential")
+    suite.run("differential")
 }
 
-fn all(report: &mut Report) {
-    report.group("any contents, sizes 1 to 4", || any_small(&Library, 40_000));
-    report.group("any contents, sizes 1 to 64", any_large);
-    report.group("bench cases", || compared(&Library, |both| groups::bench_cases(both)));
-    report.group("waiting lines", || compared(&Library, |both| groups::waiting_lines(both)));
-    report.group("random histories, sizes 1 to 3", || histories(41, 1200, 12, 3, EVERY_CUT));
-    report.group("random histories, sizes 1 to 9", || histories(42, 150, 40, 9, SOME_CUTS));
-    report.group("random histories, sizes 1 to 64", || histories(43, 5, 16, 64, SOME_CUTS));
-    report.group("single calls at 1,1,1", || compared(&Library, |both| groups::single_calls(both)));
-    report.group("histories up to 5 at 1,1,1", || short(SMALL, 5));
-    report.group("histories up to 4 at 2,1,1", || short(TWO, 4));
-    report.group("safe calls, any contents", || any_small(&Wrapped, 10_000));
-    report.group("safe calls, bench cases", || compared(&Wrapped, |both| groups::bench_cases(both)));
-    report.group("spoiled answers, any contents", spoiled_contents);
-    report.group("spoiled answers, histories", spoiled_histories);
+fn all(suite: &mut Suite) {
+    suite.add("any contents, sizes 1 to 4", || any_small(&Library, 40_000));
+    suite.add("any contents, sizes 1 to 64", any_large);
+    suite.add("bench cases", || compared(&Library, |both| groups::bench_cases(both)));
+    suite.add("waiting lines", || compared(&Library, |both| groups::waiting_lines(both)));
+    suite.add("random histories, sizes 1 to 3", || histories(41, 1200, 12, 3, EVERY_CUT));
+    suite.add("random histories, sizes 1 to 9", || histories(42, 150, 40, 9, SOME_CUTS));
+    suite.add("random histories, sizes 1 to 64", || histories(43, 5, 16, 64, SOME_CUTS));
+    suite.add("single calls at 1,1,1", || compared(&Library, |both| groups::single_calls(both)));
+    suite.add("histories up to 5 at 1,1,1", || short(SMALL, 5));
+    suite.add("histories up to 4 at 2,1,1", || short(TWO, 4));
+    suite.add("safe calls, any contents", || any_small(&Wrapped, 10_000));
+    suite.add("safe calls, bench cases", || compared(&Wrapped, |both| groups::bench_cases(both)));
+    suite.add("spoiled answers, any contents", spoiled_contents);
+    suite.add("spoiled answers, histories", spoiled_histories);
 }
 
-fn quick(report: &mut Report) {
-    report.group("any contents, sizes 1 to 4", || any_small(&Library, 5_000));
-    report.group("bench cases", || compared(&Library, |both| groups::bench_cases(both)));
-    report.group("random histories, sizes 1 to 3", || histories(41, 40, 12, 3, EVERY_CUT));
-    report.group("histories up to 3 at 2,1,1", || short(TWO, 3));
-    report.group("safe calls, any contents", || any_small(&Wrapped, 5_000));
-    report.group("safe calls, bench cases", || compared(&Wrapped, |both| groups::bench_cases(both)));
-    report.group("spoiled answers, any contents", spoiled_contents);
+fn quick(suite: &mut Suite) {
+    suite.add("any contents, sizes 1 to 4", || any_small(&Library, 5_000));
+    suite.add("bench cases", || compared(&Library, |both| groups::bench_cases(both)));
+    suite.add("random histories, sizes 1 to 3", || histories(41, 40, 12, 3, EVERY_CUT));
+    suite.add("histories up to 3 at 2,1,1", || short(TWO, 3));
+    suite.add("safe calls, any contents", || any_small(&Wrapped, 5_000));
+    suite.add("safe calls, bench cases", || compared(&Wrapped, |both| groups::bench_cases(both)));
+    suite.add("spoiled answers, any contents", spoiled_contents);
 }
 
 /// Runs a group over both and adds the verdict of the comparison.

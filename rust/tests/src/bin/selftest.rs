@@ -11,7 +11,7 @@ use crpm_tests::explore::{Images, Plan, LEGEND};
 use crpm_tests::fast::Fast;
 use crpm_tests::groups::{self, Random};
 use crpm_tests::reference::{Choice, Fault, Reference};
-use crpm_tests::report::{arguments, Found, Outcome, Report};
+use crpm_tests::report::{arguments, Found, Outcome, Suite};
 use crpm_tests::{arbitrary, corners, sheet};
 use std::process::ExitCode;
 
@@ -30,23 +30,23 @@ fn main() -> ExitCode {
     println!("{LEGEND}");
     let good = Reference::good();
     let other = Reference::choosing(Choice::Highest);
-    let mut report = Report::default();
-    report.group("cut model", || groups::crash_model(4000));
-    report.group("bench cases", || groups::bench_cases(&good));
-    report.group("waiting lines", || groups::waiting_lines(&good));
-    report.group("single calls 1,1,1", || groups::single_calls(&good));
-    report.group("histories up to 5 at 1,1,1", || groups::short_histories(&good, SMALL, 5));
-    report.group("histories up to 4 at 2,1,1", || groups::short_histories(&good, TWO, 4));
-    report.group("histories up to 2 at 2,2,1", || groups::short_histories(&good, FOUR, 2));
-    report.group("other spares, histories up to 2 at 2,2,1", || groups::short_histories(&other, FOUR, 2));
-    report.group("random histories", || groups::random_histories(&good, random(21, 40)));
-    report.group("other spares, random histories", || groups::random_histories(&other, random(22, 20)));
+    let mut suite = Suite::default();
+    suite.add("cut model", || groups::crash_model(4000));
+    suite.add("bench cases", || groups::bench_cases(&good));
+    suite.add("waiting lines", || groups::waiting_lines(&good));
+    suite.add("single calls 1,1,1", || groups::single_calls(&good));
+    suite.add("histories up to 5 at 1,1,1", || groups::short_histories(&good, SMALL, 5));
+    suite.add("histories up to 4 at 2,1,1", || groups::short_histories(&good, TWO, 4));
+    suite.add("histories up to 2 at 2,2,1", || groups::short_histories(&good, FOUR, 2));
+    suite.add("other spares, histories up to 2 at 2,2,1", || groups::short_histories(&other, FOUR, 2));
+    suite.add("random histories", || groups::random_histories(&good, random(21, 40)));
+    suite.add("other spares, random histories", || groups::random_histories(&other, random(22, 20)));
     for fault in FAULTS {
-        report.group(&format!("fault {fault:?}"), || caught(fault));
+        suite.add(format!("fault {fault:?}"), move || caught(fault));
     }
-    report.group("forms of the benchmark", || forms_agree(&good));
-    report.group("corner sheets", corner_sheets);
-    report.close("selftest")
+    suite.add("forms of the benchmark", || forms_agree(&good));
+    suite.add("corner sheets", corner_sheets);
+    suite.run("selftest")
 }
 
 const FAULTS: [Fault; 4] = [

@@ -4,7 +4,7 @@
 //! Seeds are fixed.
 
 use crpm_tests::prng::Rng;
-use crpm_tests::report::{arguments, Found, Outcome, Report, NOT_RUN};
+use crpm_tests::report::{arguments, Found, Outcome, Suite, NOT_RUN};
 use crpm_tests::{corners, corners::Corner, sheet};
 use std::io::{self, Write};
 use std::path::{Path, PathBuf};
@@ -32,11 +32,11 @@ fn main() -> ExitCode {
         eprintln!("no sheet program at {}; `rt check sheet` makes it", program.display());
         return ExitCode::from(NOT_RUN);
     }
-    let mut report = Report::default();
-    report.group("corner sheets", || corner_sheets(&program));
-    report.group("spoiled outputs", || spoiled_outputs(&program));
-    report.group("random sheets", || random_sheets(&program));
-    report.close("sheets")
+    let mut suite = Suite::default();
+    suite.add("corner sheets", || corner_sheets(&program));
+    suite.add("spoiled outputs", || spoiled_outputs(&program));
+    suite.add("random sheets", || random_sheets(&program));
+    suite.run("sheets")
 }
 
 fn corner_sheets(program: &Path) -> Outcome {
