@@ -1,12 +1,10 @@
 //! The sheet program against `sheet`: corner sheets, random good sheets and
 //! damaged ones go to its standard input, and its standard output is compared.
 //!
-//! Usage: sheets [PROGRAM], by default `../target/bin/sheet` beside this
-//! folder. Seeds are fixed. Exit status 1 on any difference, 2 without a
-//! program (0 with the argument `--may-miss`).
+//! Seeds are fixed.
 
 use crpm_tests::prng::Rng;
-use crpm_tests::report::{missing, MAY_MISS};
+use crpm_tests::report::{arguments, Found, Outcome, Suite, NOT_RUN};
 use crpm_tests::{corners, corners::Corner, sheet};
 use std::io::{self, Write};
 use std::path::{Path, PathBuf};
@@ -19,32 +17,38 @@ const IN_PIECES: usize = 60;
 const TIME_LIMIT: Duration = Duration::from_secs(60);
 const LONGEST: usize = 4096;
 
+const USAGE: &str = "usage: sheets [PROGRAM]
+Compares the sheet program, by default target/bin/sheet of this repository, with the reference.
+A line for each group, totals at the end. Status: 0 passed, 1 a difference, 2 wrong arguments or no program.";
+
 fn main() -> ExitCode {
-    let default = Path::new(env!("CARGO_MANIFEST_DIR")).join("../target/bin/sheet");
-    let named = std::env::args().skip(1).find(|argument| argument != MAY_MISS);
-    let program = named.map_or(default, PathBuf::from);
+    let given = match arguments(USAGE, &[], 1) {
+        Ok(given) => given,
+        Err(status) => return status,
+    };
+    let default = Path::new(env!("CARGO_MANIFEST_DIR")).join("../../target/bin/sheet");
+    let program = given.first().map_or(default, PathBuf::from);
     if !program.is_file() {
-        return missing(&format!("no sheet program at {}", program.display()));
+        eprintln!("no sheet program at {}; `rt check sheet` makes it", program.display());
+        return ExitCode::from(NOT_RUN);
     }
-    match run_all(&program) {
-        Ok(()) => ExitCode::SUCCESS,
-        Err(text) => {
-            println!("FAILED {text}");
-            ExitCode::FAILURE
-        }
-    }
+    let mut suite = Suite::default();
+    suite.add("corner sheets", || corner_sheets(&program));
+    suite.add("spoiled outputs", || spoiled_outputs(&program));
+    suite.add("random sheets", || random_sheets(&program));
+    suite.run("sheets")
 }
 
-fn run_all(program: &Path) -> Result<(), String> {
-    let start = Instant::now();
+fn corner_sheets(program: &Path) -> Outcome {
     let corners = corners::all();
-    for corner in &corners {
-        check(program, &corner.input, corner.output.as_bytes(), 1)?;
+    for Corner { input, output, .. } in &corners {
+        check(program, input, output.as_bytes(), 1)?;
     }
-    println!("ok corner sheets: {} ({:.1} s)", corners.len(), start.elapsed().as_secs_f64());
-    let start = Instant::now();
-    let noticed = spoiled_outputs(program, &corners)?;
-    println!("ok spoiled outputs: {noticed} noticed ({:.1} s)", start.elapsed().as_secs_f64());
+    let sheets = corners.len();
+    Ok(Found::new(format!("{sheets}"), &[("sheets compared", sheets as u64)]))
+}
+
+fn random_sheets(program: &Path) -> Outcome {
     let start = Instant::now();
     let mut rng = Rng::new(61);
     let (mut good, mut bad) = (0, 0);
@@ -61,15 +65,14 @@ fn run_all(program: &Path) -> Result<(), String> {
             return Err(format!("only {} sheets in {} s", number + 1, TIME_LIMIT.as_secs()));
         }
     }
-    println!("ok random sheets: {good} good, {bad} bad ({:.1} s)", start.elapsed().as_secs_f64());
-    Ok(())
+    Ok(Found::new(format!("{good} good, {bad} bad"), &[("sheets compared", good + bad)]))
 }
 
 /// A corner's output with one byte changed, left out or added is a difference.
-fn spoiled_outputs(program: &Path, corners: &[Corner]) -> Result<usize, String> {
+fn spoiled_outputs(program: &Path) -> Outcome {
     let mut rng = Rng::new(62);
     let mut noticed = 0;
-    for corner in corners.iter().step_by(5) {
+    for corner in corners::all().iter().step_by(5) {
         let mut due = corner.output.clone().into_bytes();
         let at = rng.below(due.len());
         match rng.below(3) {
@@ -82,7 +85,7 @@ fn spoiled_outputs(program: &Path, corners: &[Corner]) -> Result<usize, String> 
         }
         noticed += 1;
     }
-    Ok(noticed)
+    Ok(Found::new(format!("{noticed} noticed"), &[("spoiled outputs noticed", noticed)]))
 }
 
 /// Feeds the input, in pieces with pauses between them, and compares.

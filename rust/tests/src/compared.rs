@@ -2,10 +2,9 @@
 //!
 //! Every call goes to both; answer, card, tape and image are compared byte for
 //! byte (the images of reads and likeness where they are small), and the first
-//! difference is kept. The caller gets what the tested one gave,
-//! so the explorer over a `Compared` is a history through the tested one, held
-//! against the other step by step. The numbers that each call knows are
-//! document 01's.
+//! difference is kept. The caller gets what the tested one gave, so the explorer
+//! over a `Compared` is a history through the tested one, held against the other
+//! step by step. The numbers that each call knows are those of section 14.
 
 use crate::calls::*;
 use std::cell::{Cell, RefCell};

@@ -1,18 +1,17 @@
 //! The calls in safe Rust as one would write them for speed, for the
-//! benchmarks: no list of orders, straight onto the tape, with the library's
-//! interface of slices (card of 68 words, results of 2 words, 255 for other
-//! lengths) and the card by value behind it, as document 01 has it.
+//! benchmarks: no list of orders, straight onto the tape, with the signatures
+//! of `raw` and the card by value behind them.
 //!
-//! The calls are not inlined, as the library's are not.
-//!
-//! Written from document 01. The test of the metadata has the library's shape
-//! (an array of paired levels, no exit from its loops), which is the quickest
-//! known. The places that write or read many orders exist in two forms, by
-//! index and by chunks; the benchmark takes the better one of each
-//! measurement. Both are checked against the reference (`selftest`) and
+//! The calls are not inlined, as the library's are not. The test of the metadata
+//! has the library's shape (an array of paired levels, no exit from its loops),
+//! which is the quickest known. The places that write or read many orders exist
+//! in two forms, by index and by chunks; the benchmark takes the better one of
+//! each measurement. Both are checked against the reference (`selftest`) and
 //! against the library (`speed`, before it measures).
 
 use crate::calls::*;
+use crate::raw::{card_of, session_of, Extent};
+use crpm::ffi::Session;
 
 /// How runs of orders are written and played.
 pub trait Form {
@@ -176,7 +175,10 @@ impl<'a> Sound<'a> {
     /// Is no touched level in state 1?
     fn none_own(&self, touched: u64) -> bool {
         let touches = |level: usize| touched >> level & 1 == 1;
-        self.states.iter().enumerate().fold(true, |all, (level, &state)| all & !((state == 1) & touches(level)))
+        self.states
+            .iter()
+            .enumerate()
+            .fold(true, |all, (level, &state)| all & !((state == 1) & touches(level)))
     }
 
     fn free_spare(&self) -> Option<usize> {
@@ -215,36 +217,32 @@ pub fn format(image: &mut [u8], sizes: Sizes) -> u64 {
     0
 }
 
-/// What the interface answers to a card or results of another length.
-const MISUSE: u64 = 255;
-
 /// What opening, write and save answer.
 struct Served {
     card: Card,
     orders: usize,
 }
 
-/// Puts an answer into the card's words and the results; a refused call hands
-/// back this card.
-fn answered(
-    result: Result<Served, u64>,
-    refused: Card,
-    words: &mut [u64; CARD_WORDS],
-    out: &mut [u64; 2],
-) -> u64 {
-    let (number, card, orders) = match result {
+/// Hands back an answer; a refused call hands back this card.
+fn answered(result: Result<Served, u64>, refused: Card, session: &mut Session, orders: &mut u64) -> u64 {
+    let (number, card, count) = match result {
         Ok(served) => (0, served.card, served.orders),
         Err(number) => (number, refused, 0),
     };
-    *words = card.to_words();
-    *out = [orders as u64, 0];
+    *session = session_of(&card);
+    *orders = count as u64;
     number
 }
 
 #[inline(never)]
-pub fn open<F: Form>(image: &[u8], sizes: Sizes, card: &mut [u64], tape: &mut [u64], out: &mut [u64]) -> u64 {
-    let (Ok(words), Ok(out)) = (card.try_into(), out.try_into()) else { return MISUSE };
-    answered(opening::<F>(image, sizes, tape), Card::zeros(), words, out)
+pub fn open<F: Form>(
+    image: &[u8],
+    sizes: Sizes,
+    session: &mut Session,
+    tape: &mut [u64],
+    orders: &mut u64,
+) -> u64 {
+    answered(opening::<F>(image, sizes, tape), Card::zeros(), session, orders)
 }
 
 fn opening<F: Form>(image: &[u8], sizes: Sizes, tape: &mut [u64]) -> Result<Served, u64> {
@@ -279,17 +277,14 @@ fn copy_all<'a, F: Form>(parts: impl Iterator<Item = &'a mut [u64]>, source: &[u
 #[inline(never)]
 pub fn write<F: Form>(
     image: &[u8],
-    card: &mut [u64],
+    session: &mut Session,
     target: Target,
     bytes: &[u8],
     tape: &mut [u64],
-    out: &mut [u64],
+    orders: &mut u64,
 ) -> u64 {
-    let (Ok(words), Ok(out)) = (<&mut [u64; CARD_WORDS]>::try_from(card), out.try_into()) else {
-        return MISUSE;
-    };
-    let card = Card::from_words(words);
-    answered(writing::<F>(image, card, target, bytes, tape), card, words, out)
+    let card = card_of(session);
+    answered(writing::<F>(image, card, target, bytes, tape), card, session, orders)
 }
 
 /// What a write does before its own words.
@@ -402,12 +397,9 @@ fn span(image: &[u8], first: usize, bytes: &[u8], tape: &mut [u64]) {
 }
 
 #[inline(never)]
-pub fn save(image: &[u8], card: &mut [u64], tape: &mut [u64], out: &mut [u64]) -> u64 {
-    let (Ok(words), Ok(out)) = (<&mut [u64; CARD_WORDS]>::try_from(card), out.try_into()) else {
-        return MISUSE;
-    };
-    let card = Card::from_words(words);
-    answered(saving(image, card, tape), card, words, out)
+pub fn save(image: &[u8], session: &mut Session, tape: &mut [u64], orders: &mut u64) -> u64 {
+    let card = card_of(session);
+    answered(saving(image, card, tape), card, session, orders)
 }
 
 fn saving(image: &[u8], mut card: Card, tape: &mut [u64]) -> Result<Served, u64> {
@@ -451,10 +443,9 @@ fn saving(image: &[u8], mut card: Card, tape: &mut [u64]) -> Result<Served, u64>
 }
 
 #[inline(never)]
-pub fn replay<F: Form>(image: &mut [u8], tape: &[u64], n: u64, out: &mut [u64]) -> u64 {
-    let Ok(out) = <&mut [u64; 2]>::try_from(out) else { return MISUSE };
+pub fn replay<F: Form>(image: &mut [u8], tape: &[u64], n: u64, orders: &mut u64) -> u64 {
     let played = playing::<F>(image, tape, n);
-    *out = [played.unwrap_or(0) as u64, 0];
+    *orders = played.unwrap_or(0) as u64;
     played.err().unwrap_or(0)
 }
 
@@ -475,11 +466,11 @@ fn playing<F: Form>(image: &mut [u8], tape: &[u64], n: u64) -> Result<usize, u64
 }
 
 #[inline(never)]
-pub fn read(page: Page, image: &[u8], sizes: Sizes, level: u64, frame: u64, out: &mut [u64]) -> u64 {
-    let Ok(out) = <&mut [u64; 2]>::try_from(out) else { return MISUSE };
-    let found = reading(page, image, sizes, level, frame);
-    *out = found.unwrap_or(None).map_or([0, 0], |start| [start as u64, FRAME as u64]);
-    found.err().unwrap_or(0)
+pub fn read(page: Page, image: &[u8], sizes: Sizes, level: u64, frame: u64, found: &mut Extent) -> u64 {
+    let part = reading(page, image, sizes, level, frame);
+    let (start, size) = part.unwrap_or(None).map_or((0, 0), |start| (start, FRAME));
+    *found = Extent { start: start as u64, size: size as u64 };
+    part.err().unwrap_or(0)
 }
 
 fn reading(page: Page, image: &[u8], sizes: Sizes, level: u64, frame: u64) -> Result<Option<usize>, u64> {
@@ -500,10 +491,9 @@ fn reading(page: Page, image: &[u8], sizes: Sizes, level: u64, frame: u64) -> Re
 }
 
 #[inline(never)]
-pub fn same(first: &[u8], second: &[u8], sizes: Sizes, out: &mut [u64]) -> u64 {
-    let Ok(out) = <&mut [u64; 2]>::try_from(out) else { return MISUSE };
+pub fn same(first: &[u8], second: &[u8], sizes: Sizes, same: &mut u64) -> u64 {
     let alike = likeness(first, second, sizes);
-    *out = [u64::from(alike.unwrap_or(false)), 0];
+    *same = u64::from(alike.unwrap_or(false));
     alike.err().unwrap_or(0)
 }
 
@@ -540,50 +530,50 @@ impl Calls for Fast {
     }
 
     fn open(&self, image: &[u8], sizes: Sizes, card: &mut Card, tape: &mut [u64]) -> Answer {
-        let (mut words, mut out) = (card.to_words(), [0; 2]);
+        let (mut session, mut orders) = (session_of(card), 0);
         let number = match self {
-            Fast::Indexed => open::<Indexed>(image, sizes, &mut words, tape, &mut out),
-            Fast::Chunked => open::<Chunked>(image, sizes, &mut words, tape, &mut out),
+            Fast::Indexed => open::<Indexed>(image, sizes, &mut session, tape, &mut orders),
+            Fast::Chunked => open::<Chunked>(image, sizes, &mut session, tape, &mut orders),
         };
-        *card = Card::from_words(&words);
-        Answer { number, orders: out[0] }
+        *card = card_of(&session);
+        Answer { number, orders }
     }
 
     fn write(&self, image: &[u8], card: &mut Card, target: Target, bytes: &[u8], tape: &mut [u64]) -> Answer {
-        let (mut words, mut out) = (card.to_words(), [0; 2]);
+        let (mut session, mut orders) = (session_of(card), 0);
         let number = match self {
-            Fast::Indexed => write::<Indexed>(image, &mut words, target, bytes, tape, &mut out),
-            Fast::Chunked => write::<Chunked>(image, &mut words, target, bytes, tape, &mut out),
+            Fast::Indexed => write::<Indexed>(image, &mut session, target, bytes, tape, &mut orders),
+            Fast::Chunked => write::<Chunked>(image, &mut session, target, bytes, tape, &mut orders),
         };
-        *card = Card::from_words(&words);
-        Answer { number, orders: out[0] }
+        *card = card_of(&session);
+        Answer { number, orders }
     }
 
     fn save(&self, image: &[u8], card: &mut Card, tape: &mut [u64]) -> Answer {
-        let (mut words, mut out) = (card.to_words(), [0; 2]);
-        let number = save(image, &mut words, tape, &mut out);
-        *card = Card::from_words(&words);
-        Answer { number, orders: out[0] }
+        let (mut session, mut orders) = (session_of(card), 0);
+        let number = save(image, &mut session, tape, &mut orders);
+        *card = card_of(&session);
+        Answer { number, orders }
     }
 
     fn play(&self, image: &mut [u8], tape: &[u64], n: u64) -> Answer {
-        let mut out = [0; 2];
+        let mut orders = 0;
         let number = match self {
-            Fast::Indexed => replay::<Indexed>(image, tape, n, &mut out),
-            Fast::Chunked => replay::<Chunked>(image, tape, n, &mut out),
+            Fast::Indexed => replay::<Indexed>(image, tape, n, &mut orders),
+            Fast::Chunked => replay::<Chunked>(image, tape, n, &mut orders),
         };
-        Answer { number, orders: out[0] }
+        Answer { number, orders }
     }
 
     fn read(&self, page: Page, image: &[u8], sizes: Sizes, level: u64, frame: u64) -> Part {
-        let mut out = [0; 2];
-        let number = read(page, image, sizes, level, frame, &mut out);
-        Part { number, start: out[0], length: out[1] }
+        let mut found = Extent { start: 0, size: 0 };
+        let number = read(page, image, sizes, level, frame, &mut found);
+        Part { number, start: found.start, length: found.size }
     }
 
     fn like(&self, first: &[u8], second: &[u8], sizes: Sizes) -> (u64, bool) {
-        let mut out = [0; 2];
-        let number = same(first, second, sizes, &mut out);
-        (number, out[0] == 1)
+        let mut alike = 0;
+        let number = same(first, second, sizes, &mut alike);
+        (number, alike == 1)
     }
 }

@@ -1,7 +1,6 @@
 //! The bench sheet: what the sheet program must print for any input bytes.
 //!
-//! Written from document 01's section "The bench sheet" and the recorded
-//! decisions on its corners. Checked against the corner sheets (`corners`),
+//! Written from section 16. Checked against the corner sheets (`corners`),
 //! whose outputs are written by hand; the sheet program is checked against it.
 
 use crate::calls::*;

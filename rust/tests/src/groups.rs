@@ -2,9 +2,8 @@
 //! cases, every permitted image of single calls and short histories, random
 //! histories, and calls with any contents.
 //!
-//! Written from document 01 alone. `selftest` runs them over the reference,
-//! `differential` over the library. Each gives a line of counts or the first
-//! failure.
+//! `selftest` runs them over the reference, `differential` over the library.
+//! Each gives a line of counts or the first failure.
 
 use crate::arbitrary::{self, Metadata};
 use crate::book::{Call, Deed};
@@ -12,7 +11,7 @@ use crate::calls::*;
 use crate::crash::{permitted, Module};
 use crate::explore::*;
 use crate::prng::Rng;
-use crate::report::Outcome;
+use crate::report::{Found, Outcome};
 
 fn due<T: PartialEq + std::fmt::Debug>(what: &str, got: T, expected: T) -> Result<(), String> {
     match got == expected {
@@ -83,7 +82,7 @@ pub fn bench_cases<C: Calls>(calls: &C) -> Outcome {
     due("P9 256,1", number(write_call(sizes, 1, 256, 1, 0x91))?, 8)?;
     due("P9 length 0", number(write_call(sizes, 1, 0, 0, 0x92))?, 8)?;
     due("P10 orders", p10(calls)?, 41)?;
-    Ok("P1 to P10 and the cut line of P4".to_string())
+    Ok(found("P1 to P10 and the cut line of P4", Counts { histories: 1, ..explorer.counts() }))
 }
 
 /// The store that pairs spare 0, of one, with a level.
@@ -133,15 +132,15 @@ pub fn waiting_lines<C: Calls>(calls: &C) -> Outcome {
         explorer.step(&mut history, &call, Plan::ALL)?;
         due("images", history.module.cut().count(), 2 << line)?;
     }
-    let distinct = explorer.distinct();
-    Ok(format!(
-        "ten waiting lines give {} images, {distinct} distinct opened again",
-        history.module.cut().count()
+    let counts = Counts { histories: 1, ..explorer.counts() };
+    let images = history.module.cut().count();
+    Ok(found(
+        format!("ten waiting lines give {images} images, {} distinct opened again", counts.distinct),
+        counts,
     ))
 }
 
-/// The module fed order by order permits what document 01's sentence says of
-/// the whole list, for random orders on few lines.
+/// The module fed order by order permits what the rule says of the whole list, for random orders on few lines.
 pub fn crash_model(lists: usize) -> Outcome {
     let mut rng = Rng::new(3);
     let (mut cuts, mut stages) = (0, 0);
@@ -161,11 +160,16 @@ pub fn crash_model(lists: usize) -> Outcome {
             stages += check_stages(&held, &orders, &module)?;
         }
     }
-    Ok(format!("{cuts} cuts, {stages} permitted line contents as the sentence says"))
+    Ok(Found::new(format!("{cuts} cuts, {stages} permitted line contents as the rule says"), &[]))
 }
 
 fn check_stages(held: &[u8], orders: &[Order], module: &Module) -> Result<usize, String> {
-    let lines: Vec<_> = (0..held.len() / LINE).map(|line| permitted(held, orders, line)).collect();
+    let mut lines: Vec<_> = (0..held.len() / LINE).map(|line| permitted(held, orders, line)).collect();
+    due("ways", module.cut().ways(), lines.iter().map(|line| line.len() as u128).product())?;
+    for line in &mut lines {
+        line.sort();
+        line.dedup();
+    }
     let expected: usize = lines.iter().map(Vec::len).product();
     let cut = module.cut();
     due("permitted images", cut.count(), expected as u128)?;
@@ -194,37 +198,48 @@ fn starts(sizes: Sizes, data: &[u8]) -> Vec<Vec<u8>> {
     images
 }
 
-fn counted<C: Calls>(explorer: &Explorer<C>, total: &mut Counts) -> usize {
-    total.calls += explorer.counts.calls;
-    total.cuts += explorer.counts.cuts;
-    total.images += explorer.counts.images;
-    total.openings += explorer.counts.openings;
-    explorer.distinct()
+fn add(total: &mut Counts, counts: Counts) {
+    total.histories += counts.histories;
+    total.calls += counts.calls;
+    total.cuts += counts.cuts;
+    total.images += counts.images;
+    total.ways = total.ways.saturating_add(counts.ways);
+    total.distinct += counts.distinct;
+    total.openings += counts.openings;
 }
 
-fn told(counts: Counts, distinct: usize) -> String {
-    let Counts { calls, cuts, images, openings } = counts;
-    format!("{calls} calls, {cuts} cuts, {images} images ({distinct} distinct), {openings} finished openings")
+/// What a group found, with its part of the closing line.
+fn found(text: impl Into<String>, counts: Counts) -> Found {
+    let Counts { histories, calls, images, .. } = counts;
+    Found::new(text, &[("histories", histories), ("calls of histories", calls), ("images", images)])
+}
+
+/// What a group that looks at every image found.
+fn all_found(counts: Counts) -> Found {
+    let Counts { histories, calls, cuts, images, ways, distinct, openings } = counts;
+    let history = format!("{histories} histories, {calls} calls, {cuts} cuts");
+    found(format!("{history}, {images} images left in {ways} ways, {distinct} distinct, {openings} finished openings"), counts)
 }
 
 /// Every permitted image of single calls with one frame a level, all words of
 /// levels and spares different: each call alone, and a save after each write.
 pub fn single_calls<C: Calls>(calls: &C) -> Outcome {
     let sizes = Sizes::new(1, 1, 1);
-    let (mut total, mut distinct) = (Counts::default(), 0);
+    let mut total = Counts::default();
     for image in starts(sizes, &arbitrary::distinct_data(sizes)) {
         let mut explorer = Explorer::new(calls, sizes, 4);
         let start = explorer.start(&image, Plan::ALL)?;
         explorer.step(&mut start.clone(), &plain(Deed::Open(sizes), sizes), Plan::ALL)?;
         explorer.step(&mut start.clone(), &plain(Deed::Save, sizes), Plan::ALL)?;
-        for (offset, length) in [(0, 8), (60, 8), (0, 64), (32, 64)] {
+        let spans = [(0, 8), (60, 8), (0, 64), (32, 64)];
+        for (offset, length) in spans {
             let mut history = start.clone();
             explorer.step(&mut history, &write_call(sizes, 0, offset, length, 0x90), Plan::ALL)?;
             explorer.step(&mut history, &plain(Deed::Save, sizes), Plan::ALL)?;
         }
-        distinct += counted(&explorer, &mut total);
+        add(&mut total, Counts { histories: 2 + spans.len() as u64, ..explorer.counts() });
     }
-    Ok(told(total, distinct))
+    Ok(all_found(total))
 }
 
 /// The calls of short histories: openings (one refused), writes to one and to
@@ -243,43 +258,45 @@ fn alphabet(sizes: Sizes, depth: usize) -> Vec<Call> {
     calls
 }
 
+/// Runs every history that goes on from this one, and says how many there are.
 fn descend<C: Calls>(
     explorer: &mut Explorer<C>,
     sizes: Sizes,
     history: &History,
     path: &mut Vec<Call>,
     depth: usize,
-) -> Result<(), String> {
+) -> Result<u64, String> {
     if path.len() == depth {
-        return Ok(());
+        return Ok(1);
     }
+    let mut histories = 0;
     for call in alphabet(sizes, path.len()) {
         let mut next = history.clone();
         let step = explorer.step(&mut next, &call, Plan::ALL);
         path.push(call);
         step.map_err(|what| told_after(&path[..path.len() - 1], what))?;
-        descend(explorer, sizes, &next, path, depth)?;
+        histories += descend(explorer, sizes, &next, path, depth)?;
         path.pop();
     }
-    Ok(())
+    Ok(histories)
 }
 
 fn told_after(path: &[Call], what: String) -> String {
     path.iter().map(|call| format!("{call}; ")).chain([what]).collect()
 }
 
-/// Every history of up to `depth` calls from the alphabet, from every start
-/// image, at every cut, over every permitted image.
+/// Every history of `depth` calls from the alphabet, and with it each shorter
+/// one, from every start image, at every cut, over every permitted image.
 pub fn short_histories<C: Calls>(calls: &C, sizes: Sizes, depth: usize) -> Outcome {
-    let (mut total, mut distinct) = (Counts::default(), 0);
+    let mut total = Counts::default();
     for image in starts(sizes, &arbitrary::sparse_data(sizes)) {
         let mut explorer = Explorer::new(calls, sizes, 5);
         let tell = |what| format!("sizes {sizes}, {}: {what}", metadata_of(&image, sizes));
         let start = explorer.start(&image, Plan::ALL).map_err(tell)?;
-        descend(&mut explorer, sizes, &start, &mut Vec::new(), depth).map_err(tell)?;
-        distinct += counted(&explorer, &mut total);
+        let histories = descend(&mut explorer, sizes, &start, &mut Vec::new(), depth).map_err(tell)?;
+        add(&mut total, Counts { histories, ..explorer.counts() });
     }
-    Ok(told(total, distinct))
+    Ok(all_found(total))
 }
 
 fn metadata_of(image: &[u8], sizes: Sizes) -> String {
@@ -317,13 +334,13 @@ pub fn random_histories<C: Calls>(calls: &C, random: Random) -> Outcome {
             let call = arbitrary::call(&mut rng, sizes);
             explorer.step(&mut history, &call, random.plan).map_err(tell)?;
         }
-        counted(&explorer, &mut total);
+        add(&mut total, Counts { histories: 1, ..explorer.counts() });
     }
-    let Counts { calls, cuts, images, openings } = total;
-    Ok(format!(
-        "{} histories, {calls} calls, {cuts} cuts, {images} images, {openings} finished openings",
-        random.histories
-    ))
+    let Counts { histories, calls, cuts, images, openings, .. } = total;
+    let text = format!(
+        "{histories} histories, {calls} calls, {cuts} cuts, {images} images, {openings} finished openings"
+    );
+    Ok(found(text, total))
 }
 
 /// Every call with any contents: images sound and damaged, cards true and

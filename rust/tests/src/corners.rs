@@ -1,5 +1,4 @@
-//! Corner sheets with the output that document 01 and the recorded decisions
-//! ask for, written by hand.
+//! Corner sheets with the output that section 16 asks for, written by hand.
 //!
 //! `selftest` holds `sheet` against them, `sheets` the sheet program.
 
@@ -36,7 +35,7 @@ fn group(level: &str, frame: &str, at: &str, bytes: &str, save: &str) -> String 
     format!("level={level}\nframe={frame}\nat={at}\nbytes={bytes}\nsave={save}\n")
 }
 
-/// Good sheets: the paper's own, refused calls, spares left out.
+/// Good sheets: the specification's own, refused calls, spares left out.
 fn whole_outputs() -> Vec<Corner> {
     let word = "0102030405060708";
     let step = |n: u32, rest: &str| format!("step={n} {rest}\n");

@@ -1,16 +1,15 @@
-//! Reference implementation of every call of document 01 over plain slices.
+//! Reference implementation of every call over plain slices.
 //!
-//! Written from document 01 alone. The metadata are read into a `Board` whose
-//! levels are an enum, so that an unsound image cannot be represented; a call
-//! first makes its whole list of orders and the next card, and only then
-//! touches the tape, so that a refusal changes nothing. Checked against the
-//! bench cases P1 to P10 (`groups`) and, by the explorer, against demand 3;
-//! the library is checked against it.
+//! Written from sections 2 to 6 and 9 to 14. The metadata are read into a
+//! `Board` whose levels are an enum, so that an unsound image cannot be
+//! represented; a call first makes its whole list of orders and the next card,
+//! and only then touches the tape, so that a refusal changes nothing. Checked
+//! against the bench cases P1 to P10 of section 17 (`groups`) and, by the
+//! explorer, against demand 3 (section 15); the library is checked against it.
 
 use crate::calls::*;
-use std::collections::BTreeMap;
 
-/// Document 01's refusals by number.
+/// Section 14's refusals by number.
 #[derive(Clone, Copy, PartialEq, Eq, Debug)]
 pub enum Refusal {
     Size = 1,
@@ -27,7 +26,7 @@ pub enum Refusal {
     TapeBad = 12,
 }
 
-/// Document 01's faults that a reader could mistake for good work.
+/// Section 18's faults, which a reader could mistake for good work.
 #[derive(Clone, Copy, PartialEq, Eq, Debug)]
 pub enum Fault {
     StateBeforeFence,
@@ -36,7 +35,7 @@ pub enum Fault {
     FreeByIdleLine,
 }
 
-/// Which free spare a write takes; document 01 leaves it open.
+/// Which free spare a write takes; section 10 leaves it open.
 #[derive(Clone, Copy, PartialEq, Eq, Debug)]
 pub enum Choice {
     LowestUnpairedElseLowest,
@@ -117,19 +116,19 @@ impl Board {
         if states[levels..].iter().any(|s| *s != 0) || pairs[spares..].iter().any(|p| *p != UNPAIRED) {
             return None;
         }
-        let mut spare_of = BTreeMap::new();
+        let mut spare_of = vec![None; levels];
         let mut owners = vec![None; spares];
         for (spare, &level) in pairs[..spares].iter().enumerate() {
             if level == UNPAIRED {
                 continue;
             }
             let level = level as usize;
-            if level >= levels || spare_of.insert(level, spare).is_some() {
+            if level >= levels || spare_of[level].replace(spare).is_some() {
                 return None;
             }
             owners[spare] = Some(level);
         }
-        let read = |level| match (states[level], spare_of.get(&level).copied()) {
+        let read = |level: usize| match (states[level], spare_of[level]) {
             (0, None) => Some(Level::Empty),
             (1, spare) => Some(Level::Own { spare }),
             (2, Some(spare)) => Some(Level::InSpare { spare }),

@@ -1,11 +1,11 @@
-//! The cut model of document 01.
+//! The cut model (section 7).
 //!
-//! Written from document 01 alone: "Each line, on its own, then holds its
-//! bytes after some first part of those stores to it, containing at least
-//! every store before a flush of that line that a later fence followed, both
-//! played." `Module` keeps, line by line, the stages that are still permitted,
-//! and is fed one order after the other; `permitted` is the same sentence read
-//! off a finished list of orders. `groups` checks the two against each other.
+//! The rule: after a cut each line, on its own, holds its bytes after some first
+//! part of the stores to it, and that part has at least every store before a
+//! flush of the line that a later fence followed. `Module` keeps, line by line,
+//! the stages that are still permitted, and is fed one order after the other;
+//! `permitted` is the same rule read off a finished list of orders. `groups`
+//! checks the two against each other.
 
 use crate::calls::{Order, LINE, WORD};
 use crate::prng::{mix, Rng};
@@ -39,12 +39,16 @@ impl Stage {
     }
 }
 
-/// A line that was stored to: its permitted stages, the oldest first.
+/// A line that was stored to: its permitted stages, the oldest first. A store
+/// of what was there already is counted and makes no stage here.
 #[derive(Clone)]
 struct Waiting {
     stages: Vec<Stage>,
-    /// The stage that stood at the last flush not yet followed by a fence.
-    flushed: Option<usize>,
+    /// Stores since the oldest stage.
+    stores: usize,
+    /// The stage that stood at the last flush not yet followed by a fence, and
+    /// the stores up to it.
+    flushed: Option<(usize, usize)>,
 }
 
 /// The module behind its cache: what each line may hold after a cut now.
@@ -75,16 +79,17 @@ impl Module {
             Order::Store { place, word } => self.store(place / LINE, place % LINE, word),
             Order::Flush { place } => {
                 if let Some(waiting) = self.lines.get_mut(&(place / LINE)) {
-                    waiting.flushed = Some(waiting.stages.len() - 1);
+                    waiting.flushed = Some((waiting.stages.len() - 1, waiting.stores));
                 }
             }
             Order::Fence => {
                 for waiting in self.lines.values_mut() {
-                    if let Some(floor) = waiting.flushed.take() {
+                    if let Some((floor, stores)) = waiting.flushed.take() {
                         waiting.stages.drain(..floor);
+                        waiting.stores -= stores;
                     }
                 }
-                self.lines.retain(|_, waiting| waiting.stages.len() > 1);
+                self.lines.retain(|_, waiting| waiting.stores > 0);
             }
         }
     }
@@ -92,7 +97,9 @@ impl Module {
     fn store(&mut self, line: usize, offset: usize, word: u64) {
         let bytes = &mut self.newest[line * LINE..][..LINE];
         let held = || vec![Stage::new(line, (&*bytes).try_into().expect("a whole line"))];
-        let waiting = self.lines.entry(line).or_insert_with(|| Waiting { stages: held(), flushed: None });
+        let empty = || Waiting { stages: held(), stores: 0, flushed: None };
+        let waiting = self.lines.entry(line).or_insert_with(empty);
+        waiting.stores += 1;
         let old = *waiting.stages.last().expect("a line has a stage");
         let new = old.stored(line, offset, word);
         if new != old {
@@ -122,7 +129,8 @@ impl Module {
             }
         }
         let oldest = lines.iter().map(|(line, _)| self.oldest_of(*line)).collect();
-        Cut { newest: &self.newest, fixed: hash, lines, oldest }
+        let ways = self.lines.iter().map(|(&line, waiting)| (line, waiting.stores as u128 + 1)).collect();
+        Cut { newest: &self.newest, fixed: hash, lines, oldest, ways }
     }
 
     /// The bytes that this line holds at its oldest permitted stage.
@@ -138,6 +146,8 @@ pub struct Cut<'a> {
     fixed: u128,
     lines: Vec<(usize, Vec<Stage>)>,
     oldest: Vec<LineBytes>,
+    /// For each line how many first parts of its stores may have reached it.
+    ways: Vec<(usize, u128)>,
 }
 
 impl Cut<'_> {
@@ -146,12 +156,20 @@ impl Cut<'_> {
         self.lines.iter().fold(1u128, |n, (_, stages)| n.saturating_mul(stages.len() as u128))
     }
 
+    /// In how many ways they are left: one for each choice of a first part of
+    /// the stores to every line. Ways that differ in stores of what was there
+    /// already, or in stores undone by later ones, leave the same image.
+    pub fn ways(&self) -> u128 {
+        self.ways.iter().fold(1u128, |n, (_, ways)| n.saturating_mul(*ways))
+    }
+
     /// Only the images in which this line holds its newest stage. After a store
     /// to the line these are the ones that were not permitted before it.
     pub fn with_newest(mut self, line: usize) -> Self {
         if let Some((_, stages)) = self.lines.iter_mut().find(|(at, _)| *at == line) {
             stages.drain(..stages.len() - 1);
         }
+        self.ways.retain(|(at, _)| *at != line);
         self
     }
 
@@ -202,8 +220,8 @@ impl Cut<'_> {
     }
 }
 
-/// Document 01's sentence read off a list of orders played since `held`: what
-/// one line may hold, each contents once.
+/// The rule read off a list of orders played since `held`: what one line may
+/// hold, once for each first part of the stores to it, in their order.
 pub fn permitted(held: &[u8], orders: &[Order], line: usize) -> Vec<LineBytes> {
     let of_line = |place: usize| place / LINE == line;
     let stores_before = |end: usize| {
@@ -226,8 +244,5 @@ pub fn permitted(held: &[u8], orders: &[Order], line: usize) -> Vec<LineBytes> {
             }
         }
     }
-    let mut kept = all.split_off(floor);
-    kept.sort();
-    kept.dedup();
-    kept
+    all.split_off(floor)
 }

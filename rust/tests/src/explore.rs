@@ -1,16 +1,25 @@
-//! The explorer: demand 3 over a history, for every cut in it.
+//! The explorer: demand 3 (section 15) over a history, for every cut in it.
 //!
-//! Written from document 01 alone. It runs over any implementation of the
-//! calls. A history threads one image, one card, one book and the module
-//! behind its cache; at a cut every permitted image (or the extreme ones and
-//! samples) is opened again, also after openings that were themselves cut, and
-//! the first opening that finishes must be served and show a permitted page.
-//! The faults of document 01 are caught by it (`selftest`).
+//! It runs over any implementation of the calls. A history (section 8) threads
+//! one image, one card, one book and the module behind its cache; at a cut
+//! (section 7) every permitted image (or the extreme ones and samples) is
+//! opened again, also after openings that were themselves cut, and the first
+//! opening that finishes must be served and show a permitted page. The faults
+//! of section 18 are caught by it (`selftest`).
 //!
 //! With `Images::All` chains of cut openings of any length are covered: every
 //! image that stands after a cut opening is explored in its turn, until no new
 //! one is found. All of them must show the same page, which is a little more
-//! than document 01 asks while either page may be shown.
+//! than the demand asks while either page may be shown.
+//!
+//! What is counted of a cut: each line that waits holds its bytes after some
+//! first part of its stores, a stage. A choice of one stage for every line is a
+//! *way* for the cut to fall. An *image* is what then stands: two ways leave the
+//! same image where a line has the same bytes at two stages, as after a store of
+//! what was there already. The explorer goes through the images, each once a
+//! cut; the ways are only counted. Different cuts can leave the same image: over
+//! a history the *distinct* images are fewer than the images, and only these are
+//! opened again.
 
 use crate::book::*;
 use crate::calls::*;
@@ -41,15 +50,26 @@ impl Plan {
     pub const ALL: Plan = Plan { images: Images::All { cap: 1 << 20 }, every_cut_up_to: usize::MAX };
 }
 
+/// What was looked at; `LEGEND` says it for those who read the lines.
 #[derive(Clone, Copy, Default, Debug)]
 pub struct Counts {
+    pub histories: u64,
     pub calls: u64,
     pub cuts: u64,
     /// Images looked at, cut by cut.
     pub images: u64,
+    /// The ways to leave them (with `Images::All`).
+    pub ways: u128,
+    /// Different images opened again (with `Images::All`).
+    pub distinct: u64,
     /// Openings that finished, each checked by both reads.
     pub openings: u64,
 }
+
+/// What the counts mean.
+pub const LEGEND: &str = "images: contents that a cut can leave, those looked at, each once a cut
+ways: choices of how many of its waiting stores reached each line; several ways can leave the same image
+distinct: images that differ, over all cuts; each is opened again once";
 
 /// A history in progress: what stands, the card last answered, the book.
 #[derive(Clone)]
@@ -75,7 +95,7 @@ pub struct Explorer<'a, C: Calls> {
     known: HashMap<u128, usize, BuildHasherDefault<AlreadyHashed>>,
     pages: Vec<Vec<u8>>,
     tape: Vec<u64>,
-    pub counts: Counts,
+    counts: Counts,
 }
 
 /// The keys are hashes already.
@@ -113,9 +133,9 @@ impl<'a, C: Calls> Explorer<'a, C> {
         }
     }
 
-    /// Distinct images opened again so far (with `Images::All`).
-    pub fn distinct(&self) -> usize {
-        self.known.len()
+    /// What was looked at so far.
+    pub fn counts(&self) -> Counts {
+        Counts { distinct: self.known.len() as u64, ..self.counts }
     }
 
     /// The number under which this page is known.
@@ -202,7 +222,7 @@ impl<'a, C: Calls> Explorer<'a, C> {
         let near_fence = || orders[p.saturating_sub(2)..orders.len().min(p + 1)].contains(&Order::Fence);
         let all = orders.len() <= plan.every_cut_up_to;
         let at_an_end = p <= 2 || p == orders.len();
-        all || at_an_end || near_fence() || self.rng.once_in(orders.len() / 8)
+        all || at_an_end || near_fence() || self.rng.once_in(orders.len().div_ceil(8))
     }
 
     /// The player gets the orders' part of the tape and plays `p` of them.
@@ -244,6 +264,7 @@ impl<'a, C: Calls> Explorer<'a, C> {
         if cut.count() > cap {
             return Err(format!("{} images are more than the cap", cut.count()));
         }
+        self.counts.ways = self.counts.ways.saturating_add(cut.ways());
         let mut shown = BTreeSet::new();
         cut.for_all(|hash, image| {
             self.counts.images += 1;
@@ -312,7 +333,9 @@ impl<'a, C: Calls> Explorer<'a, C> {
                 module.play(order);
                 self.counts.cuts += 1;
                 let Order::Store { place, .. } = order else { continue };
-                module.cut().with_newest(place / LINE).for_all(|hash, stands| {
+                let cut = module.cut().with_newest(place / LINE);
+                self.counts.ways = self.counts.ways.saturating_add(cut.ways());
+                cut.for_all(|hash, stands| {
                     self.counts.images += 1;
                     if !self.known.contains_key(&hash) {
                         let stands = stands();

@@ -1,9 +1,8 @@
-//! The book of document 01: what a history is compared with.
+//! The book (section 8): what a history is compared with.
 //!
-//! Written from document 01 alone. The book is fed each call's arguments
-//! without image, card and tape, and of the answer only whether it was served.
-//! `pages_read` is what the two reads of the implementation under test give;
-//! the explorer compares the two.
+//! The book is fed each call's arguments without image, card and tape, and of
+//! the answer only whether it was served. `pages_read` is what the two reads of
+//! the implementation under test give; the explorer compares the two.
 
 use crate::calls::*;
 use std::fmt;

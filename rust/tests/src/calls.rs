@@ -1,9 +1,9 @@
-//! The calls of document 01 as an interface, with the layout, the card and the
-//! orders that they speak of.
+//! The calls as an interface, with the layout (sections 1 and 2), the card
+//! (section 5) and the orders (section 6) that they speak of.
 //!
-//! Written from document 01 alone. `Reference`, `Fast` and, through the C
-//! interface, the proved library all stand behind `Calls`, so that the same
-//! explorer and the same comparisons run over each of them.
+//! `Reference`, `Fast` and, through the C interface, the proved library all
+//! stand behind `Calls`, so that the same explorer and the same comparisons run
+//! over each of them.
 
 use std::fmt;
 
@@ -61,11 +61,19 @@ impl Sizes {
         3 * (36 * (self.levels * self.frames) as usize + 1)
     }
 
+    /// A tape of this many numbers is long enough for every write.
+    pub fn write_room(self) -> usize {
+        3 * (36 * self.frames as usize + 6 + FRAME / WORD)
+    }
+
+    /// A tape of this many numbers is long enough for every save.
+    pub fn save_room(self) -> usize {
+        3 * (4 * (self.levels * self.frames) as usize + 14)
+    }
+
     /// A tape of this many numbers is long enough for every call.
     pub fn room(self) -> usize {
-        let write = 36 * self.frames as usize + 6 + 32;
-        let save = 4 * (self.levels * self.frames) as usize + 14;
-        self.opening_room().max(3 * write).max(3 * save)
+        self.opening_room().max(self.write_room()).max(self.save_room())
     }
 }
 
@@ -83,8 +91,6 @@ pub struct Card {
     pub marks: [u64; 64],
 }
 
-pub const CARD_WORDS: usize = 68;
-
 impl Card {
     /// A card of these sizes with no bits set; of sizes 0, the card of zeros.
     pub const fn fresh(sizes: Sizes) -> Card {
@@ -93,20 +99,6 @@ impl Card {
 
     pub const fn zeros() -> Card {
         Card::fresh(Sizes::new(0, 0, 0))
-    }
-
-    pub fn to_words(&self) -> [u64; CARD_WORDS] {
-        let mut words = [0; CARD_WORDS];
-        let Sizes { levels, spares, frames } = self.sizes;
-        words[..4].copy_from_slice(&[levels, spares, frames, self.touched]);
-        words[4..].copy_from_slice(&self.marks);
-        words
-    }
-
-    pub fn from_words(words: &[u64; CARD_WORDS]) -> Card {
-        let mut marks = [0; 64];
-        marks.copy_from_slice(&words[4..]);
-        Card { sizes: Sizes::new(words[0], words[1], words[2]), touched: words[3], marks }
     }
 }
 
@@ -157,7 +149,7 @@ pub fn orders_of(tape: &[u64], length: usize) -> Option<Vec<Order>> {
     tape.chunks(3).map(|numbers| Order::from_numbers(numbers, length)).collect()
 }
 
-/// A number of document 01's list (0 served) and the orders, written or played.
+/// A number of section 14's list (0 served) and the orders, written or played.
 #[derive(Clone, Copy, PartialEq, Eq, Debug)]
 pub struct Answer {
     pub number: u64,
@@ -193,7 +185,7 @@ pub enum Page {
     Saved,
 }
 
-/// The calls of document 01.
+/// The calls of sections 4, 6 and 9 to 13.
 pub trait Calls {
     fn lay_out(&self, image: &mut [u8], sizes: Sizes) -> u64;
     fn open(&self, image: &[u8], sizes: Sizes, card: &mut Card, tape: &mut [u64]) -> Answer;

@@ -1,8 +1,8 @@
 //! Images, cards, tapes and calls of every kind, made from a fixed seed.
 //!
-//! Written from document 01 alone. Sound images have any states, pairs and
-//! epochs and rubbish in every byte that is not named; damage of each kind of
-//! refusal is put on top. Nothing here calls an implementation.
+//! Sound images (section 3) have any states, pairs and epochs and rubbish in
+//! every byte that is not named; damage of each kind of refusal is put on top.
+//! Nothing here calls an implementation.
 
 use crate::book::{saved_bytes, Call, Deed};
 use crate::calls::*;

@@ -1,0 +1,314 @@
+//! Checkpoints in non-volatile memory that no power cut divides.
+//!
+//! Non-volatile memory stands behind a processor cache. When power fails, the
+//! cache may have written back any of the lines that were waiting, so an update
+//! in place can leave any mixture of old and new. This library, which is proved
+//! in Rattle, keeps a checkpoint whole through every such cut; this crate is its
+//! C interface (`include/crpm.h`) for Rust: the same eight calls by the same
+//! names, in the same order of parameters.
+//!
+//! An *image* is the contents of the module's memory. A call reads it and
+//! writes what is to be done to it on a *trace* that the caller lends: stores,
+//! write-backs and fences. The caller carries these [`Ops`] out, all of them
+//! and in their order, before the next call. Only [`format()`] and [`replay`]
+//! change an image.
+//!
+//! ```
+//! use crpm::{Layout, Op, Ops, Refusal};
+//!
+//! fn main() -> Result<(), Refusal> {
+//!     let layout = Layout::new(2, 1, 1)?; // main segments, backup segments, blocks
+//!     let mut image = vec![0; layout.image_size()]; // stands for the module's memory
+//!     let mut trace = vec![0; layout.trace_length()];
+//!     crpm::format(&mut image, layout)?; // on a module: flush every line, then fence
+//!
+//!     let (mut session, ops) = crpm::open(&image, layout, &mut trace)?;
+//!     carry_out(&mut image, ops);
+//!     let ops = crpm::write(&image, &mut session, 0, 0, 6, b"oboe", &mut trace)?;
+//!     carry_out(&mut image, ops);
+//!     let ops = crpm::checkpoint(&image, &mut session, &mut trace)?;
+//!     carry_out(&mut image, ops);
+//!
+//!     let block = crpm::read_checkpoint(&image, layout, 0, 0)?.expect("it was written to");
+//!     assert_eq!(&block[6..10], b"oboe");
+//!     Ok(())
+//! }
+//!
+//! /// On memory without a cache before it. On a module `Clwb` and `Sfence` are
+//! /// the processor's instructions.
+//! fn carry_out(image: &mut [u8], ops: Ops) {
+//!     for op in ops {
+//!         match op {
+//!             Op::Store { place, word } => image[place..][..8].copy_from_slice(&word.to_le_bytes()),
+//!             Op::Clwb { .. } | Op::Sfence => {}
+//!         }
+//!     }
+//! }
+//! ```
+//!
+//! # What every caller must know
+//!
+//! - After [`format()`] on a module, flush every line of the image and fence
+//!   before the first opening. A format whose lines never reached the module
+//!   can lose every later checkpoint.
+//! - A [`Session`] belongs to the image that it was opened on, until the next
+//!   opening of that image. It cannot be copied, and it ends with the process:
+//!   after a restart, open. [`Refusal::BadSession`] does not catch every wrong
+//!   one, and a wrong one that is served can turn the checkpoint to old bytes.
+//! - Byte 0 of the image stands at an address divisible by 64, and the
+//!   processor's cache line is 64 bytes. Each store of a trace is one aligned
+//!   8-byte store.
+//! - One image, one writer: nothing else stores into it.
+//!
+//! # Building
+//!
+//! The library is linked in: `target/staticlib/libcapi.a` of this repository
+//! (`rt staticlib capi` writes it), or the file that the environment variable
+//! `CRPM_LIBRARY` names, such as an installed `libcrpm.a`.
+
+#![no_std]
+#![deny(missing_docs)]
+
+pub mod ffi;
+mod layout;
+mod refusal;
+mod trace;
+
+pub use layout::*;
+pub use refusal::Refusal;
+pub use trace::*;
+
+/// The version of the interface.
+pub const VERSION: &str = env!("CARGO_PKG_VERSION");
+
+/// What is known of an image since it was opened: which main segments and
+/// blocks were written to.
+///
+/// [`open`] makes it, [`write()`] and [`checkpoint`] take it and change it; a
+/// refused call leaves it as it was. It has the layout of `struct
+/// crpm_session`, so that a pointer to one of C can be cast.
+#[derive(PartialEq, Eq, Debug)]
+#[repr(transparent)]
+pub struct Session(ffi::Session);
+
+impl Session {
+    /// Its words.
+    pub const fn words(&self) -> &ffi::Session {
+        &self.0
+    }
+}
+
+/// The library returns no other numbers than 0 and those of the refusals.
+fn served(status: u64) -> Result<(), Refusal> {
+    match status {
+        0 => Ok(()),
+        number => Err(Refusal::ALL[number as usize - 1]),
+    }
+}
+
+/// Formats an image: epoch 0, these sizes, every state 0, no backup segment
+/// paired, every segment zero. Whatever was there is lost.
+///
+/// A format is not safe against a power cut: format again after one.
+///
+/// # Errors
+///
+/// [`Refusal::BadLength`].
+pub fn format(image: &mut [u8], layout: Layout) -> Result<(), Refusal> {
+    // SAFETY: the slice is valid for its length and not shared.
+    served(unsafe {
+        ffi::crpm_format(
+            image.as_mut_ptr(),
+            image.len(),
+            layout.mains() as u64,
+            layout.backups() as u64,
+            layout.blocks() as u64,
+        )
+    })
+}
+
+/// Opens an image, which recovers: once its operations are carried out, the
+/// working bytes are those of the last checkpoint.
+///
+/// # Errors
+///
+/// [`Refusal::BadLength`] to [`Refusal::Invalid`], [`Refusal::TraceShort`].
+pub fn open<'t>(image: &[u8], layout: Layout, trace: &'t mut [u64]) -> Result<(Session, Ops<'t>), Refusal> {
+    let (mut session, mut ops) = (ffi::Session::ZEROS, 0);
+    // SAFETY: each slice is valid for its length, each reference for what it
+    // points to; what is lent for change is not shared.
+    served(unsafe {
+        ffi::crpm_open(
+            image.as_ptr(),
+            image.len(),
+            layout.mains() as u64,
+            layout.backups() as u64,
+            layout.blocks() as u64,
+            &mut session,
+            trace.as_mut_ptr(),
+            trace.len(),
+            &mut ops,
+        )
+    })?;
+    Ok((Session(session), Ops::first(trace, ops)))
+}
+
+/// Writes bytes to a block of a main segment, from an offset on.
+///
+/// # Errors
+///
+/// [`Refusal::BadLength`] to [`Refusal::NoFreeBackup`], [`Refusal::TraceShort`].
+pub fn write<'t>(
+    image: &[u8],
+    session: &mut Session,
+    main: usize,
+    block: usize,
+    offset: usize,
+    bytes: &[u8],
+    trace: &'t mut [u64],
+) -> Result<Ops<'t>, Refusal> {
+    let mut ops = 0;
+    // SAFETY: as in `open`.
+    served(unsafe {
+        ffi::crpm_write(
+            image.as_ptr(),
+            image.len(),
+            &mut session.0,
+            main as u64,
+            block as u64,
+            offset as u64,
+            bytes.as_ptr(),
+            bytes.len(),
+            trace.as_mut_ptr(),
+            trace.len(),
+            &mut ops,
+        )
+    })?;
+    Ok(Ops::first(trace, ops))
+}
+
+/// Makes the working bytes the checkpoint, in one step: a power cut shows the
+/// old checkpoint or the new one, whole.
+///
+/// # Errors
+///
+/// [`Refusal::BadLength`] to [`Refusal::BadSession`], [`Refusal::EpochLimit`],
+/// [`Refusal::TraceShort`].
+pub fn checkpoint<'t>(image: &[u8], session: &mut Session, trace: &'t mut [u64]) -> Result<Ops<'t>, Refusal> {
+    let mut ops = 0;
+    // SAFETY: as in `open`.
+    served(unsafe {
+        ffi::crpm_checkpoint(
+            image.as_ptr(),
+            image.len(),
+            &mut session.0,
+            trace.as_mut_ptr(),
+            trace.len(),
+            &mut ops,
+        )
+    })?;
+    Ok(Ops::first(trace, ops))
+}
+
+/// Carries out the stores among the first `n` operations of a trace, or among
+/// all if there are fewer, and says how many operations were played.
+///
+/// It flushes nothing and waits for nothing: it is for benches, dumps and
+/// simulation. The trace is [`Ops`], or numbers that are operations and
+/// nothing more.
+///
+/// # Errors
+///
+/// [`Refusal::BadLength`], [`Refusal::TraceBad`].
+pub fn replay(image: &mut [u8], trace: impl AsRef<[u64]>, n: usize) -> Result<usize, Refusal> {
+    let (trace, mut played) = (trace.as_ref(), 0);
+    // SAFETY: as in `open`.
+    served(unsafe {
+        ffi::crpm_replay(image.as_mut_ptr(), image.len(), trace.as_ptr(), trace.len(), n as u64, &mut played)
+    })?;
+    Ok(played as usize)
+}
+
+/// A block as it stands now: that part of the image.
+///
+/// # Errors
+///
+/// [`Refusal::BadLength`] to [`Refusal::Invalid`], [`Refusal::NoSuchMain`],
+/// [`Refusal::NoSuchBlock`].
+pub fn read_working(
+    image: &[u8],
+    layout: Layout,
+    main: usize,
+    block: usize,
+) -> Result<&[u8; BLOCK_SIZE], Refusal> {
+    let part = read(ffi::crpm_read_working, image, layout, main, block)?;
+    Ok(part.expect("a working block has bytes"))
+}
+
+/// A block as of the last checkpoint: that part of the image, or none if no
+/// checkpoint has bytes of this main segment: they are then all zero.
+///
+/// # Errors
+///
+/// [`Refusal::BadLength`] to [`Refusal::Invalid`], [`Refusal::NoSuchMain`],
+/// [`Refusal::NoSuchBlock`].
+pub fn read_checkpoint(
+    image: &[u8],
+    layout: Layout,
+    main: usize,
+    block: usize,
+) -> Result<Option<&[u8; BLOCK_SIZE]>, Refusal> {
+    read(ffi::crpm_read_checkpoint, image, layout, main, block)
+}
+
+type Read = unsafe extern "C" fn(*const u8, usize, u64, u64, u64, u64, u64, *mut u64, *mut u64) -> u64;
+
+/// The part of the image that a read finds; none if its size is 0.
+fn read(
+    call: Read,
+    image: &[u8],
+    layout: Layout,
+    main: usize,
+    block: usize,
+) -> Result<Option<&[u8; BLOCK_SIZE]>, Refusal> {
+    let (mut start, mut size) = (0, 0);
+    // SAFETY: as in `open`.
+    served(unsafe {
+        call(
+            image.as_ptr(),
+            image.len(),
+            layout.mains() as u64,
+            layout.backups() as u64,
+            layout.blocks() as u64,
+            main as u64,
+            block as u64,
+            &mut start,
+            &mut size,
+        )
+    })?;
+    Ok(image[start as usize..][..size as usize].first_chunk())
+}
+
+/// Whether two images of this layout have the same checkpoint. A refusal of
+/// the first image comes before one of the second.
+///
+/// # Errors
+///
+/// [`Refusal::BadLength`] to [`Refusal::Invalid`].
+pub fn same_checkpoint(a: &[u8], b: &[u8], layout: Layout) -> Result<bool, Refusal> {
+    let mut same = 0;
+    // SAFETY: as in `open`.
+    served(unsafe {
+        ffi::crpm_same_checkpoint(
+            a.as_ptr(),
+            a.len(),
+            b.as_ptr(),
+            b.len(),
+            layout.mains() as u64,
+            layout.backups() as u64,
+            layout.blocks() as u64,
+            &mut same,
+        )
+    })?;
+    Ok(same == 1)
+}

@@ -1,0 +1,80 @@
+//! Why a call was not served.
+
+use core::error::Error;
+use core::fmt;
+
+/// Why a call was not served: the lowest number that applies. A refused call
+/// changes nothing.
+#[derive(Clone, Copy, PartialEq, Eq, Hash, Debug)]
+#[repr(u64)]
+pub enum Refusal {
+    /// A size is not 1 to 64.
+    BadSize = 1,
+    /// The image has another length (replay: not divisible by 64).
+    BadLength = 2,
+    /// The image holds other sizes.
+    Foreign = 3,
+    /// States and pairs of the image do not fit one another.
+    Invalid = 4,
+    /// The session does not fit the image.
+    BadSession = 5,
+    /// There is no such main segment.
+    NoSuchMain = 6,
+    /// There is no such block.
+    NoSuchBlock = 7,
+    /// No bytes to write, or offset and length leave the block.
+    BadSpan = 8,
+    /// A write needs a new backup segment, and none is free.
+    NoFreeBackup = 9,
+    /// A checkpoint at epoch 2^64 - 1.
+    EpochLimit = 10,
+    /// The trace is too short for the operations.
+    TraceShort = 11,
+    /// Replay: the length is not divisible by 3, or an operation is ill formed.
+    TraceBad = 12,
+}
+
+impl Refusal {
+    /// All of them, by their numbers.
+    pub const ALL: [Refusal; 12] = [
+        Refusal::BadSize,
+        Refusal::BadLength,
+        Refusal::Foreign,
+        Refusal::Invalid,
+        Refusal::BadSession,
+        Refusal::NoSuchMain,
+        Refusal::NoSuchBlock,
+        Refusal::BadSpan,
+        Refusal::NoFreeBackup,
+        Refusal::EpochLimit,
+        Refusal::TraceShort,
+        Refusal::TraceBad,
+    ];
+
+    /// The number that the C interface returns.
+    pub const fn number(self) -> u64 {
+        self as u64
+    }
+}
+
+impl fmt::Display for Refusal {
+    fn fmt(&self, f: &mut fmt::Formatter<'_>) -> fmt::Result {
+        let text = match self {
+            Refusal::BadSize => "a size is not 1 to 64",
+            Refusal::BadLength => "the image has another length",
+            Refusal::Foreign => "the image holds other sizes",
+            Refusal::Invalid => "states and pairs of the image do not fit one another",
+            Refusal::BadSession => "the session does not fit the image",
+            Refusal::NoSuchMain => "there is no such main segment",
+            Refusal::NoSuchBlock => "there is no such block",
+            Refusal::BadSpan => "no bytes to write, or they leave the block",
+            Refusal::NoFreeBackup => "no backup segment is free",
+            Refusal::EpochLimit => "the epoch is at its limit",
+            Refusal::TraceShort => "the trace is too short",
+            Refusal::TraceBad => "the trace is ill formed",
+        };
+        write!(f, "{text} (refusal {})", self.number())
+    }
+}
+
+impl Error for Refusal {}

@@ -1,0 +1,178 @@
+//! The proved library against the reference, through the C interface, and the
+//! safe calls of crate `crpm` too.
+//!
+//! Compared byte for byte: each call with any contents; random histories step
+//! by step, cut at every order and opened again through the library's own
+//! calls; every permitted image of single calls and short histories. Then the
+//! library's answers are spoiled one at a time, and each group must notice.
+//! Seeds are fixed.
+
+use crpm_tests::arbitrary;
+use crpm_tests::calls::*;
+use crpm_tests::compared::Compared;
+use crpm_tests::corrupted::{CallKind, Corrupted, Spoil};
+use crpm_tests::explore::{Images, Plan, LEGEND};
+use crpm_tests::groups::{self, Random};
+use crpm_tests::library::{Library, Wrapped};
+use crpm_tests::reference::Reference;
+use crpm_tests::report::{arguments, Found, Outcome, Suite};
+use std::process::ExitCode;
+
+const USAGE: &str = "usage: differential [--quick]
+Compares the library with the reference, call by call. --quick: fewer inputs, some seconds.
+A line for each group, totals at the end. Status: 0 passed, 1 a difference, 2 wrong arguments.";
+
+type Pair<'a, C> = Compared<'a, Reference, C>;
+type SpoiledPair<'a> = Compared<'a, Reference, Corrupted<'a, Library>>;
+type SpoiledRun<'a> = &'a dyn Fn(&SpoiledPair) -> Outcome;
+
+const SMALL: Sizes = Sizes::new(1, 1, 1);
+const TWO: Sizes = Sizes::new(2, 1, 1);
+const EVERY_CUT: Plan = Plan { images: Images::Some { samples: 2 }, every_cut_up_to: 400 };
+const SOME_CUTS: Plan = Plan { images: Images::Some { samples: 1 }, every_cut_up_to: 20 };
+
+fn main() -> ExitCode {
+    let given = match arguments(USAGE, &["--quick"], 0) {
+        Ok(given) => given,
+        Err(status) => return status,
+    };
+    println!("{LEGEND}");
+    let mut suite = Suite::default();
+    match given.is_empty() {
+        true => all(&mut suite),
+        false => quick(&mut suite),
+    }
+    suite.run("differential")
+}
+
+fn all(suite: &mut Suite) {
+    suite.add("any contents, sizes 1 to 4", || any_small(&Library, 40_000));
+    suite.add("any contents, sizes 1 to 64", any_large);
+    suite.add("bench cases", || compared(&Library, |both| groups::bench_cases(both)));
+    suite.add("waiting lines", || compared(&Library, |both| groups::waiting_lines(both)));
+    suite.add("random histories, sizes 1 to 3", || histories(41, 1200, 12, 3, EVERY_CUT));
+    suite.add("random histories, sizes 1 to 9", || histories(42, 150, 40, 9, SOME_CUTS));
+    suite.add("random histories, sizes 1 to 64", || histories(43, 5, 16, 64, SOME_CUTS));
+    suite.add("single calls at 1,1,1", || compared(&Library, |both| groups::single_calls(both)));
+    suite.add("histories up to 5 at 1,1,1", || short(SMALL, 5));
+    suite.add("histories up to 4 at 2,1,1", || short(TWO, 4));
+    suite.add("safe calls, any contents", || any_small(&Wrapped, 10_000));
+    suite.add("safe calls, bench cases", || compared(&Wrapped, |both| groups::bench_cases(both)));
+    suite.add("spoiled answers, any contents", spoiled_contents);
+    suite.add("spoiled answers, histories", spoiled_histories);
+}
+
+fn quick(suite: &mut Suite) {
+    suite.add("any contents, sizes 1 to 4", || any_small(&Library, 5_000));
+    suite.add("bench cases", || compared(&Library, |both| groups::bench_cases(both)));
+    suite.add("random histories, sizes 1 to 3", || histories(41, 40, 12, 3, EVERY_CUT));
+    suite.add("histories up to 3 at 2,1,1", || short(TWO, 3));
+    suite.add("safe calls, any contents", || any_small(&Wrapped, 5_000));
+    suite.add("safe calls, bench cases", || compared(&Wrapped, |both| groups::bench_cases(both)));
+    suite.add("spoiled answers, any contents", spoiled_contents);
+}
+
+/// Runs a group over both and adds the verdict of the comparison.
+fn compared<C: Calls>(calls: &C, run: impl FnOnce(&Pair<C>) -> Outcome) -> Outcome {
+    let good = Reference::good();
+    let both = Compared::new(&good, calls);
+    let outcome = run(&both);
+    both.verdict()?;
+    let Found { text, mut counts } = outcome?;
+    counts.push(("calls compared", both.calls()));
+    Ok(Found { text: format!("{text}, {} calls compared", both.calls()), counts })
+}
+
+fn any_small<C: Calls>(calls: &C, rounds: usize) -> Outcome {
+    compared(calls, |both| {
+        groups::any_contents(both, 51, rounds, |rng| arbitrary::sizes(rng, 4));
+        both.covers_all_numbers()?;
+        Ok(Found::new("every number of each call's list occurs, none besides", &[]))
+    })
+}
+
+fn any_large() -> Outcome {
+    compared(&Library, |both| {
+        groups::any_contents(both, 52, 1000, |rng| arbitrary::sizes(rng, 16));
+        groups::any_contents(both, 53, 400, arbitrary::edge_sizes);
+        groups::any_contents(both, 54, 4, |_| Sizes::new(64, 64, 64));
+        Ok(Found::new("edges and the greatest sizes", &[]))
+    })
+}
+
+fn short(sizes: Sizes, depth: usize) -> Outcome {
+    compared(&Library, |both| groups::short_histories(both, sizes, depth))
+}
+
+fn histories(seed: u64, histories: usize, calls: usize, most: usize, plan: Plan) -> Outcome {
+    let random = Random { seed, histories, calls, most, plan };
+    compared(&Library, |both| {
+        let mut found = groups::random_histories(both, random)?;
+        found.text += &format!(", {} saves refused at the last epoch", both.answered("save", 10));
+        Ok(found)
+    })
+}
+
+const AFTER: [u64; 5] = [0, 1, 4, 9, 23];
+
+/// One spoiled answer among calls with any contents is one difference.
+fn spoiled_contents() -> Outcome {
+    let good = Reference::good();
+    let mut noticed = 0;
+    for spoil in Spoil::all() {
+        for after in AFTER {
+            let spoiled = Corrupted::new(&Library, spoil, after);
+            let both = Compared::new(&good, &spoiled);
+            groups::any_contents(&both, 55, 24, |rng| arbitrary::sizes(rng, 3));
+            if !spoiled.done() || both.differences() != 1 {
+                return Err(format!("{spoil:?} after {after}: {} differences", both.differences()));
+            }
+            noticed += 1;
+        }
+    }
+    let kinds = Spoil::all().len();
+    let text = format!("{noticed} of {kinds} kinds, each reported as one difference");
+    Ok(Found::new(text, &[("spoiled answers noticed", noticed)]))
+}
+
+/// One spoiled answer in a history, by the group that runs it.
+fn spoiled_histories() -> Outcome {
+    let plan = Plan { images: Images::Some { samples: 1 }, every_cut_up_to: 20 };
+    let random = Random { seed: 44, histories: 8, calls: 8, most: 2, plan };
+    let (all, few) = (Spoil::all(), [Spoil::Number(CallKind::Write), Spoil::PlayedImage, Spoil::ReadStart]);
+    let runs: [(&str, &[Spoil], SpoiledRun); 5] = [
+        ("bench cases", &all, &|both| groups::bench_cases(both)),
+        ("waiting lines", &all, &|both| groups::waiting_lines(both)),
+        ("random histories", &all, &|both| groups::random_histories(both, random)),
+        ("single calls", &few, &|both| groups::single_calls(both)),
+        ("short histories", &all, &|both| groups::short_histories(both, SMALL, 2)),
+    ];
+    let (mut lines, mut noticed) = (Vec::new(), 0);
+    for (name, kinds, run) in runs {
+        let here = spoiled_in(name, kinds, run)?;
+        lines.push(format!("{name} {here}"));
+        noticed += here;
+    }
+    Ok(Found::new(format!("noticed in {}", lines.join(", ")), &[("spoiled answers noticed", noticed)]))
+}
+
+/// How many spoiled answers there were in this group, all of them noticed.
+fn spoiled_in(name: &str, kinds: &[Spoil], run: SpoiledRun) -> Result<u64, String> {
+    let good = Reference::good();
+    let mut noticed = 0;
+    for &spoil in kinds {
+        for after in [0, 3] {
+            let spoiled = Corrupted::new(&Library, spoil, after);
+            let both = Compared::new(&good, &spoiled);
+            let outcome = run(&both);
+            if spoiled.done() && outcome.is_ok() && both.verdict().is_ok() {
+                return Err(format!("{name}: {spoil:?} after {after} is not noticed"));
+            }
+            noticed += u64::from(spoiled.done());
+        }
+    }
+    match noticed {
+        0 => Err(format!("{name}: no answer was spoiled")),
+        _ => Ok(noticed),
+    }
+}

@@ -1,0 +1,42 @@
+//! The explorer with plans that the programs do not use.
+
+use crpm_tests::arbitrary::{self, Metadata};
+use crpm_tests::book::{Call, Deed};
+use crpm_tests::calls::*;
+use crpm_tests::crash::Module;
+use crpm_tests::explore::{Explorer, Images, Plan};
+use crpm_tests::reference::Reference;
+
+const SIZES: Sizes = Sizes::new(1, 1, 1);
+
+/// A call of so few orders that one in eight of its cuts is none.
+#[test]
+fn few_orders_and_few_cuts() {
+    let calls = Reference::good();
+    let empty = Metadata { states: vec![0], pairs: vec![UNPAIRED] };
+    let image = arbitrary::image_of(SIZES, 0, &empty, 0, &arbitrary::distinct_data(SIZES));
+    let mut explorer = Explorer::new(&calls, SIZES, 1);
+    let plan = Plan { images: Images::Some { samples: 1 }, every_cut_up_to: 0 };
+    let mut history = explorer.start(&image, plan).expect("the image opens");
+    let target = Target { level: 0, frame: 0, offset: 0 };
+    let call = Call { deed: Deed::Write(target, vec![1; 7 * WORD]), tape: SIZES.room() };
+    let step = explorer.step(&mut history, &call, plan).expect("the write is served");
+    assert_eq!(step.orders.len(), 7);
+    assert!((4..=8).contains(&step.shown.len()), "{} cuts", step.shown.len());
+}
+
+/// Stores of 1, 0 and 0 to a word of zeros: four first parts, two contents.
+#[test]
+fn more_ways_than_images() {
+    let mut module = Module::held(&[0; 2 * LINE]);
+    for word in [1, 0, 0] {
+        module.play(Order::Store { place: 0, word });
+    }
+    assert_eq!((module.cut().count(), module.cut().ways()), (2, 4));
+    module.play(Order::Store { place: LINE, word: 5 });
+    assert_eq!((module.cut().count(), module.cut().ways()), (4, 8));
+    module.play(Order::Flush { place: 0 });
+    assert_eq!((module.cut().count(), module.cut().ways()), (4, 8));
+    module.play(Order::Fence);
+    assert_eq!((module.cut().count(), module.cut().ways()), (2, 2));
+}
