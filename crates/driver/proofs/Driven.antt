@@ -55,8 +55,8 @@ driven-runs _ _ _ (next s s″ c cs r t I′ k d) =
 -- ---- openings
 
 -- a module at an image and a session
-abbrev «at» : Session → Image → Device
-«at» x I = record { layout = x .layout; durable = I; played = []; image = I; session = x }
+abbrev deviceAt : Session → Image → Device
+deviceAt x I = record { layout = x .layout; durable = I; played = []; image = I; session = x }
 
 -- an opening that the code makes has the status of the model's opening
 opened-status : (l : Layout) (I : Image) (x : Session) (T : Trace) (r : Report) (t : Trace) → Called I x (callOpen l T) r t → r .number ≡ openStatus l I T
@@ -66,7 +66,7 @@ opened-status l I x T r t k = k .1 .0
 -- what it leaves, replayed, is what the model's opening leaves
 opened-image : (l : Layout) (I : Image) (x : Session) (T : Trace) (r : Report) (t : Trace) (I₁ : Image) → Stepped I x (callOpen l T) r t I₁ → openedImage l I T ≡ I₁
 unfolding openedImage deviceStep
-opened-image l I x T r t I₁ k = stepped-device («at» x I) (callOpen l T) r t I₁ k .0
+opened-image l I x T r t I₁ k = stepped-device (deviceAt x I) (callOpen l T) r t I₁ k .0
 
 -- and where the program then stands is the start of a history
 opened-starts : (l : Layout) (I : Image) (x : Session) (T : Trace) (r : Report) (t : Trace) (I₁ : Image) → Stepped I x (callOpen l T) r t I₁
@@ -85,7 +85,7 @@ cut-openings : {l : Layout} {H H′ : Image} → CutDriven l H H′ → CutOpeni
 cut-openings none = model.none
 cut-openings {l} (again {H = H} {H′ = H₁} x T p r t k ne inside c rest) =
     model.again T p (λ e. ne (opened-status l H x T r t k ∙ e))
-    (subst (λ (X : Ops). CrashImage H X H₁) (called-carried («at» x H) (callOpen l T) r t k p inside) c) (cut-openings rest)
+    (subst (λ (X : Ops). CrashImage H X H₁) (called-carried (deviceAt x H) (callOpen l T) r t k p inside) c) (cut-openings rest)
 
 -- what the last opening shows
 shows-after : (l : Layout) (H : Image) (May : Page → Type 0)
