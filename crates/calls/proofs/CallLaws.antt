@@ -12,7 +12,7 @@ use Rattle.model.specs.Status.{codeOf}
 use Rattle.model.specs.Ops.{Trace}
 use Rattle.model.specs.Outcome.{Outcome}
 use Rattle.model.specs.History.{Call, Device, outcome, deviceStep, Permitted}
-use Rattle.driver.specs.Stepped.{reportOf, Stepped}
+use Rattle.driver.specs.Stepped.{reportOf, Called, Stepped}
 use Rattle.driver.proofs.SteppedLaws.{stepped-device}
 use Rattle.text.specs.Text.{text}
 use Rattle.printer.specs.Decimal.{decimal, Appended}
@@ -28,10 +28,10 @@ unfolding answerText
 answer-text before k key code ops o e f g = rw (e, f, g) (simp append-assoc)
 
 -- a call that the code makes, where a module stands
-module _ (c : Call) (I : Image) (a : Ran) (x : Answer) (t : Trace) (I′ : Image) (r : Ran) (stepped : Stepped I (a .session) c (reportOf x) t I′) (kept : r .session ≡ x .session)
+module _ (c : Call) (I : Image) (a : Ran) (x : Answer) (t : Trace) (I′ : Image) (r : Ran) (stepped : Stepped Called I (a .session) c (reportOf x) t I′) (kept : r .session ≡ x .session)
     (d : Device) («is» : DeviceAt d I (a .session)) where
-  here : Stepped (d .image) (d .session) c (reportOf x) t I′
-  here = subst₂ (λ (J : Image) (u : Session). Stepped J u c (reportOf x) t I′) (sym («is» .0)) (sym («is» .1)) stepped
+  here : Stepped Called (d .image) (d .session) c (reportOf x) t I′
+  here = subst₂ (λ (J : Image) (u : Session). Stepped Called J u c (reportOf x) t I′) (sym («is» .0)) (sym («is» .1)) stepped
 
   call-permitted : Permitted d c
   call-permitted = here .0 .0
@@ -46,7 +46,7 @@ module _ (c : Call) (I : Image) (a : Ran) (x : Answer) (t : Trace) (I′ : Image
       appended-as (answer-text before k key code (x .ops) (outcome d c) e (f ∙ here .0 .1 .0) (here .0 .1 .2)) g
 
 pub call-ran : (key : String) (c : Call) (I : Image) (a : Ran) (x : Answer) (t : Trace) (I′ : Image) (k out out′ : List ℕ) (code : ℕ) (r : Ran)
-    → Stepped I (a .session) c (reportOf x) t I′ → r .session ≡ x .session → k ≡ text key → code ≡ codeOf (x .status)
+    → Stepped Called I (a .session) c (reportOf x) t I′ → r .session ≡ x .session → k ≡ text key → code ≡ codeOf (x .status)
     → Appended out (a .place) (answerOf k code (x .ops)) out′ (r .place) → CallRan I a c key out I′ out′ r
 call-ran key c I a x t I′ k out out′ code r s kept e f g d «is» = (
   call-permitted c I a x t I′ r s kept d «is»,
@@ -57,7 +57,7 @@ call-ran key c I a x t I′ k out out′ code r s kept e f g d «is» = (
 -- ---- a checkpoint, if it is wanted
 
 pub checkpoint-made : (I : Image) (a : Ran) (wanted : Bool) (x : Answer) (t : Trace) (I′ : Image) (k out out′ : List ℕ) (code : ℕ) (r : Ran) → wanted ≡ true
-    → Stepped I (a .session) checkpointCall (reportOf x) t I′ → r .session ≡ x .session → k ≡ text " " ++ text "save=" → code ≡ codeOf (x .status)
+    → Stepped Called I (a .session) checkpointCall (reportOf x) t I′ → r .session ≡ x .session → k ≡ text " " ++ text "save=" → code ≡ codeOf (x .status)
     → Appended out (a .place) (answerOf k code (x .ops)) out′ (r .place) → CheckpointRan I a wanted out I′ out′ r
 unfolding checkpointText checkpointed
 checkpoint-made I a wanted x t I′ k out out′ code r w s kept e f g =

@@ -1,18 +1,28 @@
--- A call of the C interface is a call of `DrivenSafety`: nothing is lost in the words of a session.
+-- A call of the C interface is one of the library's, since nothing is lost in the words of a session; so demands 2 and 3 hold of C
+-- programs that carry the operations out.
 use Prim.Native.Nat.{ℕ}
-use mathlib.Core.Path.{_≡_, ap, _∙_}
+use mathlib.Core.Path.{_≡_, sym, ap, _∙_, subst}
+use Rattle.model.specs.declared.Session.{Session}
+use Rattle.model.specs.Words.{Image}
 use Rattle.model.specs.Ops.{Trace}
 use Rattle.model.specs.Outcome.{Outcome}
+use Rattle.model.specs.History.{Call}
 use Rattle.interface.specs.Interface.{Words, sessionIn, returned, Returns}
 use Rattle.interface.proofs.WordsLaws.{session-words}
-use Rattle.driver.specs.Stepped.{Reports}
-use Rattle.carried.specs.Carried.{reportIn, opens, writes, checkpoints, ExportedCalled}
+use Rattle.driver.specs.Stepped.{Report, Reports, Called, OfLibrary}
+use Rattle.driver.proofs.Driven.{driven-safety, driven-opening-safety}
+use Rattle.carried.specs.Carried.{reportIn, Exported, opens, writes, checkpoints, CarriedSafety}
 
-returned-reports : (o : Outcome) (T : Trace) (number : ℕ) (s′ : Words) (t : Trace) (ops : ℕ)
-    → Returns (returned T o) number s′ t ops → Reports o T (reportIn number s′ ops) t
-returned-reports o T number s′ t ops r = (r .0, ap sessionIn (r .1) ∙ session-words (o .session), r .3, r .2)
+returned-reports : (o : Outcome) (T : Trace) (number : ℕ) (v : Words) (t : Trace) (ops : ℕ) → Returns (returned T o) number v t ops
+    → Reports o T (reportIn number v ops) t
+returned-reports o T number v t ops r = (r .0, ap sessionIn (r .1) ∙ session-words (o .session), r .3, r .2)
 
-pub exported-called : ExportedCalled
-exported-called I s _ _ _ (opens l T number s′ t ops r) = (tt, returned-reports _ T number s′ t ops r)
-exported-called I s _ _ _ (writes w T number s′ t ops bytes r) = ((bytes, r .1), returned-reports _ T number s′ t ops (r .2))
-exported-called I s _ _ _ (checkpoints T number s′ t ops r) = (tt, returned-reports _ T number s′ t ops r)
+exported-called : OfLibrary Exported
+exported-called I s _ _ _ (opens l T number v t ops r) = (tt, returned-reports _ T number v t ops r)
+exported-called I s c q _ (writes u e w T number v t ops bytes r) =
+    subst (λ (x : Session). Called I x c q t) e ((bytes, r .1), returned-reports _ T number v t ops (r .2))
+exported-called I s c q _ (checkpoints u e T number v t ops r) =
+    subst (λ (x : Session). Called I x c q t) e (tt, returned-reports _ T number v t ops r)
+
+pub carried-safety : CarriedSafety
+carried-safety = (driven-safety Exported exported-called, driven-opening-safety Exported exported-called)

@@ -1,4 +1,4 @@
--- A program that makes call after call runs a permitted history, so demands 2 and 3 hold of the code.
+-- A program that makes call after call runs a permitted history, so demands 2 and 3 hold of the code, however the calls are made.
 use Prim.Native.Nat.{ℕ}
 use mathlib.Core.Path.{_≡_, refl, sym, ap, _∙_, subst}
 use mathlib.Core.Logic.{_≢_}
@@ -19,14 +19,14 @@ use Rattle.model.specs.CrashSafety.{Moment, PermittedAt, playedAt, CutOpenings,
 use Rattle.model.specs.CrashSafety as model
 use Rattle.model.proofs.CrashSafety.{crash-safety}
 use Rattle.model.proofs.Sisters.{reads-follow-model, opening-safety}
-use Rattle.driver.specs.Stepped.{Report, Called, Stepped}
+use Rattle.driver.specs.Stepped.{Report, Calls, Called, OfLibrary, Stepped}
 use Rattle.driver.specs.Driven.{savedModel, opened, after, Driven, done, next, Made, rests, makes, CutDriven, none, again, ShowsAfter, DrivenSafety, DrivenOpeningSafety}
 use Rattle.driver.proofs.SteppedLaws.{called-carried, stepped-device}
 
 -- ---- the program's state is the history's
 
 -- a step of the code is the step of a history
-stepped-state : (s : State) (c : Call) (r : Report) (t : Trace) (I′ : Image) → Stepped (s .device .image) (s .device .session) c r t I′
+stepped-state : (s : State) (c : Call) (r : Report) (t : Trace) (I′ : Image) → Stepped Called (s .device .image) (s .device .session) c r t I′
     → step s c ≡ after s c r t I′
 unfolding step deviceStep
 stepped-state s c r t I′ k =
@@ -43,15 +43,6 @@ stepped-state s c r t I′ k =
       model = modelStep (s .device .layout) (c .args) (e i) (s .model);
     }
 
--- so a program runs a permitted history
-pub driven-runs : (s s″ : State) (cs : List Call) → Driven s cs s″ → AllPermitted s cs × (run s cs ≡ s″)
-unfolding run
-driven-runs _ _ _ (done s) = (tt, refl)
-driven-runs _ _ _ (next s s″ c cs r t I′ k d) =
-    let e = stepped-state s c r t I′ k in
-    let w = driven-runs (after s c r t I′) s″ cs d in
-    ((k .0 .0, subst (λ (x : State). AllPermitted x cs) (sym e) (w .0)), ap (λ (x : State). run x cs) e ∙ w .1)
-
 -- ---- openings
 
 -- a module at an image and a session
@@ -64,12 +55,12 @@ unfolding openOutcome outcomeOf
 opened-status l I x T r t k = k .1 .0
 
 -- what it leaves, replayed, is what the model's opening leaves
-opened-image : (l : Layout) (I : Image) (x : Session) (T : Trace) (r : Report) (t : Trace) (I₁ : Image) → Stepped I x (callOpen l T) r t I₁ → openedImage l I T ≡ I₁
+opened-image : (l : Layout) (I : Image) (x : Session) (T : Trace) (r : Report) (t : Trace) (I₁ : Image) → Stepped Called I x (callOpen l T) r t I₁ → openedImage l I T ≡ I₁
 unfolding openedImage deviceStep
 opened-image l I x T r t I₁ k = stepped-device (deviceAt x I) (callOpen l T) r t I₁ k .0
 
 -- and where the program then stands is the start of a history
-opened-starts : (l : Layout) (I : Image) (x : Session) (T : Trace) (r : Report) (t : Trace) (I₁ : Image) → Stepped I x (callOpen l T) r t I₁
+opened-starts : (l : Layout) (I : Image) (x : Session) (T : Trace) (r : Report) (t : Trace) (I₁ : Image) → Stepped Called I x (callOpen l T) r t I₁
     → start l I T ≡ opened l I r I₁
 unfolding start
 opened-starts l I x T r t I₁ k =
@@ -80,59 +71,83 @@ opened-starts l I x T r t I₁ k =
       model = savedModel l I;
     }
 
--- openings that the code makes and that are cut are the model's
-cut-openings : {l : Layout} {H H′ : Image} → CutDriven l H H′ → CutOpenings CrashImage l H H′
-cut-openings none = model.none
-cut-openings {l} (again {H = H} {H′ = H₁} x T p r t k ne inside c rest) =
-    model.again T p (λ e. ne (opened-status l H x T r t k ∙ e))
-    (subst (λ (X : Ops). CrashImage H X H₁) (called-carried (deviceAt x H) (callOpen l T) r t k p inside) c) (cut-openings rest)
+-- ---- programs whose calls are the library's, however they make them
 
--- what the last opening shows
-shows-after : (l : Layout) (H : Image) (May : Page → Type 0)
-    → ((H′ : Image) → CutOpenings CrashImage l H H′ → (T : Trace) → openStatus l H′ T ≢ 11 → (Q : Page) × May Q × Recovers l H′ T Q × Bytes H′)
-    → ShowsAfter l H May
-shows-after l H May f H′ o x T r t I k ne =
-    let e = opened-status l H′ x T r t (k .0) in
-    let y = f H′ (cut-openings o) T (λ z. ne (e ∙ z)) in (
-      y .0,
-      y .1,
-      e ∙ y .2 .accepted,
-      subst (λ (J : Image). Reads l J (y .0) (y .0)) (opened-image l H′ x T r t I k) (y .2 .shows),
-      y .3,
-      ap (λ (P : Page). record { working = P; checkpoint = P }) (y .2 .begins),
-    )
+module _ (C : Calls) (made : OfLibrary C) where
+  by-library : {I : Image} {s : Session} {c : Call} {r : Report} {t : Trace} {I′ : Image} → Stepped C I s c r t I′ → Stepped Called I s c r t I′
+  by-library k = (made _ _ _ _ _ (k .0), k .1)
 
--- ---- the moment of a crash in a call that the code makes
+  -- so a program runs a permitted history
+  driven-runs : (s s″ : State) (cs : List Call) → Driven C s cs s″ → AllPermitted s cs × (run s cs ≡ s″)
+  unfolding run
+  driven-runs _ _ _ (done s) = (tt, refl)
+  driven-runs _ _ _ (next s s″ c cs r t I′ k d) =
+      let g = by-library k in
+      let e = stepped-state s c r t I′ g in
+      let w = driven-runs (after s c r t I′) s″ cs d in
+      ((g .0 .0, subst (λ (x : State). AllPermitted x cs) (sym e) (w .0)), ap (λ (x : State). run x cs) e ∙ w .1)
 
-made-moment : (s : State) (m : Moment) (M : Ops) → Made s m M → PermittedAt (s .device) m × (playedAt (s .device) m ≡ s .device .played ++ M)
-made-moment s _ _ rests = (tt, sym (append-nil (s .device .played)))
-made-moment s _ _ (makes c p r t k h) =
-    ((k .0, omega (arith, h, k .1 .2)), ap (λ (X : Ops). s .device .played ++ X) (sym (called-carried (s .device) c r t k p (omega (arith, h)))))
+  -- openings that the code makes and that are cut are the model's
+  cut-openings : {l : Layout} {H H′ : Image} → CutDriven C l H H′ → CutOpenings CrashImage l H H′
+  cut-openings none = model.none
+  cut-openings {l} (again {H = H} {H′ = H₁} x T p r t k ne inside c rest) =
+      let g = made H x (callOpen l T) r t k in
+      model.again T p (λ e. ne (opened-status l H x T r t g ∙ e))
+      (subst (λ (X : Ops). CrashImage H X H₁) (called-carried (deviceAt x H) (callOpen l T) r t g p inside) c) (cut-openings rest)
 
--- DEMANDS 2 AND 3 OF THE CODE
-pub driven-safety : DrivenSafety
-driven-safety l I T b x r t I₁ k ok cs s d =
-    let first : openStatus l I T ≡ 0 = sym (opened-status l I x T r t (k .0)) ∙ ok in
-    let e = opened-starts l I x T r t I₁ k in
-    let w = driven-runs (opened l I r I₁) s cs d in
-    let permitted : AllPermitted (start l I T) cs = subst (λ (h : State). AllPermitted h cs) (sym e) (w .0) in
-    let stands : run (start l I T) cs ≡ s = ap (λ (h : State). run h cs) e ∙ w .1 in (
-      subst (λ (h : State). Reads (h .device .layout) (h .device .image) (h .model .working) (h .model .checkpoint)) stands
-          (reads-follow-model l I T b first cs permitted),
-      λ m M made H c.
-          let at = made-moment s m M made in
-          let safe = crash-safety l I T b first cs permitted m in
-          shows-after (s .device .layout) H (model.MayShow s m) (λ H′ o T′ ne.
-          subst (λ (h : State). PermittedAt (h .device) m → CrashImage (h .device .durable) (playedAt (h .device) m) H
-          → CutOpenings CrashImage (h .device .layout) H H′ → openStatus (h .device .layout) H′ T′ ≢ 11
-          → (Q : Page) × model.MayShow h m Q × Recovers (h .device .layout) H′ T′ Q × Bytes H′) stands
-          (λ pm c o ne. safe pm H c H′ o T′ ne)
-          (at .0) (subst (λ (X : Ops). CrashImage (s .device .durable) X H) (sym (at .1)) c) o ne),
-    )
+  -- what the last opening shows
+  shows-after : (l : Layout) (H : Image) (May : Page → Type 0)
+      → ((H′ : Image) → CutOpenings CrashImage l H H′ → (T : Trace) → openStatus l H′ T ≢ 11 → (Q : Page) × May Q × Recovers l H′ T Q × Bytes H′)
+      → ShowsAfter C l H May
+  shows-after l H May f H′ o x T r t I k ne =
+      let g = by-library k in
+      let e = opened-status l H′ x T r t (g .0) in
+      let y = f H′ (cut-openings o) T (λ z. ne (e ∙ z)) in (
+        y .0,
+        y .1,
+        e ∙ y .2 .accepted,
+        subst (λ (J : Image). Reads l J (y .0) (y .0)) (opened-image l H′ x T r t I g) (y .2 .shows),
+        y .3,
+        ap (λ (P : Page). record { working = P; checkpoint = P }) (y .2 .begins),
+      )
 
--- the same of openings alone
-pub driven-opening-safety : DrivenOpeningSafety
-driven-opening-safety l I T b x r t k ok =
-    shows-after l I _ (λ H′ o T′ ne.
-    let y = opening-safety l I T b (sym (opened-status l I x T r t k) ∙ ok) H′ o T′ ne in
-    (checkpointBytes l I (activeLine I), refl, y .0, y .1))
+  -- ---- the moment of a crash in a call that the code makes
+
+  made-moment : (s : State) (m : Moment) (M : Ops) → Made C s m M → PermittedAt (s .device) m × (playedAt (s .device) m ≡ s .device .played ++ M)
+  made-moment s _ _ rests = (tt, sym (append-nil (s .device .played)))
+  made-moment s _ _ (makes c p r t k h) =
+      let g = made (s .device .image) (s .device .session) c r t k in
+      ((g .0, omega (arith, h, g .1 .2)), ap (λ (X : Ops). s .device .played ++ X) (sym (called-carried (s .device) c r t g p (omega (arith, h)))))
+
+  -- DEMANDS 2 AND 3 OF THE CODE
+  pub driven-safety : DrivenSafety C
+  driven-safety l I T b x r t I₁ k ok cs s d =
+      let g = by-library k in
+      let first : openStatus l I T ≡ 0 = sym (opened-status l I x T r t (g .0)) ∙ ok in
+      let e = opened-starts l I x T r t I₁ g in
+      let w = driven-runs (opened l I r I₁) s cs d in
+      let permitted : AllPermitted (start l I T) cs = subst (λ (h : State). AllPermitted h cs) (sym e) (w .0) in
+      let stands : run (start l I T) cs ≡ s = ap (λ (h : State). run h cs) e ∙ w .1 in (
+        subst (λ (h : State). Reads (h .device .layout) (h .device .image) (h .model .working) (h .model .checkpoint)) stands
+            (reads-follow-model l I T b first cs permitted),
+        λ m M made H c.
+            let at = made-moment s m M made in
+            let safe = crash-safety l I T b first cs permitted m in
+            shows-after (s .device .layout) H (model.MayShow s m) (λ H′ o T′ ne.
+            subst (λ (h : State). PermittedAt (h .device) m → CrashImage (h .device .durable) (playedAt (h .device) m) H
+            → CutOpenings CrashImage (h .device .layout) H H′ → openStatus (h .device .layout) H′ T′ ≢ 11
+            → (Q : Page) × model.MayShow h m Q × Recovers (h .device .layout) H′ T′ Q × Bytes H′) stands
+            (λ pm c o ne. safe pm H c H′ o T′ ne)
+            (at .0) (subst (λ (X : Ops). CrashImage (s .device .durable) X H) (sym (at .1)) c) o ne),
+      )
+
+  -- the same of openings alone
+  pub driven-opening-safety : DrivenOpeningSafety C
+  driven-opening-safety l I T b x r t k ok =
+      shows-after l I _ (λ H′ o T′ ne.
+      let y = opening-safety l I T b (sym (opened-status l I x T r t (made I x (callOpen l T) r t k)) ∙ ok) H′ o T′ ne in
+      (checkpointBytes l I (activeLine I), refl, y .0, y .1))
+
+-- calls of the library itself, as this crate's functions make them
+pub called-safety : DrivenSafety Called × DrivenOpeningSafety Called
+called-safety = (driven-safety Called (λ I s c r t k. k), driven-opening-safety Called (λ I s c r t k. k))

@@ -114,7 +114,7 @@ module _ (d : Device) (c : Call) (r : Report) (t : Trace) (k : Called (d .image)
 
   -- replay of the reported part leaves what carrying it out leaves
   device-replayed : (I′ : Image) → I′ ≡ replayOutcome (d .image) (take (opNumbers * r .ops) t) (r .ops) .image
-      → Stepped (d .image) (d .session) c r t I′
+      → Stepped Called (d .image) (d .session) c r t I′
   unfolding replayedImage
   device-replayed I′ e = (
     k,
@@ -123,11 +123,11 @@ module _ (d : Device) (c : Call) (r : Report) (t : Trace) (k : Called (d .image)
   )
 
 pub replayed-step : (I : Image) (s : Session) (c : Call) (r : Report) (t : Trace) (I′ : Image) → Called I s c r t
-    → I′ ≡ replayOutcome I (take (opNumbers * r .ops) t) (r .ops) .image → Stepped I s c r t I′
+    → I′ ≡ replayOutcome I (take (opNumbers * r .ops) t) (r .ops) .image → Stepped Called I s c r t I′
 replayed-step I s c r t I′ k e =
     device-replayed (record { layout = s .layout; durable = I; played = []; image = I; session = s }) c r t k I′ e
 
-pub stepped-device : (d : Device) (c : Call) (r : Report) (t : Trace) (I′ : Image) → Stepped (d .image) (d .session) c r t I′
+pub stepped-device : (d : Device) (c : Call) (r : Report) (t : Trace) (I′ : Image) → Stepped Called (d .image) (d .session) c r t I′
     → (deviceStep d c .image ≡ I′) × (deviceStep d c .session ≡ r .session) × (deviceStep d c .played ≡ d .played ++ carried t (r .ops))
 unfolding deviceStep
 stepped-device d c r t I′ k =

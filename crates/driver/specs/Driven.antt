@@ -1,9 +1,9 @@
 -- Programs that open a container and then make call after call, each on the image and the session that the last one left;
--- and demands 2 and 3 said of them (`DrivenSafety`). Where such a program stands is said in terms of the code: the images
--- that stood, the sessions that were answered, the operations read from the traces and carried out, and a reference model that is
--- fed whether each call was served by its number. The call in which power failed, the openings that were cut and the last one are
--- calls that the code made too. It covers programs that carry the operations out by replay, as this crate's functions do, and callers
--- of the C interface that do it themselves (crate carried). Proved in proofs/Driven.antt. Assumes nothing.
+-- and demands 2 and 3 said of them (`DrivenSafety`), for each way C of making the calls: by the library (`Called`), or by the
+-- C interface (`Exported` of crate carried). Where such a program stands is said in terms of the code: the images that stood, the
+-- sessions that were answered, the operations read from the traces and carried out, and a reference model that is fed whether each
+-- call was served by its number. The call in which power failed, the openings that were cut and the last one are calls that the
+-- code made too. Proved in proofs/Driven.antt. Assumes nothing.
 use Prim.Native.Nat.{ℕ, _≤_, _<_}
 use mathlib.Core.Path.{_≡_}
 use mathlib.Core.Logic.{_≢_}
@@ -18,7 +18,7 @@ use Rattle.model.specs.Crash.{CrashImage}
 use Rattle.model.specs.Reference.{Page, Model, modelStep}
 use Rattle.model.specs.History.{Call, callOpen, State}
 use Rattle.model.specs.CrashSafety.{Moment, between, during, MayShow, Reads}
-use Rattle.driver.specs.Stepped.{Report, Called, carried, Stepped}
+use Rattle.driver.specs.Stepped.{Report, Calls, carried, Stepped}
 
 -- both pages hold the checkpoint of the image I
 abbrev pub savedModel : Layout → Image → Model
@@ -45,50 +45,50 @@ after s c r t I′ = record {
 }
 
 -- steps one after the other, from a state to that after the last
-pub data Driven : State → List Call → State → Type 0 where
-  done : (s : State) → Driven s [] s
+pub data Driven (C : Calls) : State → List Call → State → Type 0 where
+  done : (s : State) → Driven C s [] s
   next : (s s″ : State) (c : Call) (cs : List Call) (r : Report) (t : Trace) (I′ : Image)
-      → Stepped (s .device .image) (s .device .session) c r t I′ → Driven (after s c r t I′) cs s″ → Driven s (c ∷ cs) s″
+      → Stepped C (s .device .image) (s .device .session) c r t I′ → Driven C (after s c r t I′) cs s″ → Driven C s (c ∷ cs) s″
 
 -- the crash falls between two steps, or after the first p operations of a call that the code makes where it stands and that
 -- reports more; with the operations of that call that were carried out
-pub data Made (s : State) : Moment → Ops → Type 0 where
-  rests : Made s between []
-  makes : (c : Call) (p : ℕ) (r : Report) (t : Trace) → Called (s .device .image) (s .device .session) c r t → p < r .ops
-      → Made s (during c p) (carried t p)
+pub data Made (C : Calls) (s : State) : Moment → Ops → Type 0 where
+  rests : Made C s between []
+  makes : (c : Call) (p : ℕ) (r : Report) (t : Trace) → C (s .device .image) (s .device .session) c r t → p < r .ops
+      → Made C s (during c p) (carried t p)
 
 -- H becomes H′ through openings that the code makes with the sizes l, each of them given what stands and any trace that 11
 -- does not refuse, and cut after any number of its operations
-pub data CutDriven (l : Layout) : Image → Image → Type 0 where
-  none : {H : Image} → CutDriven l H H
-  again : {H H′ H″ : Image} (s : Session) (T : Trace) (p : ℕ) (r : Report) (t : Trace) → Called H s (callOpen l T) r t
-      → r .number ≢ 11 → p ≤ r .ops → CrashImage H (carried t p) H′ → CutDriven l H′ H″ → CutDriven l H H″
+pub data CutDriven (C : Calls) (l : Layout) : Image → Image → Type 0 where
+  none : {H : Image} → CutDriven C l H H
+  again : {H H′ H″ : Image} (s : Session) (T : Trace) (p : ℕ) (r : Report) (t : Trace) → C H s (callOpen l T) r t
+      → r .number ≢ 11 → p ≤ r .ops → CrashImage H (carried t p) H′ → CutDriven C l H′ H″ → CutDriven C l H H″
 
 -- after the crash image H: any number of openings that are cut, which leave H′, and one that is not. It is served, and both
 -- reads of the image that it leaves give a page Q of which May holds; H′ are bytes, and the pages with which a program starts
 -- there are Q, so that lives chain
-abbrev pub ShowsAfter : Layout → Image → (Page → Type 0) → Type 0
-ShowsAfter l H May =
-    (H′ : Image) → CutDriven l H H′
-    → (s : Session) (T : Trace) (r : Report) (t : Trace) (I : Image) → Stepped H′ s (callOpen l T) r t I → r .number ≢ 11
+abbrev pub ShowsAfter : Calls → Layout → Image → (Page → Type 0) → Type 0
+ShowsAfter C l H May =
+    (H′ : Image) → CutDriven C l H H′
+    → (s : Session) (T : Trace) (r : Report) (t : Trace) (I : Image) → Stepped C H′ s (callOpen l T) r t I → r .number ≢ 11
     → (Q : Page) × May Q × (r .number ≡ 0) × Reads l I Q Q × Bytes H′ × (savedModel l H′ ≡ record { working = Q; checkpoint = Q })
 
--- demands 2 and 3 of the code
-abbrev pub DrivenSafety : Type 0
-DrivenSafety =
+-- demands 2 and 3 of the code, where calls are made as C says
+abbrev pub DrivenSafety : Calls → Type 0
+DrivenSafety C =
     -- an opening of any image, with any sizes and any trace, that is served and carried out
     (l : Layout) (I : Image) (T : Trace) → Bytes I
-    → (x : Session) (r : Report) (t : Trace) (I₁ : Image) → Stepped I x (callOpen l T) r t I₁ → r .number ≡ 0
+    → (x : Session) (r : Report) (t : Trace) (I₁ : Image) → Stepped C I x (callOpen l T) r t I₁ → r .number ≡ 0
     -- then any steps, which lead to the state s
-    → (cs : List Call) (s : State) → Driven (opened l I r I₁) cs s
+    → (cs : List Call) (s : State) → Driven C (opened l I r I₁) cs s
     -- DEMAND 2: both reads of the image give the pages of the reference model
     → Reads (s .device .layout) (s .device .image) (s .model .working) (s .model .checkpoint)
     -- DEMAND 3: a crash at any moment, and what the openings then show
-    × ((m : Moment) (M : Ops) → Made s m M → (H : Image) → CrashImage (s .device .durable) (s .device .played ++ M) H
-    → ShowsAfter (s .device .layout) H (MayShow s m))
+    × ((m : Moment) (M : Ops) → Made C s m M → (H : Image) → CrashImage (s .device .durable) (s .device .played ++ M) H
+    → ShowsAfter C (s .device .layout) H (MayShow s m))
 
 -- openings alone: any image that an opening of the code serves, cut in any number of openings of the code, shows its checkpoint
-abbrev pub DrivenOpeningSafety : Type 0
-DrivenOpeningSafety =
-    (l : Layout) (I : Image) (T : Trace) → Bytes I → (x : Session) (r : Report) (t : Trace) → Called I x (callOpen l T) r t → r .number ≡ 0
-    → ShowsAfter l I (λ Q. Q ≡ checkpointBytes l I (activeLine I))
+abbrev pub DrivenOpeningSafety : Calls → Type 0
+DrivenOpeningSafety C =
+    (l : Layout) (I : Image) (T : Trace) → Bytes I → (x : Session) (r : Report) (t : Trace) → C I x (callOpen l T) r t → r .number ≡ 0
+    → ShowsAfter C l I (λ Q. Q ≡ checkpointBytes l I (activeLine I))

@@ -27,10 +27,19 @@ abbrev pub Reports : Outcome → Trace → Report → Trace → Type 0
 Reports o t r after =
     (r .number ≡ o .status) × (r .session ≡ o .session) × (r .ops ≡ length (o .ops)) × (after ≡ written (o .ops) t)
 
--- the call c is permitted on the image I with the session s, and the report r and the trace t that it leaves give its outcome
-abbrev pub Called : Image → Session → Call → Report → Trace → Type 0
+-- how a program makes its calls: which reports and traces may come of a call on an image with a session
+abbrev pub Calls : Type 1
+Calls = Image → Session → Call → Report → Trace → Type 0
+
+-- by the library: the call c is permitted on the image I with the session s, and the report r and the trace t that it leaves
+-- give its outcome
+abbrev pub Called : Calls
 Called I s c r t =
     PermittedOn s I (c .args) (c .trace) (c .choice) × Reports (answers s I (c .args) (c .trace) (c .choice)) (c .trace) r t
+
+-- whatever may come of a call made as C says may come of the library's
+abbrev pub OfLibrary : Calls → Type 0
+OfLibrary C = (I : Image) (s : Session) (c : Call) (r : Report) (t : Trace) → C I s c r t → Called I s c r t
 
 -- the first p operations that stand on the trace t: what was carried out where power fails after p of them. That they are
 -- carried out in this order is asked of whoever does it; that the code of replay does is read in its loop, since no contract
@@ -38,6 +47,6 @@ Called I s c r t =
 abbrev pub carried : Trace → ℕ → Ops
 carried t p = decode (take (opNumbers * p) t)
 
--- the call, and all that it reports carried out, which leaves the image I′
-abbrev pub Stepped : Image → Session → Call → Report → Trace → Image → Type 0
-Stepped I s c r t I′ = Called I s c r t × (I′ ≡ replay (carried t (r .ops)) I)
+-- a call, made as C says, and all that it reports carried out, which leaves the image I′
+abbrev pub Stepped : Calls → Image → Session → Call → Report → Trace → Image → Type 0
+Stepped C I s c r t I′ = C I s c r t × (I′ ≡ replay (carried t (r .ops)) I)

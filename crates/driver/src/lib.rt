@@ -13,7 +13,7 @@ ghost use Rattle.model.specs.Ops.{opNumbers};
 ghost use Rattle.model.specs.Replay.{replayOutcome};
 ghost use Rattle.model.specs.History.{callOpen, callWrite, callCheckpoint};
 ghost use Rattle.model.specs.Write.{writeArgsOf};
-ghost use Rattle.driver.specs.Stepped.{reportOf, Stepped};
+ghost use Rattle.driver.specs.Stepped.{reportOf, Called, Stepped};
 
 // Replays the first `ops` operations of a trace: all that a call reports. How the replay ends, and how many it played.
 fn play_reported(image: &mut [u8], trace: &[u64], ops: u64) -> Replayed
@@ -34,7 +34,7 @@ pub fn step_open(
     blocks: u64,
     trace: &mut [u64],
 ) -> Answer
-    ensures { λ r. ⌜ ((s : Session) → Stepped (now (image .entry)) s (callOpen (layoutOf mains backups blocks) (now (trace .entry))) (reportOf r) (now (trace .exit)) (now (image .exit))) ⌝ }
+    ensures { λ r. ⌜ ((s : Session) → Stepped Called (now (image .entry)) s (callOpen (layoutOf mains backups blocks) (now (trace .entry))) (reportOf r) (now (trace .exit)) (now (image .exit))) ⌝ }
 {
     let opened = open::crpm_open(image, mains, backups, blocks, trace);
     play_reported(image, trace, opened.ops);
@@ -51,7 +51,7 @@ pub fn step_write(
     bytes: &[u8],
     trace: &mut [u64],
 ) -> Answer
-    ensures { λ r. ⌜ ((j : ℕ) × Stepped (now (image .entry)) session (callWrite (writeArgsOf main block offset (now (bytes .entry))) (now (trace .entry)) j) (reportOf r) (now (trace .exit)) (now (image .exit))) ⌝ }
+    ensures { λ r. ⌜ ((j : ℕ) × Stepped Called (now (image .entry)) session (callWrite (writeArgsOf main block offset (now (bytes .entry))) (now (trace .entry)) j) (reportOf r) (now (trace .exit)) (now (image .exit))) ⌝ }
 {
     let written = write::crpm_write(image, session, main, block, offset, bytes, trace);
     play_reported(image, trace, written.ops);
@@ -60,7 +60,7 @@ pub fn step_write(
 
 // A checkpoint, replayed whole.
 pub fn step_checkpoint(image: &mut [u8], session: Session, trace: &mut [u64]) -> Answer
-    ensures { λ r. ⌜ Stepped (now (image .entry)) session (callCheckpoint (now (trace .entry))) (reportOf r) (now (trace .exit)) (now (image .exit)) ⌝ }
+    ensures { λ r. ⌜ Stepped Called (now (image .entry)) session (callCheckpoint (now (trace .entry))) (reportOf r) (now (trace .exit)) (now (image .exit)) ⌝ }
 {
     let checkpointed = checkpoint::crpm_checkpoint(image, session, trace);
     play_reported(image, trace, checkpointed.ops);

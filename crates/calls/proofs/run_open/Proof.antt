@@ -3,7 +3,7 @@ use native.Mathlib.Omega.{arith}
 use borrow.Author.Needs.{needs}
 use Rattle.model.specs.Session.{zeroSession}
 use Rattle.model.specs.History.{callOpen}
-use Rattle.driver.specs.Stepped.{reportOf, Stepped}
+use Rattle.driver.specs.Stepped.{reportOf, Called, Stepped}
 use Rattle.printer.specs.Decimal.{Appended}
 use Rattle.printer.proofs.AppendedLaws.{appended-as}
 use Rattle.calls.specs.Prints.{blank}
@@ -52,7 +52,7 @@ returns c =
     let f = o .before .before .before .before .before in
     let s = f .before .before .before .before in
     let l = s .args .layout in
-    let step : Stepped (f .crpm-format .last .0) zeroSession (callOpen l blank) (reportOf (o .step-open .result)) (o .step-open .last .1 .1 .1 .1 .0) (o .step-open .last .0) = o .step-open .ensures zeroSession in
+    let step : Stepped Called (f .crpm-format .last .0) zeroSession (callOpen l blank) (reportOf (o .step-open .result)) (o .step-open .last .1 .1 .1 .1 .0) (o .step-open .last .0) = o .step-open .ensures zeroSession in
     let line : Appended (a .append-answer .last .0) (a .append-answer .result) lineEndBytes (e .append-text .last .0) (e .append-text .result) = e .append-text .ensures in (
       opened l _ zeroSession _ _ _ _ (record { session = o .step-open .result .session; place = a .append-answer .result }) _
           (formats l (s .args .image .now) _ (s .pre .1) (s .pre .0) (f .crpm-format .ensures .1))

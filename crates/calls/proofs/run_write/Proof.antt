@@ -1,7 +1,7 @@
 use mathlib.Core.Path.{refl}
 use native.Mathlib.Omega.{arith}
 use borrow.Author.Needs.{needs}
-use Rattle.driver.specs.Stepped.{reportOf, Stepped}
+use Rattle.driver.specs.Stepped.{reportOf, Called, Stepped}
 use Rattle.calls.specs.declared.Ran.{Ran}
 use Rattle.calls.specs.Prints.{blank, writeOf}
 use Rattle.calls.specs.Ran.{groupOfParts}
@@ -39,7 +39,7 @@ returns c =
     let a = w .before .before .before .before .before .before .args in
     let j = w .step-write .ensures .0 in
     let k = writeOf (groupOfParts (a .parts) (a .bytes .now)) j in
-    let step : Stepped (a .image .now) (a .ran .session) k (reportOf (w .step-write .result)) (w .step-write .last .1 .1 .1 .1 .1 .1 .0) (w .step-write .last .0) = w .step-write .ensures .1 in
+    let step : Stepped Called (a .image .now) (a .ran .session) k (reportOf (w .step-write .result)) (w .step-write .last .1 .1 .1 .1 .1 .1 .0) (w .step-write .last .0) = w .step-write .ensures .1 in
     let r : Ran = record { session = w .step-write .result .session; place = p .append-answer .result } in
     let q = call-ran "write=" k _ (a .ran) (w .step-write .result) _ _ _ _ _ (p .before .code .result) r step refl write-text (p .before .code .ensures) (p .append-answer .ensures .0) in
     ((j, λ d «is». let x = q d «is» in (x .0, x .1, (x .2 .0, x .2 .1))), omega arith)
