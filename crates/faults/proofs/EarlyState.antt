@@ -15,14 +15,14 @@ use Rattle.model.specs.Ops.{Ops, store, clwb, sfence, apply, replay}
 use Rattle.model.specs.Session.{freshSession}
 use Rattle.model.specs.Reference.{Page}
 use Rattle.model.specs.History.{State, start}
-use Rattle.model.specs.Crash.{CrashImage}
+use Rattle.model.specs.Crash.{KeepsDurable, CrashImage}
 use Rattle.model.specs.CrashExact.{hasFence}
 use Rattle.cases.specs.Table.{longTrace, writes, aWord}
 use Rattle.faults.specs.Faults.{l111, one, earlyStateOps, earlyWriteOps, EarlyState, ShowsBackup, EarlyStateUnseen}
 use Rattle.model.proofs.Laws.Range.{and-left, and-right}
 use Rattle.model.proofs.Argument.Persist.{Misses}
 use Rattle.model.proofs.Argument.Settled.{Off}
-use Rattle.model.proofs.Laws.Crash.Images.{crash-after}
+use Rattle.model.proofs.Laws.Crash.Images.{durable-unfenced, crash-after}
 use Rattle.cases.proofs.Compute.{model-rules, same, same-equal, small, small-bytes}
 use Rattle.cases.proofs.Starts.{standing, started}
 use Rattle.faults.proofs.Shown.{no-checkpoint}
@@ -57,11 +57,11 @@ avoids-off ℓ (sfence ∷ O) h i e = avoids-off ℓ O h i e
 -- where no fence was played, the last store may arrive alone
 last-alone : (I : Image) (A : Ops) (p w : ℕ) → hasFence (A ++ store p w ∷ []) ≡ false → avoids (p / lineSize) A ≡ true → p % wordSize ≡ 0
     → CrashImage I (A ++ store p w ∷ []) (replay (store p w ∷ []) I)
-last-alone I A p w unfenced a whole = arrives-alone I A (store p w ∷ []) unfenced (λ ℓ. apart ℓ (ℕ-discrete ℓ (p / lineSize)))
+last-alone I A p w unfenced a whole = arrives-alone I A (store p w ∷ []) (λ ℓ. apart ℓ (ℕ-discrete ℓ (p / lineSize)))
   where
-    apart : (ℓ : ℕ) → Dec (ℓ ≡ p / lineSize) → Off ℓ A ⊎ Off ℓ (store p w ∷ [])
+    apart : (ℓ : ℕ) → Dec (ℓ ≡ p / lineSize) → Off ℓ A ⊎ (Off ℓ (store p w ∷ []) × KeepsDurable ℓ (A ++ store p w ∷ []) 0)
     apart ℓ (yes here) = inl (λ i e. avoids-off (p / lineSize) A a i (e ∙ here))
-    apart ℓ (no there) = inr (λ i e. ((λ low high. there (omega arith)), tt))
+    apart ℓ (no there) = inr ((λ i e. ((λ low high. there (omega arith)), tt)), durable-unfenced ℓ _ 0 unfenced)
 
 -- ---- from an unpaired main segment
 

@@ -1,4 +1,4 @@
--- The counterexamples: what they share, one file a fault, and all of them together; and a format that was not flushed.
+-- The counterexamples: what they share, one file a fault, and all of them together; and what was not flushed.
 pub mod Shown
 pub mod Alone
 pub mod TwoCalls
@@ -7,4 +7,5 @@ pub mod ClearedMarks
 pub mod SkippedCopy
 pub mod InactiveLine
 pub mod Faults
+pub mod BrokenOff
 pub mod Unflushed

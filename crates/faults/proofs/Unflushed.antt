@@ -15,26 +15,28 @@ use Rattle.model.specs.Container.{activeLine, checkpointBytes, headerOk}
 use Rattle.model.specs.Ops.{Ops, store, clwb, sfence, replay, stores}
 use Rattle.model.specs.Format.{container, formatted, formatOutcome}
 use Rattle.model.specs.Open.{openStatus, openOutcome}
-use Rattle.model.specs.Crash.{AgreeOn, CrashImage}
+use Rattle.model.specs.Crash.{KeepsDurable, AgreeOn, CrashImage}
 use Rattle.model.specs.CrashExact.{hasFence, floorFrom, floor}
 use Rattle.model.specs.Reference.{Page}
 use Rattle.model.specs.History.{State, run, AllPermitted}
 use Rattle.model.specs.CrashSafety.{Recovers, none}
-use Rattle.model.specs.FormatDurable.{formatStores}
+use Rattle.model.specs.FlushDurable.{formatStores}
 use Rattle.cases.specs.Table.{l211, longTrace, aWord}
 use Rattle.faults.specs.Faults.{twoCalls}
 use Rattle.faults.specs.Unflushed.{all255, firstOpening, RefusedLater, older, HalfOld, Unflushed}
 use Rattle.model.proofs.Laws.Words.{word-cong}
 use Rattle.model.proofs.Laws.Crash.Floor.{floor-durable, durable-floor, durable-all}
-use Rattle.model.proofs.Laws.Crash.Images.{every-combination}
+use Rattle.model.proofs.Laws.Crash.Images.{durable-unfenced, every-combination}
 use Rattle.model.proofs.Argument.Persist.{Misses}
 use Rattle.model.proofs.Argument.Settled.{Off}
 use Rattle.model.proofs.Argument.Runs.{each-cat}
 use Rattle.model.proofs.Sisters.{opening-safety}
-use Rattle.model.proofs.FormatDurable.{format-by-stores}
+use Rattle.model.proofs.FlushDurable.{format-by-stores}
 use Rattle.cases.proofs.Compute.{model-rules, same, same-equal, small, small-bytes}
 use Rattle.cases.proofs.Starts.{standing, started}
+use Rattle.faults.proofs.Shown.{shows}
 use Rattle.faults.proofs.Alone.{arrives-alone}
+use Rattle.faults.proofs.BrokenOff.{broken-off}
 
 -- ---- a module of 255s
 
@@ -115,11 +117,6 @@ refused-later = record {
 
 -- ---- an older board
 
--- what opening shows of an image
-shows : (I : Image) (P : Page) → openStatus l211 I longTrace ≡ 0 → small I ≡ true → checkpointBytes l211 I (activeLine I) ≡ P → Recovers l211 I longTrace P
-shows I P served bytes is =
-    subst (Recovers l211 I longTrace) is (opening-safety l211 I longTrace (small-bytes I bytes) served I none longTrace (λ e. omega arith) .0)
-
 -- it stands as it was but for main segment 0
 abbrev left : Image
 left =
@@ -145,12 +142,12 @@ unfenced : hasFence (metadata ++ block) ≡ false
 unfolding model-rules hasFence
 unfenced = refl
 
-apart : (ℓ : ℕ) → Off ℓ metadata ⊎ Off ℓ block
+apart : (ℓ : ℕ) → Off ℓ metadata ⊎ (Off ℓ block × KeepsDurable ℓ (metadata ++ block) 0)
 unfolding stores
 apart ℓ = go (decLt ℓ 8)
   where
-    go : Dec (ℓ < 8) → Off ℓ metadata ⊎ Off ℓ block
-    go (yes h) = inr (λ i e. each-cat (Misses i) 32 _ (λ k x. ((λ low high. omega arith), tt)))
+    go : Dec (ℓ < 8) → Off ℓ metadata ⊎ (Off ℓ block × KeepsDurable ℓ (metadata ++ block) 0)
+    go (yes h) = inr ((λ i e. each-cat (Misses i) 32 _ (λ k x. ((λ low high. omega arith), tt))), durable-unfenced ℓ _ 0 unfenced)
     go (no h) = inl (λ i e. each-cat (Misses i) 64 _ (λ k x. ((λ low high. omega arith), tt)))
 
 half-old : HalfOld
@@ -159,9 +156,9 @@ half-old = record {
   formats = format-by-stores l211 older refl;
   before = shows older _ refl refl (same-equal _ _ refl);
   left = left;
-  crash = subst (λ (X : Ops). CrashImage older X left) (sym parts) (subst (CrashImage older (metadata ++ block)) arrives (arrives-alone older metadata block unfenced apart));
+  crash = subst (λ (X : Ops). CrashImage older X left) (sym parts) (subst (CrashImage older (metadata ++ block)) arrives (arrives-alone older metadata block apart));
   shown = shows left _ refl refl (same-equal _ _ refl);
 }
 
 pub unflushed : Unflushed
-unflushed = record { refusedLater = refused-later; halfOld = half-old }
+unflushed = record { refusedLater = refused-later; halfOld = half-old; brokenOff = broken-off }

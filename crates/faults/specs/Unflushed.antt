@@ -1,17 +1,18 @@
--- What may happen after a format whose lines nobody wrote back (`FormatDurable` of crate `model` says what doing so gives):
--- a board of 2 main segments, 1 backup segment and 1 block, in two computed instances. Proved in proofs/Unflushed.antt.
+-- What may happen where nobody writes every line back and fences (`FlushDurable` of crate `model` says what doing so gives): after a
+-- format, and when a program starts again after it ended while the power stayed on. A board of 2 main segments, 1 backup segment
+-- and 1 block, in three computed instances. Proved in proofs/Unflushed.antt and proofs/BrokenOff.antt.
 use mathlib.Core.Path.{_≡_}
-use mathlib.Core.List.{_∷_, _++_}
+use mathlib.Core.List.{List, [], _∷_, _++_}
 use lib.ListN.{take, replicate}
 use Rattle.model.specs.Words.{Image}
 use Rattle.model.specs.Layout.{lineSize, most, unpaired}
 use Rattle.model.specs.Format.{container, formatted}
 use Rattle.model.specs.Open.{openStatus, openOutcome}
 use Rattle.model.specs.Crash.{CrashImage}
-use Rattle.model.specs.History.{State, start, run, AllPermitted}
-use Rattle.model.specs.CrashSafety.{Recovers}
-use Rattle.model.specs.FormatDurable.{Formats, formatStores}
-use Rattle.cases.specs.Table.{l211, longTrace, aWord}
+use Rattle.model.specs.History.{Call, State, start, run, AllPermitted}
+use Rattle.model.specs.CrashSafety.{Moment, during, PermittedAt, playedAt, Recovers}
+use Rattle.model.specs.FlushDurable.{standing, Formats, formatStores}
+use Rattle.cases.specs.Table.{l211, longTrace, write, checkpoint, aWord}
 use Rattle.faults.specs.Faults.{twoCalls}
 
 -- ---- a module of 255s
@@ -50,7 +51,40 @@ pub record HalfOld : Type 0 where
   pub crash : CrashImage older (take 96 (formatStores l211)) left
   pub shown : Recovers l211 left longTrace (replicate 256 0 ++ replicate 256 41)
 
--- A FORMAT THAT WAS NOT FLUSHED, both ways
+-- ---- a program that is started again
+
+-- a board whose checkpoint holds 40 in main segment 0, which is paired, and nothing of main segment 1
+abbrev pub once : Image
+once =
+    container l211 1 (replicate lineSize 0) (1 ∷ replicate 63 0) (0 ∷ replicate 63 unpaired)
+    (replicate 256 40 ++ replicate 256 0 ++ replicate 256 40)
+
+-- opened, and a word written to each
+abbrev pub twoWrites : List Call
+twoWrites = write 0 0 aWord ∷ write 1 0 aWord ∷ []
+
+abbrev pub edited : State
+edited = run (start l211 once longTrace) twoWrites
+
+-- a checkpoint, of which 20 of 22 operations were carried out, the last the store of the epoch, when the program ended
+abbrev pub ended : Moment
+ended = during checkpoint 20
+
+-- the power stays on; what stands is opened without a flush, and that opening is carried out whole. Then a crash may leave an image that
+-- opening serves, and that shows the new bytes of main segment 0 and the old ones of main segment 1: neither checkpoint
+pub record BrokenOff : Type 0 where
+  pub opens : openStatus l211 once longTrace ≡ 0
+  pub permitted : AllPermitted (start l211 once longTrace) twoWrites × PermittedAt (edited .device) ended
+  pub old : edited .model .checkpoint ≡ replicate 256 40 ++ replicate 256 0
+  pub new : edited .model .working ≡ (aWord ++ replicate 248 40) ++ (aWord ++ replicate 248 0)
+  pub served : openStatus l211 (standing (edited .device) ended) longTrace ≡ 0
+  pub left : Image
+  pub crash : CrashImage (edited .device .durable)
+      (playedAt (edited .device) ended ++ openOutcome l211 (standing (edited .device) ended) longTrace .ops) left
+  pub shown : Recovers l211 left longTrace ((aWord ++ replicate 248 40) ++ replicate 256 0)
+
+-- WITHOUT A FLUSH OF EVERY LINE AND A FENCE, after a format and before an opening
 pub record Unflushed : Type 0 where
   pub refusedLater : RefusedLater
   pub halfOld : HalfOld
+  pub brokenOff : BrokenOff

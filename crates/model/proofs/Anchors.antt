@@ -29,7 +29,7 @@ use Rattle.model.specs.Crash.{KeepsDurable, Stage, CrashImage}
 use Rattle.model.specs.CrashExact.{hasFence, floorFrom, floor}
 use Rattle.model.specs.Reference.{Model, openArgs, writeArgs, modelStep}
 use Rattle.model.specs.History.{Device, callOpen, deviceStep}
-use Rattle.model.specs.FormatDurable.{flushAll}
+use Rattle.model.specs.FlushDurable.{flushAll}
 
 -- one main segment at 512 and one backup segment at 768, of one block
 abbrev small : Layout

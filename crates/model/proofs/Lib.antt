@@ -6,4 +6,4 @@ pub mod Laws
 pub mod Argument
 pub mod CrashSafety
 pub mod Sisters
-pub mod FormatDurable
+pub mod FlushDurable

@@ -25,7 +25,7 @@ pub mod History
 pub mod Crash
 pub mod CrashSafety
 pub mod Sisters
-pub mod FormatDurable
+pub mod FlushDurable
 -- further statements: what no call reads, the epoch, lengths of a trace, the crash relation taken apart
 pub mod Unread
 pub mod EpochCounts

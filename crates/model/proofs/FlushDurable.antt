@@ -1,12 +1,13 @@
--- A format that was made durable (specs/FormatDurable.antt), proved: every line is written back after its last store and then
--- fenced, so that every line is settled, and what is played afterwards is played on a durable image.
-use Prim.Native.Nat.{ℕ, _*_, _/_, _%_, _<_}
+-- Every line written back and fenced (specs/FlushDurable.antt): every line is settled, and what is played afterwards is played on a
+-- durable image. So it is after a format, and when a program starts again.
+use Prim.Native.Nat.{ℕ, _-_, _*_, _/_, _%_, _≤_, _<_}
 use mathlib.Core.Path.{_≡_, refl, sym, ap, _∙_, subst, subst₂}
 use mathlib.Core.Logic.{_↔_}
 use mathlib.Core.List.{List, [], _∷_, _++_}
 use native.Mathlib.Omega.{arith}
-use lib.ListN.{length}
-use lib.Seq.{ext-getD}
+use native.Mathlib.Decide.{decLe}
+use lib.ListN.{length, take}
+use lib.Seq.{ext-getD, take-length, take-append-le}
 use Rattle.model.specs.declared.Layout.{Layout}
 use Rattle.model.specs.Words.{Image, Bytes, byteAt}
 use Rattle.model.specs.Layout.{lineSize, SizesOk, imageSize}
@@ -14,20 +15,23 @@ use Rattle.model.specs.Container.{activeLine}
 use Rattle.model.specs.Ops.{Ops, Trace, sfence, replay, clwbs}
 use Rattle.model.specs.Format.{formatted}
 use Rattle.model.specs.Open.{recoveryOps, openStatus, openOutcome}
-use Rattle.model.specs.Crash.{CrashImage}
+use Rattle.model.specs.Crash.{Stage, CrashImage}
 use Rattle.model.specs.Reference.{Page}
 use Rattle.model.specs.History.{Call, State, deviceStep, step, run, playedOps, openedImage, start}
 use Rattle.model.specs.CrashSafety.{Recovers, playedAt, again}
-use Rattle.model.specs.FormatDurable.{flushAll, Formats, formatStores, FormatByStores, FormatDurable, FormatSettles, FormatStarts, FormatSafety}
+use Rattle.model.specs.FlushDurable.{flushAll, FlushDurable, FlushCut, standing, RestartSafety, Formats, formatStores, FormatByStores, FormatDurable, FormatSettles, FormatStarts, FormatSafety}
 use Rattle.model.proofs.Laws.Words.{byte-of-word}
 use Rattle.model.proofs.Laws.Layout.{image-lines}
 use Rattle.model.proofs.Laws.Format.{formatted-length, formatted-checkpoint, formatted-starts, format-served, format-gives}
-use Rattle.model.proofs.Laws.Crash.Images.{crash-settled}
-use Rattle.model.proofs.Argument.Persist.{each-append, length-replay, replay-clear, replay-append}
-use Rattle.model.proofs.Argument.Settled.{Settled, Settles, settles-fence}
+use Rattle.model.proofs.Laws.Crash.Floor.{durable-all}
+use Rattle.model.proofs.Laws.Crash.Images.{newest, crash-settled}
+use Rattle.model.proofs.Argument.Persist.{each-append, each-take, length-replay, replay-clear, replay-append}
+use Rattle.model.proofs.Argument.Settled.{Settled, Settles, durable-front, replay-past, settles-fence}
 use Rattle.model.proofs.Argument.Runs.{Puts, puts-stores, clwbs-none, flushed-clwbs}
 use Rattle.model.proofs.Argument.Recovery.{recovery-keeps}
+use Rattle.model.proofs.Argument.OpenCall.{accepted}
 use Rattle.model.proofs.Argument.Openings.{open-served, opened-is}
+use Rattle.model.proofs.CrashSafety.{crash-safety}
 use Rattle.model.proofs.Sisters.{opening-settles, opening-safety}
 
 -- ---- the stores of a format
@@ -61,16 +65,82 @@ unfolding flushAll
 flush-replay K I = ext-getD 0 _ _ (length-replay (flushAll K) I)
     (λ i x. replay-clear (flushAll K) I i (each-append _ (clwbs (length K / lineSize) 0) (sfence ∷ []) (clwbs-none _ _ _) tt))
 
+flush-same : (I J : Image) → length I ≡ length J → flushAll I ≡ flushAll J
+unfolding flushAll
+flush-same I J e = ap (λ (n : ℕ). clwbs (n / lineSize) 0 ++ sfence ∷ []) e
+
+pub flush-durable : FlushDurable
+flush-durable I W whole = (
+  newest I W,
+  λ E H. subst (λ (K : Image). CrashImage I (W ++ flushAll I ++ E) H ↔ CrashImage K E H) (replay-append W (flushAll I) I ∙ flush-replay I (replay W I))
+      (crash-settled I H (W ++ flushAll I) E (λ ℓ h. flush-settles I ℓ whole h W)),
+)
+
+pub flush-cut : FlushCut
+flush-cut I W n H c = record { long = c .long; lines = λ ℓ. stage (c .lines ℓ) }
+  where
+    stage : {ℓ : ℕ} → Stage ℓ I (W ++ clwbs n 0) H → Stage ℓ I W H
+    stage {ℓ} s = go (decLe (s .k) (length W))
+      where
+        go : Dec (s .k ≤ length W) → Stage ℓ I W H
+        go (yes h) = record {
+          k = s .k;
+          within = h;
+          durable = durable-front ℓ W (clwbs n 0) (s .k) (s .durable);
+          agree = λ i e. s .agree i e ∙ ap (λ (X : Ops). byteAt (replay X I) i) (take-append-le (s .k) W (clwbs n 0) h);
+        }
+        go (no h) = record {
+          k = length W;
+          within = omega arith;
+          durable = durable-all ℓ W;
+          agree = λ i e. s .agree i e
+              ∙ ap (λ (J : Image). byteAt J i) (replay-past (s .k) W (clwbs n 0) I (omega arith))
+              ∙ replay-clear (take (s .k - length W) (clwbs n 0)) (replay W I) i (each-take _ (s .k - length W) (clwbs n 0) (clwbs-none _ n 0))
+              ∙ ap (λ (X : Ops). byteAt (replay X I) i) (sym (take-length W));
+        }
+
+-- ---- a program that starts again
+
+run-durable : (s : State) (cs : List Call) → run s cs .device .durable ≡ s .device .durable
+unfolding run step deviceStep
+run-durable s [] = refl
+run-durable s (c ∷ cs) = run-durable (step s c) cs
+
+start-whole : (l : Layout) (I : Image) (t : Trace) → openStatus l I t ≡ 0 → (cs : List Call) → length (run (start l I t) cs .device .durable) % lineSize ≡ 0
+unfolding start
+start-whole l I t h cs =
+    let O = recoveryOps l I (activeLine I) in
+    let e : length (run (start l I t) cs .device .durable) ≡ length (openedImage l I t) = ap (λ (J : Image). length J) (run-durable (start l I t) cs) in
+    let d : length (openedImage l I t) ≡ length (replay O I) = ap (λ (J : Image). length J) (opened-is l I t h) in
+    omega (arith, e, d, length-replay O I, accepted l I t h .long, image-lines l)
+
+pub restart-safety : RestartSafety
+restart-safety l I t b h cs permitted m at t₁ ne₁ p H c H′ openings t′ ne =
+    let s : State = run (start l I t) cs in
+    let W : Ops = playedAt (s .device) m in
+    let J : Image = standing (s .device) m in
+    let f = flush-durable (s .device .durable) W (start-whole l I t h cs) in
+    let E : Ops = playedOps J (openOutcome (s .device .layout) J t₁ .ops) t₁ p in
+    let g : CrashImage J E H = f .1 E H .0 (subst (λ (F : Ops). CrashImage (s .device .durable) (W ++ F ++ E) H) (flush-same J (s .device .durable) (length-replay W (s .device .durable))) c) in
+    crash-safety l I t b h cs permitted m at J (f .0) H′ (again t₁ p ne₁ g openings) t′ ne
+
+-- ---- a format that is flushed
+
 module _ (l : Layout) (I : Image) (W : Ops) (f : Formats l I W) where
   sizes : SizesOk l
   sizes = format-served l I (f .served) .0
 
+  whole : length I % lineSize ≡ 0
+  whole = omega (arith, format-served l I (f .served) .1, image-lines l)
+
+  leaves-formatted : replay W I ≡ formatted l
+  leaves-formatted = f .leaves ∙ format-gives l I sizes (format-served l I (f .served) .1) .1
+
   flushed-replay : replay (W ++ flushAll I) I ≡ formatted l
-  flushed-replay =
-      replay-append W (flushAll I) I ∙ flush-replay I (replay W I) ∙ f .leaves ∙ format-gives l I sizes (format-served l I (f .served) .1) .1
+  flushed-replay = replay-append W (flushAll I) I ∙ flush-replay I (replay W I) ∙ leaves-formatted
 
   flushed-settled : (ℓ : ℕ) → lineSize * ℓ < length I → Settled ℓ (W ++ flushAll I)
-  flushed-settled ℓ h = flush-settles I ℓ (omega (arith, format-served l I (f .served) .1, image-lines l)) h W
+  flushed-settled ℓ h = flush-settles I ℓ whole h W
 
   -- a served opening, played whole
   module _ (t : Trace) (h : openStatus l (formatted l) t ≡ 0) where
@@ -90,19 +160,14 @@ module _ (l : Layout) (I : Image) (W : Ops) (f : Formats l I W) where
 
 pub format-durable : FormatDurable
 format-durable l I W f E H =
-    subst (λ (K : Image). CrashImage I (W ++ flushAll I ++ E) H ↔ CrashImage K E H) (flushed-replay l I W f)
-    (crash-settled I H (W ++ flushAll I) E (flushed-settled l I W f))
+    subst (λ (K : Image). CrashImage I (W ++ flushAll I ++ E) H ↔ CrashImage K E H) (leaves-formatted l I W f)
+    (flush-durable I W (whole l I W f) .1 E H)
 
 pub format-settles : FormatSettles
 format-settles l I W f t h H =
     let d = format-durable l I W f (openOutcome l (formatted l) t .ops) H in
     let o = opening-settles l (formatted l) t (formatted-starts l (sizes l I W f) t .0) h in
     (λ c. o .1 H (d .0 c), λ e. d .1 (subst (CrashImage (formatted l) (openOutcome l (formatted l) t .ops)) (sym e) (o .0)))
-
-run-durable : (s : State) (cs : List Call) → run s cs .device .durable ≡ s .device .durable
-unfolding run step deviceStep
-run-durable s [] = refl
-run-durable s (c ∷ cs) = run-durable (step s c) cs
 
 pub format-starts : FormatStarts
 unfolding start

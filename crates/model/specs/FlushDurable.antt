@@ -1,8 +1,9 @@
--- A format that was made durable. Format only stores, and a store alone is not durable: the caller writes every line of the
--- image back and fences before the first opening. Then nothing of what stood on the module before can come back, and a
--- history starts with all durable, as specs/History.antt has it. What may happen otherwise is computed in crate `faults`
--- (specs/Unflushed.antt). Proved in proofs/FormatDurable.antt. Assumes what specs/Crash.antt does of the hardware.
-use Prim.Native.Nat.{ℕ, _*_, _/_}
+-- Every line of an image written back and fenced (`flushAll`): what a caller does after a format, and whenever his program starts, before
+-- the opening. Format only stores, and a program that ends while the power stays on leaves its last stores in the cache: a store alone is
+-- not durable. Once every line is flushed and fenced, what stands is durable, and a history starts with all durable, as
+-- specs/History.antt has it. What may happen otherwise is computed in crate `faults` (specs/Unflushed.antt). Proved in
+-- proofs/FlushDurable.antt. Assumes what specs/Crash.antt does of the hardware.
+use Prim.Native.Nat.{ℕ, _*_, _/_, _%_}
 use mathlib.Core.Path.{_≡_}
 use mathlib.Core.Logic.{_↔_, _≢_}
 use mathlib.Core.List.{List, [], _∷_, _++_}
@@ -14,12 +15,47 @@ use Rattle.model.specs.Ops.{Ops, Trace, sfence, replay, stores, clwbs}
 use Rattle.model.specs.Format.{formatted, formatOutcome}
 use Rattle.model.specs.Open.{openStatus, openOutcome}
 use Rattle.model.specs.Crash.{CrashImage}
-use Rattle.model.specs.History.{Call, State, playedOps, openedImage, start, run}
-use Rattle.model.specs.CrashSafety.{Recovers, Moment, playedAt, CutOpenings}
+use Rattle.model.specs.Reference.{Page}
+use Rattle.model.specs.History.{Call, Device, State, playedOps, openedImage, start, run}
+use Rattle.model.specs.CrashSafety.{Recovers, Moment, PermittedAt, playedAt, MayShow, InEveryHistory, CutOpenings}
 
 -- every line of an image written back, upward, and a fence
 unfoldable pub flushAll : Image → Ops
 flushAll I = clwbs (length I / lineSize) 0 ++ sfence ∷ []
+
+-- ---- whatever was played
+
+-- what stands once W was played is one of the images that a crash may leave; and once every line is flushed and fenced it is
+-- durable: whatever is played from there on, a crash may leave the same as if it had always stood there
+abbrev pub FlushDurable : Type 0
+FlushDurable =
+    (I : Image) (W : Ops) → length I % lineSize ≡ 0
+    → CrashImage I W (replay W I) × ((E : Ops) (H : Image) → CrashImage I (W ++ flushAll I ++ E) H ↔ CrashImage (replay W I) E H)
+
+-- power may fail while the lines are written back, before the fence: what is left could have been left before
+abbrev pub FlushCut : Type 0
+FlushCut = (I : Image) (W : Ops) (n : ℕ) (H : Image) → CrashImage I (W ++ clwbs n 0) H → CrashImage I W H
+
+-- ---- a program that ended while the power stayed on
+
+-- what stands at a moment
+abbrev pub standing : Device → Moment → Image
+standing d m = replay (playedAt d m) (d .durable)
+
+-- at any moment of any history the program ends; what stands is flushed, fenced and opened, and power may fail after any number p of that
+-- opening's operations, and in any number of openings after it: the first that finishes shows what demand 3 says of a crash at the
+-- moment when the program ended
+abbrev pub RestartSafety : Type 0
+RestartSafety = InEveryHistory (λ s.
+    (m : Moment) → PermittedAt (s .device) m
+    → let J : Image = standing (s .device) m in
+    (t : Trace) → openStatus (s .device .layout) J t ≢ 11 → (p : ℕ) (H : Image)
+    → CrashImage (s .device .durable) (playedAt (s .device) m ++ flushAll J ++ playedOps J (openOutcome (s .device .layout) J t .ops) t p) H
+    → (H′ : Image) → CutOpenings CrashImage (s .device .layout) H H′
+    → (t′ : Trace) → openStatus (s .device .layout) H′ t′ ≢ 11
+    → (Q : Page) × MayShow s m Q × Recovers (s .device .layout) H′ t′ Q × Bytes H′)
+
+-- ---- a format
 
 -- format is served on the image J, which was durable, and the operations W, all that was played since, leave what it
 -- leaves: its stores, in any order, and whatever came before them

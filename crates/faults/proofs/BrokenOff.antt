@@ -1,0 +1,177 @@
+-- A program that ended inside a checkpoint while the power stayed on, opened again without a flush: the opening renews the backup
+-- segment by the new epoch, and a crash may bring the old epoch back.
+use Prim.Native.Nat.{ℕ, _+_, _*_}
+use mathlib.Core.Path.{_≡_, refl, sym, ap, ap₂, subst, _∙_}
+use mathlib.Core.Logic.{_⊎_, inl, inr}
+use mathlib.Core.Bool.{false≢true}
+use mathlib.Core.List.{[], _∷_, _++_, append-assoc}
+use native.Mathlib.Omega.{arith}
+use native.Mathlib.Decide.{ℕ-discrete}
+use lib.Dec.{lit<}
+use lib.ListN.{replicate}
+use Rattle.model.specs.Words.{Image, wordAt}
+use Rattle.model.specs.Layout.{unpaired}
+use Rattle.model.specs.Ops.{Ops, store, clwb, sfence, replay, stores, clwbs, putBlock, persistCopy}
+use Rattle.model.specs.Format.{container}
+use Rattle.model.specs.Open.{openStatus, openOutcome}
+use Rattle.model.specs.Crash.{KeepsDurable, CrashImage}
+use Rattle.model.specs.CrashExact.{hasFence, floorFrom, floor}
+use Rattle.model.specs.Reference.{Page}
+use Rattle.model.specs.History.{State, start, deviceStep, step, run, AllPermitted}
+use Rattle.model.specs.CrashSafety.{during, PermittedAt, playedAt, Recovers}
+use Rattle.model.specs.FlushDurable as flush
+use Rattle.model.proofs.Laws.Crash.Floor.{floor-durable}
+use Rattle.model.proofs.Laws.Crash.Images.{crash-after}
+use Rattle.model.proofs.Argument.Persist.{Misses, each-append}
+use Rattle.model.proofs.Argument.Settled.{Off}
+use Rattle.model.proofs.Argument.Runs.{each-cat, clwbs-none}
+use Rattle.cases.specs.Table.{l211, longTrace, checkpoint, aWord}
+use Rattle.cases.proofs.Compute.{model-rules, same, same-equal, small, small-bytes}
+use Rattle.cases.proofs.Starts.{standing, started}
+use Rattle.faults.specs.Unflushed.{once, twoWrites, edited, ended, BrokenOff}
+use Rattle.faults.proofs.Alone.{arrives-alone}
+use Rattle.faults.proofs.Shown.{shows}
+
+abbrev old : Page
+old = replicate 256 40 ++ replicate 256 0
+
+opens : openStatus l211 once longTrace ≡ 0
+unfolding model-rules
+opens = refl
+
+begins : start l211 once longTrace ≡ standing l211 once old
+unfolding model-rules same
+begins = started l211 once once longTrace old opens (same-equal _ _ refl) (same-equal _ _ refl)
+
+-- where the program stands before its checkpoint
+abbrev before : State
+before = run (standing l211 once old) twoWrites
+
+stands : edited ≡ before
+stands = ap (λ (s : State). run s twoWrites) begins
+
+-- all that was carried out but the store of the epoch
+abbrev first : Ops
+first =
+    sfence ∷ store 192 2 ∷ clwb 192 ∷ sfence ∷ store 512 0x0807060504030201 ∷ store 768 0x0807060504030201
+    ∷ clwb 512 ∷ clwb 576 ∷ clwb 640 ∷ clwb 704 ∷ clwb 768 ∷ clwb 832 ∷ clwb 896 ∷ clwb 960 ∷ sfence
+    ∷ store 128 0x0101 ∷ store 136 0 ∷ store 144 0 ∷ store 152 0 ∷ store 160 0 ∷ store 168 0 ∷ store 176 0 ∷ store 184 0 ∷ clwb 128 ∷ sfence ∷ []
+
+parts : playedAt (before .device) ended ≡ first ++ store 0 2 ∷ []
+unfolding model-rules
+parts = refl
+
+-- a board in epoch e, with these bytes in its backup segment
+abbrev board : ℕ → Image → Image
+board e spare =
+    container l211 e (1 ∷ 1 ∷ replicate 62 0) (2 ∷ replicate 63 0) (0 ∷ replicate 63 unpaired)
+    ((aWord ++ replicate 248 40) ++ (aWord ++ replicate 248 0) ++ spare)
+
+leaves : replay first once ≡ board 1 (replicate 256 40)
+unfolding model-rules same
+leaves = same-equal _ _ refl
+
+leaves-all : replay (first ++ store 0 2 ∷ []) once ≡ board 2 (replicate 256 40)
+unfolding model-rules same
+leaves-all = same-equal _ _ refl
+
+ends : flush.standing (before .device) ended ≡ board 2 (replicate 256 40)
+unfolding run step deviceStep
+ends = ap (λ (X : Ops). replay X once) parts ∙ leaves-all
+
+-- the opening copies main segment 0 to its backup segment
+abbrev renewed : Ops
+renewed = persistCopy (board 2 (replicate 256 40)) 512 1024 ++ sfence ∷ []
+
+reopens : openStatus l211 (board 2 (replicate 256 40)) longTrace ≡ 0
+unfolding model-rules
+reopens = refl
+
+reopening : openOutcome l211 (board 2 (replicate 256 40)) longTrace .ops ≡ renewed
+unfolding model-rules
+reopening = refl
+
+renews : replay renewed (board 1 (replicate 256 40)) ≡ board 1 (aWord ++ replicate 248 40)
+unfolding model-rules same
+renews = same-equal _ _ refl
+
+renewed-off : Off 0 renewed
+unfolding persistCopy putBlock stores
+renewed-off i e =
+    each-append (Misses i) (persistCopy (board 2 (replicate 256 40)) 512 1024) (sfence ∷ [])
+    (each-append (Misses i) (stores 32 1024 (λ k. wordAt (board 2 (replicate 256 40)) (512 + 8 * k))) (clwbs 4 1024)
+    (each-cat (Misses i) 32 (λ k. store (1024 + 8 * k) (wordAt (board 2 (replicate 256 40)) (512 + 8 * k)) ∷ []) (λ k x. ((λ low high. omega arith), tt)))
+    (clwbs-none (Misses i) 4 1024)) tt
+
+epoch-floor : floor 0 (store 0 2 ∷ renewed) ≡ 0
+unfolding model-rules floorFrom hasFence
+epoch-floor = refl
+
+-- the epoch need not arrive: no call wrote its line back and fenced
+apart : (ℓ : ℕ) → Off ℓ (store 0 2 ∷ []) ⊎ (Off ℓ renewed × KeepsDurable ℓ (store 0 2 ∷ renewed) 0)
+apart ℓ = go (ℕ-discrete ℓ 0)
+  where
+    go : Dec (ℓ ≡ 0) → Off ℓ (store 0 2 ∷ []) ⊎ (Off ℓ renewed × KeepsDurable ℓ (store 0 2 ∷ renewed) 0)
+    go (yes here) = inr (
+      λ i e. renewed-off i (e ∙ here),
+      floor-durable ℓ (store 0 2 ∷ renewed) 0 (omega (arith, epoch-floor, ap (λ (k : ℕ). floor k (store 0 2 ∷ renewed)) here)),
+    )
+    go (no there) = inl (λ i e. ((λ low high. there (omega arith)), tt))
+
+lost : CrashImage once (first ++ store 0 2 ∷ renewed) (board 1 (aWord ++ replicate 248 40))
+lost =
+    crash-after once _ first (store 0 2 ∷ renewed)
+    (subst (λ (T : Image). CrashImage T (store 0 2 ∷ renewed) (board 1 (aWord ++ replicate 248 40))) (sym leaves)
+    (subst (CrashImage (board 1 (replicate 256 40)) (store 0 2 ∷ renewed)) renews (arrives-alone (board 1 (replicate 256 40)) (store 0 2 ∷ []) renewed apart)))
+
+-- ---- what the calls are
+
+permitted : AllPermitted (standing l211 once old) twoWrites
+unfolding model-rules small
+permitted =
+    ((small-bytes aWord refl, λ served needs. absurd (false≢true needs)), ((small-bytes aWord refl, λ served needs. absurd (false≢true needs)), tt))
+
+more : PermittedAt (before .device) ended
+unfolding model-rules
+more = (tt, lit< tt)
+
+old-page : before .model .checkpoint ≡ old
+unfolding model-rules
+old-page = refl
+
+new-page : before .model .working ≡ (aWord ++ replicate 248 40) ++ (aWord ++ replicate 248 0)
+unfolding model-rules
+new-page = refl
+
+-- all of it together, in the order in which it was carried out
+carried-out : first ++ store 0 2 ∷ renewed ≡ playedAt (before .device) ended ++ openOutcome l211 (flush.standing (before .device) ended) longTrace .ops
+carried-out =
+    sym (append-assoc first (store 0 2 ∷ []) renewed)
+    ∙ ap₂ (λ (X Y : Ops). X ++ Y) (sym parts) (sym (ap (λ (J : Image). openOutcome l211 J longTrace .ops) ends ∙ reopening))
+
+crash : CrashImage (before .device .durable)
+    (playedAt (before .device) ended ++ openOutcome l211 (flush.standing (before .device) ended) longTrace .ops)
+    (board 1 (aWord ++ replicate 248 40))
+unfolding run step deviceStep
+crash = subst (λ (X : Ops). CrashImage once X (board 1 (aWord ++ replicate 248 40))) carried-out lost
+
+mixed : Recovers l211 (board 1 (aWord ++ replicate 248 40)) longTrace ((aWord ++ replicate 248 40) ++ replicate 256 0)
+unfolding model-rules same small
+mixed = shows (board 1 (aWord ++ replicate 248 40)) _ refl refl (same-equal _ _ refl)
+
+pub broken-off : BrokenOff
+broken-off = record {
+  opens = opens;
+  permitted =
+      (subst (λ (s : State). AllPermitted s twoWrites) (sym begins) permitted, subst (λ (s : State). PermittedAt (s .device) ended) (sym stands) more);
+  old = ap (λ (s : State). s .model .checkpoint) stands ∙ old-page;
+  new = ap (λ (s : State). s .model .working) stands ∙ new-page;
+  served =
+      ap (λ (s : State). openStatus l211 (flush.standing (s .device) ended) longTrace) stands
+      ∙ ap (λ (J : Image). openStatus l211 J longTrace) ends ∙ reopens;
+  left = board 1 (aWord ++ replicate 248 40);
+  crash = subst (λ (s : State). CrashImage (s .device .durable)
+      (playedAt (s .device) ended ++ openOutcome l211 (flush.standing (s .device) ended) longTrace .ops) (board 1 (aWord ++ replicate 248 40)))
+      (sym stands) crash;
+  shown = mixed;
+}
