@@ -14,24 +14,35 @@
  * simulation. Only crpm_format and crpm_replay change an image.
  *
  * What every caller must know
- *  - After crpm_format on a module, flush every line of the image and fence
- *    before the first opening (crpm_flush_all in crpm_x86.h). A format whose
- *    lines never reached the module can lose every later checkpoint.
+ *  - At a program's start, always, and after a call whose operations were not
+ *    all carried out: flush every line of the image and fence (crpm_flush_all in
+ *    crpm_x86.h), then open. A process that was killed or gave up among the
+ *    operations of a call leaves stores that are not durable, and an opening
+ *    flushes no metadata: without this a later power cut can lose or mix
+ *    checkpoints. After a power cut the flush changes nothing.
+ *  - After crpm_format on a module, flush every line and fence before anything
+ *    else. A format whose lines never reached the module can lose every later
+ *    checkpoint. That an opening is served is no sign that a format finished:
+ *    keep a mark of your own, outside the image, set after crpm_flush_all.
+ *  - Never format because an opening was refused; keep the dump first.
  *  - Hand to crpm_write and crpm_checkpoint only the session that the last call
  *    on this image wrote. Never one kept over a restart, never a copy of an
  *    earlier one: CRPM_BAD_SESSION does not catch every wrong one, and a wrong
  *    one that is served can turn the checkpoint to old bytes. After a restart,
  *    open.
- *  - Byte 0 of the image stands at an address divisible by 64, and the
- *    processor's cache line is 64 bytes. Each store of a trace is one aligned
- *    8-byte store.
+ *  - The image is the module's memory, mapped so that a flush reaches it. Its
+ *    byte 0 stands at an address divisible by 64, and the processor's cache line
+ *    is 64 bytes. Each store of a trace is one aligned 8-byte store.
  *  - One image, one writer: nothing else stores into it, and its calls do not
  *    run at the same time. Calls on different images may; the library keeps no
  *    data of its own.
+ *  - Compile with the header of the same version as the archive: nothing checks
+ *    it, and a larger session would be written past a smaller one.
  *  - The library takes below 16 KiB of code and constants and below 3 KiB of
  *    stack in any call, and needs memcpy and memset (scripts/footprint measures
- *    it). It uses the red zone: an interrupt handler that runs on the stack of
- *    a call must step over 128 bytes below the stack pointer, as Linux does.
+ *    it). It uses SSE registers (xmm, no ymm): code that interrupts a call saves
+ *    them. It uses the red zone: an interrupt handler that runs on the stack of
+ *    a call must step over 128 bytes below the stack pointer. Linux does both.
  *
  * Rules for every call
  *  - A buffer is a pointer and a length: of bytes for an image and for the
@@ -152,15 +163,17 @@ enum crpm_status {
 
 /* Formats an image: epoch 0, these sizes, every state 0, no backup segment
    paired, every segment zero. Whatever was there is lost. A format is not safe
-   against a power cut: format again after one. Refusals: 1, 2. */
+   against a power cut: format again after one. The next opening may serve what a
+   cut left and show old bytes, so only a mark of your own says that it finished
+   (above). Refusals: 1, 2. */
 uint64_t crpm_format(
     uint8_t *image, size_t image_length,
     uint64_t mains, uint64_t backups, uint64_t blocks);
 
 /* Opens an image, which recovers: once its operations are carried out, the
-   working bytes are those of the last checkpoint. Writes a session with no
-   dirty segment or block, and to `ops` the number of operations on the trace.
-   Refusals: 1 to 4, 11. */
+   working bytes are those of the last checkpoint. At a program's start flush
+   every line first (above). Writes a session with no dirty segment or block, and
+   to `ops` the number of operations on the trace. Refusals: 1 to 4, 11. */
 uint64_t crpm_open(
     const uint8_t *image, size_t image_length,
     uint64_t mains, uint64_t backups, uint64_t blocks,
@@ -201,7 +214,8 @@ uint64_t crpm_replay(
     uint64_t *played);
 
 /* Finds a block as it stands now: where in the image it starts and its size,
-   256. Refusals: 1 to 4, 6, 7. */
+   256. The place holds until operations are next carried out on the image; read
+   again then. Refusals: 1 to 4, 6, 7. */
 uint64_t crpm_read_working(
     const uint8_t *image, size_t image_length,
     uint64_t mains, uint64_t backups, uint64_t blocks,
@@ -210,7 +224,8 @@ uint64_t crpm_read_working(
 
 /* Finds a block as of the last checkpoint: where in the image it starts and
    its size, 256; or 0 and 0 if no checkpoint has bytes of this main segment:
-   they are then all zero. Refusals: 1 to 4, 6, 7. */
+   they are then all zero. The place holds until operations are next carried out
+   on the image; read again then. Refusals: 1 to 4, 6, 7. */
 uint64_t crpm_read_checkpoint(
     const uint8_t *image, size_t image_length,
     uint64_t mains, uint64_t backups, uint64_t blocks,

@@ -3,8 +3,9 @@
  * stores, clwb and sfence. Header only, C99 and C++11, gcc or clang; no
  * compiler flag is needed. examples/c/module.c shows its use.
  *
+ *     crpm_flush_all(image, length)       after crpm_format, and at every start
+ *                                         of a program before crpm_open
  *     crpm_carry_out(image, trace, ops)   after every call that was served
- *     crpm_flush_all(image, length)       after crpm_format
  *
  * A processor without clwb gets clflushopt, and one without that clflush; the
  * processor is asked once, at run time.
@@ -94,8 +95,9 @@ static inline void crpm_carry_out(uint8_t *image, const uint64_t *trace, uint64_
     }
 }
 
-/* Flushes every line of an image and fences: what crpm_format left is then
-   durable. */
+/* Flushes every line of an image and fences: what stands is then durable, be it
+   what crpm_format left or what a process left that ended among the operations
+   of a call. */
 static inline void crpm_flush_all(const uint8_t *image, size_t length)
 {
     const int flush = crpm_best_flush();

@@ -12,21 +12,24 @@
  *
  * FILE is mapped into memory, and the operations of each call are carried out
  * there: by crpm_x86.h, or, compiled with -DCRPM_LIBPMEM, by PMDK's libpmem.
+ * All lines are flushed after a format and at each start, before the opening.
  * With a FILE on persistent memory (a file system with DAX) this is all that a
  * program has to do. Another FILE stands in for the module.
  *
  * A killed process leaves in FILE all that it has stored, since the kernel
- * keeps the pages. So killing shows only crashes in which every store arrived,
- * and it notices no flush or fence that is left out. When the power fails, any
- * line may lack the last of its stores: that every such crash is safe is
- * proved, not tried (docs/SPECIFICATION.md, sections 7 and 15).
+ * keeps the pages: also what is not durable yet. So killing alone shows only
+ * crashes in which every store arrived. When the power fails, any line may lack
+ * the last of its stores: that every such crash is safe is proved
+ * (docs/SPECIFICATION.md, sections 7 and 15), and some are tried behind a cache
+ * that keeps back all it may (tests/c/oldest).
  *
  * With the library installed (./install):
  *
  *     gcc module.c $(pkg-config --cflags --libs crpm) -o module
  *     gcc -DCRPM_LIBPMEM module.c $(pkg-config --cflags --libs crpm libpmem) -o module
  *
- * examples/c/module-run builds both and kills them operation by operation.
+ * examples/c/module-run builds both, kills them operation by operation and cuts
+ * the power.
  */
 #define _DEFAULT_SOURCE /* MAP_SYNC */
 
@@ -203,10 +206,9 @@ static void carry_out(uint8_t *image, const char *call, uint64_t ops)
     printf("%s: %" PRIu64 " operations\n", call, ops);
 }
 
-/* A format is flushed and fenced as a whole before the first opening. An
-   opening flushes only segments: the line with the sizes would stay in the
-   cache, and after a power cut the image could be refused (CRPM_FOREIGN), with
-   every checkpoint lost that was made meanwhile. */
+/* A format is flushed and fenced as a whole, and is finished only then. An
+   opening that is served is no sign of that: a program for a board keeps a mark
+   of its own, outside the image, that it sets here. */
 static void format_image(uint8_t *image)
 {
     served("format", crpm_format(image, IMAGE_SIZE, MAINS, BACKUPS, BLOCKS));
@@ -214,10 +216,15 @@ static void format_image(uint8_t *image)
     printf("format: %zu bytes, %s\n", IMAGE_SIZE, persistent ? "persistent memory" : "a file that stands in for a module");
 }
 
-/* The session belongs to this process: it is never kept over a restart. */
+/* How every start goes. The last process may have been killed among the
+   operations of a call: then what it stored stands but is not all durable, and
+   an opening flushes no metadata. So every line is flushed first, always; after
+   a power cut that changes nothing. The session belongs to this process: it is
+   never kept over a restart. */
 static void open_image(uint8_t *image, struct crpm_session *session)
 {
     uint64_t ops;
+    crpm_flush_all(image, IMAGE_SIZE);
     served("open", crpm_open(image, IMAGE_SIZE, MAINS, BACKUPS, BLOCKS, session, trace, TRACE, &ops));
     carry_out(image, "open", ops);
 }

@@ -13,8 +13,8 @@
  * are shown.
  *
  * The image is ordinary memory here, and crpm_replay stores into it. On a
- * module, flush every line after the format and carry out each operation
- * (crpm_x86.h).
+ * module, flush every line after the format and at each start before the
+ * opening, and carry out each operation (crpm_x86.h).
  *
  * examples/c/run builds and runs this and compares what it prints with
  * expected.txt.

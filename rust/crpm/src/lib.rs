@@ -22,6 +22,7 @@
 //!     let mut trace = vec![0; layout.trace_length()];
 //!     crpm::format(&mut image, layout)?; // on a module: flush every line, then fence
 //!
+//!     // a program's start; on a module: flush every line and fence before it
 //!     let (mut session, ops) = crpm::open(&image, layout, &mut trace)?;
 //!     carry_out(&mut image, ops);
 //!     let ops = crpm::write(&image, &mut session, 0, 0, 6, b"oboe", &mut trace)?;
@@ -48,16 +49,24 @@
 //!
 //! # What every caller must know
 //!
-//! - After [`format()`] on a module, flush every line of the image and fence
-//!   before the first opening. A format whose lines never reached the module
-//!   can lose every later checkpoint.
+//! - At a program's start, always, and after a call whose operations were not
+//!   all carried out: flush every line of the image and fence, then [`open`]. A
+//!   process that was killed or gave up among the operations of a call leaves
+//!   stores that are not durable, and an opening flushes no metadata: without
+//!   this a later power cut can lose or mix checkpoints. After a power cut the
+//!   flush changes nothing.
+//! - After [`format()`] on a module, flush every line and fence before anything
+//!   else. A format whose lines never reached the module can lose every later
+//!   checkpoint. That an opening is served is no sign that a format finished:
+//!   keep a mark of your own, outside the image, set after that fence.
+//! - Never format because an opening was refused; keep the dump first.
 //! - A [`Session`] belongs to the image that it was opened on, until the next
 //!   opening of that image. It cannot be copied, and it ends with the process:
 //!   after a restart, open. [`Refusal::BadSession`] does not catch every wrong
 //!   one, and a wrong one that is served can turn the checkpoint to old bytes.
-//! - Byte 0 of the image stands at an address divisible by 64, and the
-//!   processor's cache line is 64 bytes. Each store of a trace is one aligned
-//!   8-byte store.
+//! - The image is the module's memory, mapped so that a flush reaches it. Its
+//!   byte 0 stands at an address divisible by 64, and the processor's cache line
+//!   is 64 bytes. Each store of a trace is one aligned 8-byte store.
 //! - One image, one writer: nothing else stores into it.
 //!
 //! # Building
@@ -109,7 +118,9 @@ fn served(status: u64) -> Result<(), Refusal> {
 /// Formats an image: epoch 0, these sizes, every state 0, no backup segment
 /// paired, every segment zero. Whatever was there is lost.
 ///
-/// A format is not safe against a power cut: format again after one.
+/// A format is not safe against a power cut: format again after one. The next
+/// opening may serve what a cut left and show old bytes, so only a mark of your
+/// own says that it finished.
 ///
 /// # Errors
 ///
@@ -128,7 +139,8 @@ pub fn format(image: &mut [u8], layout: Layout) -> Result<(), Refusal> {
 }
 
 /// Opens an image, which recovers: once its operations are carried out, the
-/// working bytes are those of the last checkpoint.
+/// working bytes are those of the last checkpoint. At a program's start flush
+/// every line of the image and fence before it.
 ///
 /// # Errors
 ///
@@ -229,7 +241,8 @@ pub fn replay(image: &mut [u8], trace: impl AsRef<[u64]>, n: usize) -> Result<us
     Ok(played as usize)
 }
 
-/// A block as it stands now: that part of the image.
+/// A block as it stands now: that part of the image. It is borrowed from the
+/// image, so it is read again once operations were carried out.
 ///
 /// # Errors
 ///
@@ -246,7 +259,8 @@ pub fn read_working(
 }
 
 /// A block as of the last checkpoint: that part of the image, or none if no
-/// checkpoint has bytes of this main segment: they are then all zero.
+/// checkpoint has bytes of this main segment: they are then all zero. It is
+/// borrowed from the image, as by [`read_working`].
 ///
 /// # Errors
 ///

@@ -4,7 +4,7 @@ use core::error::Error;
 use core::fmt;
 
 /// Why a call was not served: the lowest number that applies. A refused call
-/// changes nothing.
+/// changes neither image nor trace and leaves the session as it came.
 #[derive(Clone, Copy, PartialEq, Eq, Hash, Debug)]
 #[repr(u64)]
 pub enum Refusal {
