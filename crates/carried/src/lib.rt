@@ -1,1 +1,53 @@
-// Callers of the C interface that carry the operations out themselves. This crate has no function.
+// Callers of the C interface that carry the operations out themselves: the three exported calls of a history, each with what its
+// contract gives in the terms of `CarriedSafety` (specs/Carried.antt), so that the checker holds the one against the other.
+use interface::SESSION_WORDS;
+ghost use Prim.Native.Nat.{ℕ};
+ghost use Rattle.model.specs.declared.Session.{Session};
+ghost use Rattle.model.specs.Layout.{layoutOf};
+ghost use Rattle.model.specs.Write.{writeArgsOf};
+ghost use Rattle.model.specs.History.{callOpen, callWrite, callCheckpoint};
+ghost use Rattle.interface.specs.Interface.{sessionIn};
+ghost use Rattle.carried.specs.Carried.{reportIn, Exported};
+
+// An opening, whatever the session before it.
+pub fn exported_open(
+    image: &[u8],
+    mains: u64,
+    backups: u64,
+    blocks: u64,
+    session: &mut [u64; SESSION_WORDS],
+    trace: &mut [u64],
+    ops: &mut u64,
+) -> u64
+    ensures { λ r. ⌜ ((s : Session) → Exported (now (image .entry)) s (callOpen (layoutOf mains backups blocks) (now (trace .entry))) (reportIn r (now (session .exit)) (now (ops .exit))) (now (trace .exit))) ⌝ }
+{
+    capi::crpm_open(image, mains, backups, blocks, session, trace, ops)
+}
+
+// A write, with the backup segment that it takes.
+pub fn exported_write(
+    image: &[u8],
+    session: &mut [u64; SESSION_WORDS],
+    main: u64,
+    block: u64,
+    offset: u64,
+    bytes: &[u8],
+    trace: &mut [u64],
+    ops: &mut u64,
+) -> u64
+    ensures { λ r. ⌜ ((j : ℕ) × Exported (now (image .entry)) (sessionIn (now (session .entry))) (callWrite (writeArgsOf main block offset (now (bytes .entry))) (now (trace .entry)) j) (reportIn r (now (session .exit)) (now (ops .exit))) (now (trace .exit))) ⌝ }
+{
+    capi::crpm_write(image, session, main, block, offset, bytes, trace, ops)
+}
+
+// A checkpoint.
+pub fn exported_checkpoint(
+    image: &[u8],
+    session: &mut [u64; SESSION_WORDS],
+    trace: &mut [u64],
+    ops: &mut u64,
+) -> u64
+    ensures { λ r. ⌜ Exported (now (image .entry)) (sessionIn (now (session .entry))) (callCheckpoint (now (trace .entry))) (reportIn r (now (session .exit)) (now (ops .exit))) (now (trace .exit)) ⌝ }
+{
+    capi::crpm_checkpoint(image, session, trace, ops)
+}

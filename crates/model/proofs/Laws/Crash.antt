@@ -1,4 +1,4 @@
--- The crash relation is the document's sentence, no more and no less (specs/CrashExact.antt), proved.
+-- The crash relation is the sentence of SPECIFICATION 7.2, no more and no less (specs/CrashExact.antt), proved.
 pub mod Floor
 pub mod Sentence
 pub mod Images

@@ -103,7 +103,7 @@ module _ (ℓ : ℕ) where
   longest (clwb p ∷ O) m h = longest-other (clwb p) O m (λ X. refl) (longest O m h)
   longest (sfence ∷ O) m h = longest-other sfence O m (λ X. refl) (longest O m h)
 
--- the relation, in the document's words
+-- the relation, in the words of SPECIFICATION 7.2
 pub stage-stores : StageStores
 stage-stores ℓ I H O d = (there, back)
   where

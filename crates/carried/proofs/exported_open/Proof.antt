@@ -1,0 +1,20 @@
+use Rattle.model.specs.Layout.{layoutOf}
+use Rattle.carried.specs.Carried.{opens}
+use borrow.Author.Needs.{needs}
+use Rattle.carried.proofs.exported_open.Statement.{statement}
+use Rattle.carried.proofs.exported_open.Tie as tie
+
+crpm-open-requires : tie.Need-crpm-open-requires
+crpm-open-requires c κs = search needs
+
+same-length : tie.Need-same-length
+same-length c = search needs
+
+returns : tie.Need-returns
+returns c =
+    let e = c .before .before .crpm-open .ensures in
+    let a = c .before .before .before .before .before .before .before .before .args in
+    λ s. opens (layoutOf (a .mains) (a .backups) (a .blocks)) (a .trace .now) _ _ _ _ (e .0, e .1, e .2, e .3)
+
+pub exported-open-spec : {M : Type 1} → statement M
+exported-open-spec = tie.close (tie.spec crpm-open-requires same-length returns)

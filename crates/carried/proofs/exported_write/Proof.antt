@@ -1,0 +1,22 @@
+use Rattle.model.specs.Write.{writeArgsOf}
+use mathlib.Core.Path.{refl}
+use Rattle.carried.specs.Carried.{writes}
+use borrow.Author.Needs.{needs}
+use Rattle.carried.proofs.exported_write.Statement.{statement}
+use Rattle.carried.proofs.exported_write.Tie as tie
+
+crpm-write-requires : tie.Need-crpm-write-requires
+crpm-write-requires c κs = search needs
+
+same-length : tie.Need-same-length
+same-length c = search needs
+
+returns : tie.Need-returns
+returns c =
+    let e = c .before .before .crpm-write .ensures in
+    let b = c .before .before .before .before .before .before .before in
+    let a = b .before .before .args in
+    (e .0, writes (a .session .now) refl (writeArgsOf (a .main) (a .block) (a .offset) (a .bytes .now)) (a .trace .now) _ _ _ _ (λ i. b .shared-slice-known2 .given i .fits) (e .0, e .1, e .2))
+
+pub exported-write-spec : {M : Type 1} → statement M
+exported-write-spec = tie.close (tie.spec crpm-write-requires same-length returns)
