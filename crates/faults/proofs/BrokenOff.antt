@@ -19,7 +19,7 @@ use Rattle.model.specs.CrashExact.{hasFence, floorFrom, floor}
 use Rattle.model.specs.Reference.{Page}
 use Rattle.model.specs.History.{State, start, deviceStep, step, run, AllPermitted}
 use Rattle.model.specs.CrashSafety.{during, PermittedAt, playedAt, Recovers}
-use Rattle.model.specs.FlushDurable as flush
+use Rattle.model.specs.FlushDurable.{imageAt}
 use Rattle.model.proofs.Laws.Crash.Floor.{floor-durable}
 use Rattle.model.proofs.Laws.Crash.Images.{crash-after}
 use Rattle.model.proofs.Argument.Persist.{Misses, each-append}
@@ -75,7 +75,7 @@ leaves-all : replay (first ++ store 0 2 ∷ []) once ≡ board 2 (replicate 256 
 unfolding model-rules same
 leaves-all = same-equal _ _ refl
 
-ends : flush.standing (before .device) ended ≡ board 2 (replicate 256 40)
+ends : imageAt (before .device) ended ≡ board 2 (replicate 256 40)
 unfolding run step deviceStep
 ends = ap (λ (X : Ops). replay X once) parts ∙ leaves-all
 
@@ -144,13 +144,13 @@ unfolding model-rules
 new-page = refl
 
 -- all of it together, in the order in which it was carried out
-carried-out : first ++ store 0 2 ∷ renewed ≡ playedAt (before .device) ended ++ openOutcome l211 (flush.standing (before .device) ended) longTrace .ops
+carried-out : first ++ store 0 2 ∷ renewed ≡ playedAt (before .device) ended ++ openOutcome l211 (imageAt (before .device) ended) longTrace .ops
 carried-out =
     sym (append-assoc first (store 0 2 ∷ []) renewed)
     ∙ ap₂ (λ (X Y : Ops). X ++ Y) (sym parts) (sym (ap (λ (J : Image). openOutcome l211 J longTrace .ops) ends ∙ reopening))
 
 crash : CrashImage (before .device .durable)
-    (playedAt (before .device) ended ++ openOutcome l211 (flush.standing (before .device) ended) longTrace .ops)
+    (playedAt (before .device) ended ++ openOutcome l211 (imageAt (before .device) ended) longTrace .ops)
     (board 1 (aWord ++ replicate 248 40))
 unfolding run step deviceStep
 crash = subst (λ (X : Ops). CrashImage once X (board 1 (aWord ++ replicate 248 40))) carried-out lost
@@ -167,11 +167,11 @@ broken-off = record {
   old = ap (λ (s : State). s .model .checkpoint) stands ∙ old-page;
   new = ap (λ (s : State). s .model .working) stands ∙ new-page;
   served =
-      ap (λ (s : State). openStatus l211 (flush.standing (s .device) ended) longTrace) stands
+      ap (λ (s : State). openStatus l211 (imageAt (s .device) ended) longTrace) stands
       ∙ ap (λ (J : Image). openStatus l211 J longTrace) ends ∙ reopens;
   left = board 1 (aWord ++ replicate 248 40);
   crash = subst (λ (s : State). CrashImage (s .device .durable)
-      (playedAt (s .device) ended ++ openOutcome l211 (flush.standing (s .device) ended) longTrace .ops) (board 1 (aWord ++ replicate 248 40)))
+      (playedAt (s .device) ended ++ openOutcome l211 (imageAt (s .device) ended) longTrace .ops) (board 1 (aWord ++ replicate 248 40)))
       (sym stands) crash;
   shown = mixed;
 }

@@ -11,7 +11,7 @@ use Rattle.model.specs.Open.{openStatus, openOutcome}
 use Rattle.model.specs.Crash.{CrashImage}
 use Rattle.model.specs.History.{Call, State, start, run, AllPermitted}
 use Rattle.model.specs.CrashSafety.{Moment, during, PermittedAt, playedAt, Recovers}
-use Rattle.model.specs.FlushDurable.{standing, Formats, formatStores}
+use Rattle.model.specs.FlushDurable.{imageAt, Formats, formatStores}
 use Rattle.cases.specs.Table.{l211, longTrace, write, checkpoint, aWord}
 use Rattle.faults.specs.Faults.{twoCalls}
 
@@ -77,10 +77,10 @@ pub record BrokenOff : Type 0 where
   pub permitted : AllPermitted (start l211 once longTrace) twoWrites × PermittedAt (edited .device) ended
   pub old : edited .model .checkpoint ≡ replicate 256 40 ++ replicate 256 0
   pub new : edited .model .working ≡ (aWord ++ replicate 248 40) ++ (aWord ++ replicate 248 0)
-  pub served : openStatus l211 (standing (edited .device) ended) longTrace ≡ 0
+  pub served : openStatus l211 (imageAt (edited .device) ended) longTrace ≡ 0
   pub left : Image
   pub crash : CrashImage (edited .device .durable)
-      (playedAt (edited .device) ended ++ openOutcome l211 (standing (edited .device) ended) longTrace .ops) left
+      (playedAt (edited .device) ended ++ openOutcome l211 (imageAt (edited .device) ended) longTrace .ops) left
   pub shown : Recovers l211 left longTrace ((aWord ++ replicate 248 40) ++ replicate 256 0)
 
 -- WITHOUT A FLUSH OF EVERY LINE AND A FENCE, after a format and before an opening

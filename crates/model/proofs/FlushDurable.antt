@@ -19,7 +19,7 @@ use Rattle.model.specs.Crash.{Stage, CrashImage}
 use Rattle.model.specs.Reference.{Page}
 use Rattle.model.specs.History.{Call, State, deviceStep, step, run, playedOps, openedImage, start}
 use Rattle.model.specs.CrashSafety.{Recovers, playedAt, again}
-use Rattle.model.specs.FlushDurable.{flushAll, FlushDurable, FlushCut, standing, RestartSafety, Formats, formatStores, FormatByStores, FormatDurable, FormatSettles, FormatStarts, FormatSafety}
+use Rattle.model.specs.FlushDurable.{flushAll, FlushDurable, FlushCut, imageAt, RestartSafety, Formats, formatStores, FormatByStores, FormatDurable, FormatSettles, FormatStarts, FormatSafety}
 use Rattle.model.proofs.Laws.Words.{byte-of-word}
 use Rattle.model.proofs.Laws.Layout.{image-lines}
 use Rattle.model.proofs.Laws.Format.{formatted-length, formatted-checkpoint, formatted-starts, format-served, format-gives}
@@ -118,7 +118,7 @@ pub restart-safety : RestartSafety
 restart-safety l I t b h cs permitted m at t₁ ne₁ p H c H′ openings t′ ne =
     let s : State = run (start l I t) cs in
     let W : Ops = playedAt (s .device) m in
-    let J : Image = standing (s .device) m in
+    let J : Image = imageAt (s .device) m in
     let f = flush-durable (s .device .durable) W (start-whole l I t h cs) in
     let E : Ops = playedOps J (openOutcome (s .device .layout) J t₁ .ops) t₁ p in
     let g : CrashImage J E H = f .1 E H .0 (subst (λ (F : Ops). CrashImage (s .device .durable) (W ++ F ++ E) H) (flush-same J (s .device .durable) (length-replay W (s .device .durable))) c) in

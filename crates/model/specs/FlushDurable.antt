@@ -39,8 +39,8 @@ FlushCut = (I : Image) (W : Ops) (n : ℕ) (H : Image) → CrashImage I (W ++ cl
 -- ---- a program that ended while the power stayed on
 
 -- what stands at a moment
-abbrev pub standing : Device → Moment → Image
-standing d m = replay (playedAt d m) (d .durable)
+abbrev pub imageAt : Device → Moment → Image
+imageAt d m = replay (playedAt d m) (d .durable)
 
 -- at any moment of any history the program ends; what stands is flushed, fenced and opened, and power may fail after any number p of that
 -- opening's operations, and in any number of openings after it: the first that finishes shows what demand 3 says of a crash at the
@@ -48,7 +48,7 @@ standing d m = replay (playedAt d m) (d .durable)
 abbrev pub RestartSafety : Type 0
 RestartSafety = InEveryHistory (λ s.
     (m : Moment) → PermittedAt (s .device) m
-    → let J : Image = standing (s .device) m in
+    → let J : Image = imageAt (s .device) m in
     (t : Trace) → openStatus (s .device .layout) J t ≢ 11 → (p : ℕ) (H : Image)
     → CrashImage (s .device .durable) (playedAt (s .device) m ++ flushAll J ++ playedOps J (openOutcome (s .device .layout) J t .ops) t p) H
     → (H′ : Image) → CutOpenings CrashImage (s .device .layout) H H′
