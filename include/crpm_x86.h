@@ -15,7 +15,8 @@
  *    file of a DAX file system with MAP_SYNC, a DAX device, or by libpmem. In
  *    another file all runs alike, but no flush makes anything durable.
  *  - Byte 0 of the image stands at an address divisible by 64, as in every
- *    mapping (an assertion), and a cache line has 64 bytes.
+ *    mapping (an assertion, which -DNDEBUG takes out), and a cache line has 64
+ *    bytes.
  *  - An aligned 8-byte store is not torn. Stores to one line reach the module
  *    in program order, as x86-64 keeps it in write-back memory. What was stored
  *    to a line before its clwb is durable once a later sfence is done (the

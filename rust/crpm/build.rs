@@ -1,5 +1,5 @@
 //! Links the library: the file that the environment variable CRPM_LIBRARY
-//! names, else target/staticlib/libcapi.a of this repository.
+//! names (an absolute path), else target/staticlib/libcapi.a of this repository.
 
 use std::env;
 use std::path::{Path, PathBuf};

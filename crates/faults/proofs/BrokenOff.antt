@@ -22,7 +22,7 @@ use Rattle.model.specs.CrashSafety.{during, PermittedAt, playedAt, Recovers}
 use Rattle.model.specs.FlushDurable.{imageAt}
 use Rattle.model.proofs.Laws.Crash.Floor.{floor-durable}
 use Rattle.model.proofs.Laws.Crash.Images.{crash-after}
-use Rattle.model.proofs.Argument.Persist.{Misses, each-append}
+use Rattle.model.proofs.Argument.Persist.{Misses, each-append, replay-append}
 use Rattle.model.proofs.Argument.Settled.{Off}
 use Rattle.model.proofs.Argument.Runs.{each-cat, clwbs-none}
 use Rattle.cases.specs.Table.{l211, longTrace, checkpoint, aWord}
@@ -71,13 +71,15 @@ leaves : replay first once ≡ board 1 (replicate 256 40)
 unfolding model-rules same
 leaves = same-equal _ _ refl
 
-leaves-all : replay (first ++ store 0 2 ∷ []) once ≡ board 2 (replicate 256 40)
+advances : replay (store 0 2 ∷ []) (board 1 (replicate 256 40)) ≡ board 2 (replicate 256 40)
 unfolding model-rules same
-leaves-all = same-equal _ _ refl
+advances = same-equal _ _ refl
 
 ends : imageAt (before .device) ended ≡ board 2 (replicate 256 40)
 unfolding run step deviceStep
-ends = ap (λ (X : Ops). replay X once) parts ∙ leaves-all
+ends =
+    ap (λ (X : Ops). replay X once) parts ∙ replay-append first (store 0 2 ∷ []) once ∙ ap (λ (J : Image). replay (store 0 2 ∷ []) J) leaves
+    ∙ advances
 
 -- the opening copies main segment 0 to its backup segment
 abbrev renewed : Ops

@@ -18,7 +18,7 @@ use Rattle.model.specs.Open.{recoveryOps, openStatus, openOutcome}
 use Rattle.model.specs.Crash.{Stage, CrashImage}
 use Rattle.model.specs.Reference.{Page}
 use Rattle.model.specs.History.{Call, State, deviceStep, step, run, playedOps, openedImage, start}
-use Rattle.model.specs.CrashSafety.{Recovers, playedAt, again}
+use Rattle.model.specs.CrashSafety.{Recovers, playedAt, MayShow, none, again}
 use Rattle.model.specs.FlushDurable.{flushAll, FlushDurable, FlushCut, imageAt, RestartSafety, Formats, formatStores, FormatByStores, FormatDurable, FormatSettles, FormatStarts, FormatSafety}
 use Rattle.model.proofs.Laws.Words.{byte-of-word}
 use Rattle.model.proofs.Laws.Layout.{image-lines}
@@ -122,7 +122,10 @@ restart-safety l I t b h cs permitted m at t₁ ne₁ p H c H′ openings t′ n
     let f = flush-durable (s .device .durable) W (start-whole l I t h cs) in
     let E : Ops = playedOps J (openOutcome (s .device .layout) J t₁ .ops) t₁ p in
     let g : CrashImage J E H = f .1 E H .0 (subst (λ (F : Ops). CrashImage (s .device .durable) (W ++ F ++ E) H) (flush-same J (s .device .durable) (length-replay W (s .device .durable))) c) in
-    crash-safety l I t b h cs permitted m at J (f .0) H′ (again t₁ p ne₁ g openings) t′ ne
+    -- a crash may leave J, so an opening of J shows a page that is permitted, and what stands is bytes
+    let y = crash-safety l I t b h cs permitted m at J (f .0) J none t₁ ne₁ in
+    let o = opening-safety (s .device .layout) J t₁ (y .3) (y .2 .accepted) H′ (again t₁ p ne₁ g openings) t′ ne in
+    (subst (MayShow s m) (sym (y .2 .begins)) (y .1), o .0, o .1)
 
 -- ---- a format that is flushed
 

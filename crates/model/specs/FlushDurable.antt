@@ -11,6 +11,7 @@ use lib.ListN.{length, replicate}
 use Rattle.model.specs.declared.Layout.{Layout}
 use Rattle.model.specs.Words.{Image, Bytes, wordAt}
 use Rattle.model.specs.Layout.{wordSize, lineSize, segmentSize, imageSize}
+use Rattle.model.specs.Container.{activeLine, checkpointBytes}
 use Rattle.model.specs.Ops.{Ops, Trace, sfence, replay, stores, clwbs}
 use Rattle.model.specs.Format.{formatted, formatOutcome}
 use Rattle.model.specs.Open.{openStatus, openOutcome}
@@ -43,8 +44,8 @@ abbrev pub imageAt : Device → Moment → Image
 imageAt d m = replay (playedAt d m) (d .durable)
 
 -- at any moment of any history the program ends; what stands is flushed, fenced and opened, and power may fail after any number p of that
--- opening's operations, and in any number of openings after it: the first that finishes shows what demand 3 says of a crash at the
--- moment when the program ended
+-- opening's operations, and in any number of openings after it: the first that finishes shows the checkpoint of what stood, the same
+-- after every such cut, and it is one that demand 3 permits at the moment when the program ended
 abbrev pub RestartSafety : Type 0
 RestartSafety = InEveryHistory (λ s.
     (m : Moment) → PermittedAt (s .device) m
@@ -53,7 +54,8 @@ RestartSafety = InEveryHistory (λ s.
     → CrashImage (s .device .durable) (playedAt (s .device) m ++ flushAll J ++ playedOps J (openOutcome (s .device .layout) J t .ops) t p) H
     → (H′ : Image) → CutOpenings CrashImage (s .device .layout) H H′
     → (t′ : Trace) → openStatus (s .device .layout) H′ t′ ≢ 11
-    → (Q : Page) × MayShow s m Q × Recovers (s .device .layout) H′ t′ Q × Bytes H′)
+    → let Q : Page = checkpointBytes (s .device .layout) J (activeLine J) in
+    MayShow s m Q × Recovers (s .device .layout) H′ t′ Q × Bytes H′)
 
 -- ---- a format
 

@@ -28,7 +28,7 @@ ReplayServesAll =
     → (replayOutcome (d .image) (reported (outcome d c .ops) (c .trace)) p .status ≡ 0)
     × (calledOps d c p ≡ take p (outcome d c .ops))
 
--- a finished opening leaves one crash image only, so that what a history starts with is durable indeed
+-- of an image that was durable, a finished opening leaves one crash image only, so that what a history starts with is durable
 abbrev pub OpeningSettles : Type 0
 OpeningSettles =
     (l : Layout) (I : Image) (t : Trace) → Bytes I → openStatus l I t ≡ 0

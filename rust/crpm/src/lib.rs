@@ -73,7 +73,8 @@
 //!
 //! The library is linked in: `target/staticlib/libcapi.a` of this repository
 //! (`rt staticlib capi` writes it), or the file that the environment variable
-//! `CRPM_LIBRARY` names, such as an installed `libcrpm.a`.
+//! `CRPM_LIBRARY` names by its absolute path, such as an installed
+//! `/usr/local/lib/libcrpm.a`.
 
 #![no_std]
 #![deny(missing_docs)]
