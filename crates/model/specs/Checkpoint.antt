@@ -8,9 +8,9 @@ use Rattle.model.specs.declared.Layout.{Layout}
 use Rattle.model.specs.declared.Session.{Session}
 use Rattle.model.specs.Range.{cat}
 use Rattle.model.specs.Words.{Image, wordOf}
-use Rattle.model.specs.Layout.{wordSize, blockSize, blockLines, lineWords, epochAt, ssMain, mainAt}
+use Rattle.model.specs.Layout.{wordSize, blockSize, blockLines, lineWords, epochAt, ssInitial, ssMain, mainAt}
 use Rattle.model.specs.Status.{Errors, firstError}
-use Rattle.model.specs.Container.{activeState, committedEpoch, inactiveLine}
+use Rattle.model.specs.Container.{activeState, committedEpoch, inactiveLine, byState}
 use Rattle.model.specs.Session.{isDirty, withCheckpoint, contextErrors}
 use Rattle.model.specs.Ops.{store, clwb, sfence, Ops, Trace, traceErrors, stores, clwbs, eachDirty}
 use Rattle.model.specs.Outcome.{Outcome, outcomeOf}
@@ -19,9 +19,10 @@ use Rattle.model.specs.Outcome.{Outcome, outcomeOf}
 unfoldable pub flushDirty : Layout → List ℕ → Ops
 flushDirty l words = cat (l .mains) (λ i. eachDirty (getD words i 0) (l .blocks) (λ b. clwbs blockLines (mainAt l i + blockSize * b)))
 
--- the state after the checkpoint: a dirty segment holds its checkpoint itself, another keeps its state
+-- the state after the checkpoint (SPECIFICATION 11.2): a segment that had a checkpoint, or is dirty, holds its checkpoint
+-- itself; one that is neither stays without
 unfoldable pub nextState : ℕ → Bool → ℕ
-nextState st dirty = cond dirty ssMain st
+nextState st dirty = byState st (cond dirty ssMain ssInitial) ssMain ssMain
 
 -- the states after it, by the word of dirty segments
 abbrev pub nextStates : ℕ → (ℕ → ℕ) → ℕ → ℕ

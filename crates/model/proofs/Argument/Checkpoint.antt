@@ -17,12 +17,13 @@ use Rattle.model.specs.Layout.{stateLine, segmentSize, mainAt, backupAt}
 use Rattle.model.specs.Container.{activeState, committedEpoch, activeLine, inactiveLine, backupToMain}
 use Rattle.model.specs.Session.{isDirty, dirtySegment, dirtyBlock, withCheckpoint}
 use Rattle.model.specs.Ops.{store, clwb, sfence, Ops, apply, replay}
-use Rattle.model.specs.Checkpoint.{nextState, nextStates, checkpointOps}
+use Rattle.model.specs.Checkpoint.{nextStates, checkpointOps}
 use Rattle.model.specs.Crash.{AgreeOn, CrashImage}
 use Rattle.model.proofs.Laws.Words.{word-cong, word-stored}
 use Rattle.model.proofs.Argument.Persist.{Misses, Clear, each-take, length-replay, replay-clear, replay-append, replay-small}
 use Rattle.model.proofs.Argument.Settled.{Settled, crash-byte, crash-bytes, local-crash, stage-one, settled-more, settles-after, settles-fence, take-past}
 use Rattle.model.proofs.Laws.Layout.{metadata-inside}
+use Rattle.model.proofs.Laws.Checkpoint.{next-initial}
 use Rattle.model.proofs.Laws.Session.{checkpoint-segment, checkpoint-block}
 use Rattle.model.proofs.Argument.Phases.{epochPhase, beforeEpoch, checkpoint-phases}
 use Rattle.model.proofs.Argument.View.{Recoverable, recoverable-alike, recovers-at, fit-cong}
@@ -40,9 +41,6 @@ module _ (O : Ops) (I₀ : Image) (s : Session) (P W : Contents) (held : Bytes I
   abbrev F : Ops
   F = beforeEpoch s I
 
-  bytes : Bytes I
-  bytes = inv .recovers .fit .bytes
-
   big : 512 ≤ length I
   big = omega (arith, inv .recovers .fit .long, metadata-inside lay)
 
@@ -51,18 +49,18 @@ module _ (O : Ops) (I₀ : Image) (s : Session) (P W : Contents) (held : Bytes I
   settled-meta k h = go (ℕ-discrete (k / 64) (inactiveLine I / 64))
     where
       go : Dec (k / 64 ≡ inactiveLine I / 64) → Settled (k / 64) (O ++ F)
-      go (yes e) = rw e (inactive-settles s I bytes O)
-      go (no e) = settled-more (k / 64) O F (inv .firmMeta k h) (before-off s I bytes (k / 64) e)
+      go (yes e) = rw e (inactive-settles s I O)
+      go (no e) = settled-more (k / 64) O F (inv .firmMeta k h) (before-off s I (k / 64) e)
 
   settled-backup : (j x : ℕ) → j < lay .backups → x < segmentSize lay → Settled ((backupAt lay j + x) / 64) (O ++ F)
-  settled-backup j x h k = settled-more _ O F (inv .firmBackup j x h k) (before-off s I bytes _ (omega (arith, lines s I bytes)))
+  settled-backup j x h k = settled-more _ O F (inv .firmBackup j x h k) (before-off s I _ (omega (arith, lines s I)))
 
   settled-main : (i x : ℕ) → i < lay .mains → x < segmentSize lay → Settled ((mainAt lay i + x) / 64) (O ++ F)
   settled-main i x h k = go (dirtyBlock s i (x / 256)) refl
     where
       go : (b : Bool) → dirtyBlock s i (x / 256) ≡ b → Settled ((mainAt lay i + x) / 64) (O ++ F)
-      go true d = dirty-settles s I bytes i x h k d O
-      go false d = settled-more _ O F (inv .firmClean i x h k d) (before-off s I bytes _ (omega (arith, lines s I bytes)))
+      go true d = dirty-settles s I i x h k d O
+      go false d = settled-more _ O F (inv .firmClean i x h k d) (before-off s I _ (omega (arith, lines s I)))
 
   -- an image that has all of I but the inactive line recovers to P
   old : (H : Image) → length H ≡ length I₀ → Bytes H
@@ -71,7 +69,7 @@ module _ (O : Ops) (I₀ : Image) (s : Session) (P W : Contents) (held : Bytes I
       → ((j x : ℕ) → j < lay .backups → x < segmentSize lay → byteAt H (backupAt lay j + x) ≡ byteAt I (backupAt lay j + x))
       → Recoverable lay H P
   old H long small low own backup =
-      let q = lines s I bytes in
+      let q = lines s I in
       recoverable-alike lay I H P (record {
         long = long ∙ sym (length-replay O I₀);
         bytes = small;
@@ -84,8 +82,8 @@ module _ (O : Ops) (I₀ : Image) (s : Session) (P W : Contents) (held : Bytes I
       }) (inv .recovers)
     where
       go : (i : ℕ) → i < 64 → Dec (activeLine I < inactiveLine I) → (activeLine I + i < inactiveLine I) ⊎ (inactiveLine I + 64 ≤ activeLine I + i)
-      go i h (yes d) = inl (omega (arith, lines s I bytes))
-      go i h (no d) = inr (omega (arith, lines s I bytes))
+      go i h (yes d) = inl (omega (arith, lines s I))
+      go i h (no d) = inr (omega (arith, lines s I))
 
   -- an image with the new epoch and states, all main segments and backups recovers to W
   new : (H : Image) → length H ≡ length I → Bytes H → committedEpoch H ≡ suc (committedEpoch I)
@@ -93,20 +91,19 @@ module _ (O : Ops) (I₀ : Image) (s : Session) (P W : Contents) (held : Bytes I
       → ((i : ℕ) → i < 64 → byteAt H (inactiveLine I + i) ≡ nextStates (s .«dirty_segments») (activeState I) i)
       → ((j : ℕ) → j < 64 → backupToMain H j ≡ backupToMain I j)
       → ((i x : ℕ) → i < lay .mains → x < segmentSize lay → byteAt H (mainAt lay i + x) ≡ W i x)
-      → ((j x : ℕ) → j < lay .backups → x < segmentSize lay → byteAt H (backupAt lay j + x) ≡ byteAt I (backupAt lay j + x))
       → Recoverable lay H W
   unfolding dirtySegment
-  new H long small epoch header states pairs mains backups =
+  new H long small epoch header states pairs mains =
       recovers-at lay H W (suc (committedEpoch I)) epoch (fit-cong lay I H long small header (inv .recovers .fit))
       (holds-next lay (inv .recovers .fit .sizes) (activeState I) (backupToMain I) (byteAt I) _ _ _ P (inv .recovers .holds)
-      (dirtySegment s) W (inv .low) states pairs mains backups (inv .clean))
+      (dirtySegment s) W (inv .low) states pairs mains (inv .clean))
 
   -- a crash in the first two phases
   crash-before : (p : ℕ) (H : Image) → CrashImage I₀ (O ++ take p F) H → Recoverable lay H P
   crash-before p H c = old H (c .long) (crash-bytes c held)
-      (λ k h x. same k (inv .firmMeta k h) (before-clear s I bytes k x))
-      (λ i x h k e. same (mainAt lay i + x) (inv .firmOwn i x h k e) (before-clear s I bytes _ (inr (omega (arith, lines s I bytes)))))
-      (λ j x h k. same _ (inv .firmBackup j x h k) (before-clear s I bytes _ (inr (omega (arith, lines s I bytes)))))
+      (λ k h x. same k (inv .firmMeta k h) (before-clear s I k x))
+      (λ i x h k e. same (mainAt lay i + x) (inv .firmOwn i x h k e) (before-clear s I _ (inr (omega (arith, lines s I)))))
+      (λ j x h k. same _ (inv .firmBackup j x h k) (before-clear s I _ (inr (omega (arith, lines s I)))))
     where
       same : (k : ℕ) → Settled (k / 64) O → Clear k F → byteAt H k ≡ byteAt I k
       same k g x = crash-byte I₀ H O (take p F) k g (each-take (Misses k) p F x) (c .lines (k / 64))
@@ -117,16 +114,15 @@ module _ (O : Ops) (I₀ : Image) (s : Session) (P W : Contents) (held : Bytes I
   unfolding apply
   crash-after m H fits c = ⊎-elim
       (λ o. inl (old H (c .long) (crash-bytes c held)
-      (λ k h x. low o k h (decLt k 64) ∙ before-same s I bytes k x)
+      (λ k h x. low o k h (decLt k 64) ∙ before-same s I k x)
       (λ i x h k e. main i x h k)
       (λ j x h k. backup j x h k)))
       (λ n. inr (new H (c .long ∙ sym (length-replay O I₀)) (crash-bytes c held)
       (epoch-new n)
-      (λ k h x. past k (settled-meta k (omega arith)) h ∙ before-same s I bytes k (inl (omega (arith, lines s I bytes))))
-      (λ i h. past (inactiveLine I + i) (settled-meta (inactiveLine I + i) (omega (arith, lines s I bytes))) (omega (arith, lines s I bytes)) ∙ before-states s I bytes i big h)
-      (λ j h. past (256 + j) (settled-meta (256 + j) (omega arith)) (omega arith) ∙ before-same s I bytes (256 + j) (inr (omega (arith, lines s I bytes))))
-      (λ i x h k. main i x h k ∙ inv .working i x h k)
-      (λ j x h k. backup j x h k)))
+      (λ k h x. past k (settled-meta k (omega arith)) h ∙ before-same s I k (inl (omega (arith, lines s I))))
+      (λ i h. past (inactiveLine I + i) (settled-meta (inactiveLine I + i) (omega (arith, lines s I))) (omega (arith, lines s I)) ∙ before-states s I i big h)
+      (λ j h. past (256 + j) (settled-meta (256 + j) (omega arith)) (omega arith) ∙ before-same s I (256 + j) (inr (omega (arith, lines s I))))
+      (λ i x h k. main i x h k ∙ inv .working i x h k)))
       (stage-one 0 (replay (O ++ F) I₀) H [] (take m (clwb 0 ∷ sfence ∷ [])) 0 (suc (committedEpoch I)) (λ i e. tt)
       (λ i e. each-take (Misses i) m (clwb 0 ∷ sfence ∷ []) tt)
       (local-crash 0 I₀ H (O ++ F) (take (suc m) (epochPhase I)) (settled-meta 0 (omega arith)) (c .lines 0)))
@@ -143,10 +139,10 @@ module _ (O : Ops) (I₀ : Image) (s : Session) (P W : Contents) (held : Bytes I
       low o k h (no d) = past k (settled-meta k h) (omega arith)
 
       main : (i x : ℕ) → i < lay .mains → x < segmentSize lay → byteAt H (mainAt lay i + x) ≡ byteAt I (mainAt lay i + x)
-      main i x h k = past (mainAt lay i + x) (settled-main i x h k) (omega arith) ∙ before-same s I bytes _ (inr (omega (arith, lines s I bytes)))
+      main i x h k = past (mainAt lay i + x) (settled-main i x h k) (omega arith) ∙ before-same s I _ (inr (omega (arith, lines s I)))
 
       backup : (j x : ℕ) → j < lay .backups → x < segmentSize lay → byteAt H (backupAt lay j + x) ≡ byteAt I (backupAt lay j + x)
-      backup j x h k = past _ (settled-backup j x h k) (omega arith) ∙ before-same s I bytes _ (inr (omega (arith, lines s I bytes)))
+      backup j x h k = past _ (settled-backup j x h k) (omega arith) ∙ before-same s I _ (inr (omega (arith, lines s I)))
 
       epoch-new : AgreeOn 0 H (apply (store 0 (suc (committedEpoch I))) (replay (O ++ F) I₀)) → committedEpoch H ≡ suc (committedEpoch I)
       epoch-new n = word-cong _ _ 0 (λ i x y. n i (omega arith))
@@ -197,34 +193,26 @@ module _ (O : Ops) (I₀ : Image) (s : Session) (P W : Contents) (held : Bytes I
       go (no e) = settle (k / 64) e (settled-meta k h)
 
   main-after : (i x : ℕ) → i < lay .mains → x < segmentSize lay → byteAt K (mainAt lay i + x) ≡ byteAt I (mainAt lay i + x)
-  main-after i x h k = after _ (omega arith) ∙ before-same s I bytes _ (inr (omega (arith, lines s I bytes)))
+  main-after i x h k = after _ (omega arith) ∙ before-same s I _ (inr (omega (arith, lines s I)))
 
   backup-after : (j x : ℕ) → j < lay .backups → x < segmentSize lay → byteAt K (backupAt lay j + x) ≡ byteAt I (backupAt lay j + x)
-  backup-after j x h k = after _ (omega arith) ∙ before-same s I bytes _ (inr (omega (arith, lines s I bytes)))
+  backup-after j x h k = after _ (omega arith) ∙ before-same s I _ (inr (omega (arith, lines s I)))
 
-  -- the active states after it are the next states; one that is 0 was 0 before
+  -- the active states after it are the next states
   next-state : suc (committedEpoch I) < 2 ^ 64 → (i : ℕ) → i < 64 → activeState K i ≡ nextStates (s .«dirty_segments») (activeState I) i
   next-state fits i h = ap (λ (e : ℕ). byteAt K (stateLine e + i)) (epoch-after fits)
-      ∙ after (inactiveLine I + i) (omega (arith, lines s I bytes)) ∙ before-states s I bytes i big h
-
-  was-initial : (i : ℕ) → nextStates (s .«dirty_segments») (activeState I) i ≡ 0 → activeState I i ≡ 0
-  was-initial i = go (isDirty (s .«dirty_segments») i)
-    where
-      go : (b : Bool) → nextState (activeState I i) b ≡ 0 → activeState I i ≡ 0
-      go true e = unfold nextState in (absurd (omega arith))
-      go false e = unfold nextState in e
+      ∙ after (inactiveLine I + i) (omega (arith, lines s I)) ∙ before-states s I i big h
 
   done : suc (committedEpoch I) < 2 ^ 64 → Invariant lay (O ++ (F ++ epochPhase I)) K (withCheckpoint s) W W
   done fits =
-      let q = lines s I bytes in
-      let pr : (j : ℕ) → j < 64 → backupToMain K j ≡ backupToMain I j = λ j h. after (256 + j) (omega arith) ∙ before-same s I bytes (256 + j) (inr (omega arith)) in
+      let q = lines s I in
+      let pr : (j : ℕ) → j < 64 → backupToMain K j ≡ backupToMain I j = λ j h. after (256 + j) (omega arith) ∙ before-same s I (256 + j) (inr (omega arith)) in
       record {
         recovers = new K (length-replay (O ++ (F ++ epochPhase I)) I₀ ∙ sym (length-replay O I₀)) (replay-small (O ++ (F ++ epochPhase I)) I₀ held) (epoch-after fits)
-            (λ k h x. after k h ∙ before-same s I bytes k (inl (omega arith)))
-            (λ i h. after (inactiveLine I + i) (omega arith) ∙ before-states s I bytes i big h)
+            (λ k h x. after k h ∙ before-same s I k (inl (omega arith)))
+            (λ i h. after (inactiveLine I + i) (omega arith) ∙ before-states s I i big h)
             pr
-            (λ i x h k. main-after i x h k ∙ inv .working i x h k)
-            backup-after;
+            (λ i x h k. main-after i x h k ∙ inv .working i x h k);
         working = λ i x h k. main-after i x h k ∙ inv .working i x h k;
         low = λ i e. absurd (true≢false (sym e ∙ checkpoint-segment s i));
         moved = λ i e. absurd (true≢false (sym e ∙ checkpoint-segment s i));
@@ -232,7 +220,7 @@ module _ (O : Ops) (I₀ : Image) (s : Session) (P W : Contents) (held : Bytes I
         twin = λ i j x h m k e d. backup-after j x m k
             ∙ inv .twin i j x h m k (sym (pr j (omega (arith, inv .recovers .fit .sizes .1))) ∙ e) (sym (checkpoint-block s i (x / 256)) ∙ d) ∙ sym (main-after i x h k);
         blank = λ i x h k e d. main-after i x h k
-            ∙ inv .blank i x h k (was-initial i (sym (next-state fits i (omega (arith, inv .recovers .fit .sizes .0))) ∙ e)) (sym (checkpoint-block s i (x / 256)) ∙ d);
+            ∙ inv .blank i x h k (next-initial (activeState I i) _ (sym (next-state fits i (omega (arith, inv .recovers .fit .sizes .0))) ∙ e) .0) (sym (checkpoint-block s i (x / 256)) ∙ d);
         firmMeta = settled-all;
         firmOwn = λ i x h k e. settle _ (omega arith) (settled-main i x h k);
         firmClean = λ i x h k d. settle _ (omega arith) (settled-main i x h k);

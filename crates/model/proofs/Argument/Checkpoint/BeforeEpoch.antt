@@ -11,14 +11,15 @@ use lib.ListN.{length}
 use Rattle.model.specs.declared.Layout.{Layout}
 use Rattle.model.specs.declared.Session.{Session}
 use Rattle.model.specs.Range.{cat}
-use Rattle.model.specs.Words.{Image, byteAt, Bytes, wordOf}
+use Rattle.model.specs.Words.{Image, byteAt, wordOf}
 use Rattle.model.specs.Layout.{segmentSize, mainAt}
 use Rattle.model.specs.Container.{activeState, committedEpoch, activeLine, inactiveLine}
 use Rattle.model.specs.Session.{isDirty, dirtyWord, dirtyBlock}
 use Rattle.model.specs.Ops.{clwb, sfence, Ops, replay, stores, clwbs}
-use Rattle.model.specs.Checkpoint.{flushDirty, nextState, nextStates, statesOps}
+use Rattle.model.specs.Checkpoint.{flushDirty, nextStates, statesOps}
 use Rattle.model.specs.CrashExact.{Each}
 use Rattle.model.proofs.Laws.Words.{byte-of-word}
+use Rattle.model.proofs.Laws.Checkpoint.{next-most}
 use Rattle.model.proofs.Argument.Persist.{Misses, Clear, each-append, length-replay, replay-clear, replay-append}
 use Rattle.model.proofs.Argument.Settled.{Off, Flushed, keeps-off, Settles, settles-then, settles-after, settles-fence}
 use Rattle.model.proofs.Argument.Runs.{Puts, puts-clear, puts-then, puts-stores, each-cat, clwbs-none, neat-none, flushed-cat, flushed-clwbs}
@@ -68,16 +69,12 @@ module _ (s : Session) where
 
   -- ---- the inactive line
 
-  module _ (I : Image) (bytes : Bytes I) where
+  module _ (I : Image) where
     abbrev inactive : ℕ
     inactive = inactiveLine I
 
     next-small : (i : ℕ) → next (activeState I) i < 256
-    next-small i = go (isDirty (s .«dirty_segments») i)
-      where
-        go : (b : Bool) → nextState (activeState I i) b < 256
-        go true = unfold nextState in (omega arith)
-        go false = unfold nextState in (bytes (activeLine I + i))
+    next-small i = omega (arith, next-most (activeState I i) (isDirty (s .«dirty_segments») i))
 
     -- the states' phase leaves the next states on the inactive line
     states-put : Puts (statesPhase s I) inactive 64 (λ k. next (activeState I) (k - inactive))
