@@ -26,9 +26,10 @@ pub mod Crash
 pub mod CrashSafety
 pub mod Sisters
 pub mod FlushDurable
--- further statements: what no call reads, the epoch, lengths of a trace, the crash relation taken apart
+-- further statements: what no call reads, the epoch, free backup segments, lengths of a trace, the crash relation taken apart
 pub mod Unread
 pub mod EpochCounts
+pub mod FreeBackups
 pub mod TraceLength
 pub mod CrashExact
 -- a helper's: counts, in which nothing that a reader must believe is said

@@ -1,7 +1,8 @@
 -- Laws of what is said of 0, 1, .. n - 1, and of tests in a row.
 use Prim.Native.Nat.{ℕ, zero, suc, _+_, _*_, _<_, _≤_}
-use mathlib.Core.Path.{_≡_, refl, sym, ap₂, _∙_, subst}
-use mathlib.Core.Bool.{Bool, true, false, _&&_, _||_, true≢false}
+use mathlib.Core.Path.{_≡_, refl, sym, ap, ap₂, _∙_, subst}
+use mathlib.Core.Bool.{Bool, true, false, not, _&&_, _||_, true≢false}
+use mathlib.Core.Logic.{_≢_}
 use mathlib.Core.List.{List, _++_}
 use native.Mathlib.Omega.{arith}
 use native.Mathlib.Decide.{decLt, ℕ-discrete}
@@ -11,7 +12,7 @@ use lib.Dec.{eqb}
 use lib.ListN.{length, length-append}
 use borrow.Author.Tests.{lt-ltb, le-ltb, eq-eqb, ne-eqb}
 use native.Mathlib.Numerals.{add-one}
-use Rattle.model.specs.Range.{sumTo, cat, allB, anyB, orNext, firstB}
+use Rattle.model.specs.Range.{sumTo, oneIf, cat, allB, anyB, orNext, firstB}
 
 -- ---- tests in a row
 
@@ -161,7 +162,61 @@ unfolding sumTo
 sum-ext zero f g h = refl
 sum-ext (suc n) f g h = ap₂ _+_ (sum-ext n f g (λ i l. h i (omega arith))) (h n (omega arith))
 
+pub sum-zero : (n : ℕ) (f : ℕ → ℕ) → ((i : ℕ) → i < n → f i ≡ 0) → sumTo n f ≡ 0
+unfolding sumTo
+sum-zero zero f h = refl
+sum-zero (suc n) f h = omega (arith, sum-zero n f (λ i l. h i (omega arith)), h n (omega arith))
+
+pub one-most : (b : Bool) → oneIf b ≤ 1
+one-most true = omega arith
+one-most false = omega arith
+
 pub sum-most : (n k : ℕ) (f : ℕ → ℕ) → ((i : ℕ) → i < n → f i ≤ k) → sumTo n f ≤ k * n
 unfolding sumTo
 sum-most zero k f h = omega arith
 sum-most (suc n) k f h = omega (arith, sum-most n k f (λ i l. h i (omega arith)), h n (omega arith), mul-add k n 1, mul-one k)
+
+-- one number after the other, in two ways
+pub sum-add : (n : ℕ) (f g : ℕ → ℕ) → sumTo n (λ i. f i + g i) ≡ sumTo n f + sumTo n g
+unfolding sumTo
+sum-add zero f g = refl
+sum-add (suc n) f g = omega (arith, sum-add n f g)
+
+pub sum-swap : (n m : ℕ) (f : ℕ → ℕ → ℕ) → sumTo n (λ i. sumTo m (f i)) ≡ sumTo m (λ j. sumTo n (λ i. f i j))
+unfolding sumTo
+sum-swap zero m f = sym (sum-zero m (λ j. 0) (λ j h. refl))
+sum-swap (suc n) m f = ap₂ _+_ (sum-swap n m f) refl ∙ sym (sum-add m (λ j. sumTo n (λ i. f i j)) (f n))
+
+-- two functions that differ at one number at most
+pub sum-change : (n i : ℕ) (f g : ℕ → ℕ) → i < n → ((k : ℕ) → k < n → k ≢ i → g k ≡ f k) → sumTo n g + f i ≡ sumTo n f + g i
+unfolding sumTo
+sum-change zero i f g l h = absurd (omega arith)
+sum-change (suc n) i f g l h = go (ℕ-discrete i n) (λ b. sum-change n i f g b (λ k x. h k (omega arith)))
+  where
+    go : Dec (i ≡ n) → (i < n → sumTo n g + f i ≡ sumTo n f + g i) → sumTo n g + g n + f i ≡ sumTo n f + f n + g i
+    go (yes e) ih = let s : sumTo n g ≡ sumTo n f = sum-ext n g f (λ k b. h k (omega arith) (λ q. omega arith)) in rw (e, s) (omega arith)
+    go (no e) ih = omega (arith, ih (omega arith), h n (omega arith) (λ q. e (sym q)))
+
+-- a function that is 0 but at one number
+pub sum-single : (n i : ℕ) (f : ℕ → ℕ) → i < n → ((k : ℕ) → k < n → k ≢ i → f k ≡ 0) → sumTo n f ≡ f i
+sum-single n i f l h = omega (arith, sum-change n i (λ k. 0) f l h, sum-zero n (λ k. 0) (λ k b. refl))
+
+-- a test holds of some number exactly if the numbers of which it does not hold are not all
+pub any-counted : (n : ℕ) (P : ℕ → Bool) → anyB n P ≡ not (eqb (sumTo n (λ k. oneIf (not (P k)))) n)
+unfolding anyB sumTo
+any-counted zero P = refl
+any-counted (suc n) P = go (P n) (any-counted n P)
+  where
+    c : ℕ
+    c = sumTo n (λ k. oneIf (not (P k)))
+
+    most : c ≤ n
+    most = omega (arith, sum-most n 1 (λ k. oneIf (not (P k))) (λ k h. one-most (not (P k))))
+
+    go : (b : Bool) → anyB n P ≡ not (eqb c n) → (anyB n P || b) ≡ not (eqb (c + oneIf (not b)) (suc n))
+    go true ih = or-right (anyB n P) refl ∙ sym (ap not (ne-eqb (c + 0) (suc n) (λ e. omega (arith, most))))
+    go false ih = go′ (ℕ-discrete c n)
+      where
+        go′ : Dec (c ≡ n) → (anyB n P || false) ≡ not (eqb (c + 1) (suc n))
+        go′ (yes e) = rw (ih, eq-eqb c n e, eq-eqb (c + 1) (suc n) (omega arith))
+        go′ (no e) = rw (ih, ne-eqb c n e, ne-eqb (c + 1) (suc n) (λ q. e (omega arith)))

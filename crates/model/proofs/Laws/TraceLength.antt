@@ -26,7 +26,7 @@ use Rattle.model.proofs.Laws.Status.{given-condition, given-earlier}
 use Rattle.model.proofs.Laws.Counts.{recovery-most}
 use Rattle.model.proofs.Laws.Counts.Checkpoint.{length-checkpoint-ops}
 use Rattle.model.proofs.Laws.Counts.Write.{copyCount, spanCount, length-write}
-use Rattle.model.proofs.Laws.Range.{sum-most}
+use Rattle.model.proofs.Laws.Range.{one-most, sum-most}
 use Rattle.model.proofs.Laws.Write.{span-good}
 
 long-enough : (O : Ops) (t : Trace) → 3 * length O ≤ length t → traceShort O t ≢ true
@@ -39,10 +39,6 @@ trace-suffices l I t h e =
     long-enough (recoveryOps l I (activeLine I)) t (omega (arith, recovery-most l I (activeLine I))) (given-condition 11 (openErrors l I t) (omega arith) e)
 
 -- ---- write
-
-one-most : (b : Bool) → oneIf b ≤ 1
-one-most true = omega arith
-one-most false = omega arith
 
 pub dirty-most : (word n : ℕ) → dirtyCount word n ≤ n
 unfolding dirtyCount
