@@ -18,7 +18,8 @@ use Rattle.model.proofs.Laws.Crash.Images.{newest, settled-only}
 use Rattle.model.proofs.Argument.Recovery.{meta, recovery-keeps}
 use Rattle.model.proofs.Argument.Recovery.Opening.{open-clear}
 use Rattle.model.proofs.Argument.Pages.{contentsOf, reads}
-use Rattle.model.proofs.Argument.Stands.{Stands, low-epoch}
+use Rattle.model.proofs.Argument.View.{low-epoch}
+use Rattle.model.proofs.Argument.Stands.{Stands}
 use Rattle.model.proofs.Argument.Openings.{open-served, opened-is, openings-keep, recovers, starting, starting-whole, start-stands}
 use Rattle.model.proofs.CrashSafety.{argument, history-stands}
 

@@ -52,7 +52,7 @@ NineExactly =
 -- a checkpoint makes the next states
 abbrev pub servedState : Session → Image → CallArgs → ℕ → ℕ
 servedState s I (openArgs l) i = activeState I i
-servedState s I (writeArgs w) i = cond (eqb i (w .main) && needsCopy s I (w .main)) ssBackup (activeState I i)
+servedState s I (writeArgs w) i = cond (needsCopy s I (w .main) && eqb i (w .main)) ssBackup (activeState I i)
 servedState s I checkpointArgs i = nextState (activeState I i) (dirtySegment s i)
 
 -- and after any call: one that is refused keeps it

@@ -17,7 +17,7 @@ use Rattle.model.specs.Layout.{stateLine, segmentSize, mainAt, backupAt}
 use Rattle.model.specs.Container.{activeState, committedEpoch, activeLine, inactiveLine, backupToMain}
 use Rattle.model.specs.Session.{isDirty, dirtySegment, dirtyBlock, withCheckpoint}
 use Rattle.model.specs.Ops.{store, clwb, sfence, Ops, apply, replay}
-use Rattle.model.specs.Checkpoint.{nextStates, checkpointOps}
+use Rattle.model.specs.Checkpoint.{nextState, nextStates, checkpointOps}
 use Rattle.model.specs.Crash.{AgreeOn, CrashImage}
 use Rattle.model.proofs.Laws.Words.{word-cong, word-stored}
 use Rattle.model.proofs.Argument.Persist.{Misses, Clear, each-take, length-replay, replay-clear, replay-append, replay-small}
@@ -230,6 +230,11 @@ module _ (O : Ops) (I₀ : Image) (s : Session) (P W : Contents) (held : Bytes I
   -- the epoch is raised by 1
   pub checkpoint-epoch : suc (committedEpoch I) < 2 ^ 64 → committedEpoch (replay (O ++ C) I₀) ≡ suc (committedEpoch I)
   checkpoint-epoch fits = subst (λ (Y : Ops). committedEpoch (replay (O ++ Y) I₀) ≡ suc (committedEpoch I)) (sym (checkpoint-phases s I)) (epoch-after fits)
+
+  -- the states are the next ones
+  pub checkpoint-states : suc (committedEpoch I) < 2 ^ 64 → (i : ℕ) → i < 64 → activeState (replay (O ++ C) I₀) i ≡ nextState (activeState I i) (dirtySegment s i)
+  unfolding dirtySegment
+  checkpoint-states fits i h = subst (λ (Y : Ops). activeState (replay (O ++ Y) I₀) i ≡ nextStates (s .«dirty_segments») (activeState I) i) (sym (checkpoint-phases s I)) (next-state fits i h)
 
   -- PLAYED WHOLE: the invariant, with the working contents as the checkpoint
   pub checkpoint-done : suc (committedEpoch I) < 2 ^ 64 → Invariant lay (O ++ C) (replay (O ++ C) I₀) (withCheckpoint s) W W

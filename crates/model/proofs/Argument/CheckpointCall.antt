@@ -1,6 +1,6 @@
 -- A checkpoint in a history.
 use Prim.Native.Nat.{ℕ, suc, _-_, _^_, _<_}
-use mathlib.Core.Path.{_≡_, refl, ap, ap₂, _∙_, subst₂}
+use mathlib.Core.Path.{_≡_, refl, sym, ap, ap₂, _∙_, subst₂}
 use mathlib.Core.Logic.{_≢_, inl, inr, ⊎-elim}
 use mathlib.Core.Bool.{Bool, true}
 use native.Mathlib.Omega.{arith}
@@ -10,10 +10,10 @@ use Rattle.model.specs.declared.Session.{Session}
 use Rattle.model.specs.Range.{oneIf}
 use Rattle.model.specs.Words.{Image, byteAt, Bytes}
 use Rattle.model.specs.Status.{served}
-use Rattle.model.specs.Container.{committedEpoch}
-use Rattle.model.specs.Session.{withCheckpoint}
+use Rattle.model.specs.Container.{committedEpoch, activeState}
+use Rattle.model.specs.Session.{dirtySegment, withCheckpoint}
 use Rattle.model.specs.Ops.{Trace}
-use Rattle.model.specs.Checkpoint.{checkpointOps, checkpointErrors, checkpointStatus, checkpointOutcome}
+use Rattle.model.specs.Checkpoint.{nextState, checkpointOps, checkpointErrors, checkpointStatus, checkpointOutcome}
 use Rattle.model.specs.Reference.{Model, modelStep, checkpointArgs}
 use Rattle.model.specs.declared.Layout.{Layout}
 use Rattle.model.specs.History.{Call, Device, State, outcome}
@@ -23,7 +23,7 @@ use Rattle.model.proofs.Laws.Words.{word-lt}
 use Rattle.model.proofs.Laws.Counts.Checkpoint.{length-before, epoch-stored}
 use Rattle.model.proofs.Laws.Replay.{checkpoint-outcome-ok}
 use Rattle.model.proofs.Argument.Invariant.{Invariant}
-use Rattle.model.proofs.Argument.Checkpoint.{checkpoint-crash, checkpoint-epoch, checkpoint-done}
+use Rattle.model.proofs.Argument.Checkpoint.{checkpoint-crash, checkpoint-epoch, checkpoint-states, checkpoint-done}
 use Rattle.model.proofs.Laws.Outcome.{Answered}
 use Rattle.model.proofs.Argument.Stands.{imageOf, checkpointOf, workingOf, Stands, Argument, Appends, inv-at, session-known, by-status}
 
@@ -78,6 +78,8 @@ module _ (s : State) (st : Stands s) (t : Trace) (j : ℕ) where
         wholeCheckpoint = st .wholeWorking;
         inv = checkpoint-done (d .played) (d .durable) σ _ _ (st .bytes) inv fits;
         epoch = checkpoint-epoch (d .played) (d .durable) σ _ _ (st .bytes) inv fits ∙ omega (arith, one);
+        states = λ i h. checkpoint-states (d .played) (d .durable) σ _ _ (st .bytes) inv fits i (omega (arith, inv .recovers .fit .sizes .0))
+            ∙ sym (rw (a .status) (ap₂ (λ (x : Session) (J : Image). nextState (activeState J i) (dirtySegment x i)) e (st .image)));
         crash = λ p H x. ⊎-elim inl (λ r. inr (refl, epoch-stored σ I p (omega (arith, r .0, length-before σ I)), r .1))
             (checkpoint-crash (d .played) (d .durable) σ _ _ (st .bytes) inv p H fits x);
       }

@@ -84,8 +84,8 @@ module _ {l : Layout} {O : Ops} {I₀ : Image} {s : Session} {P W : Contents} {i
   epoch-K : committedEpoch K ≡ committedEpoch I
   epoch-K = epoch-cong I K (λ k h. K-same k (inl (omega arith)) ∙ low-B cow k (omega arith))
 
-  state-K : (u : ℕ) → u < 64 → u ≢ i → activeState K u ≡ activeState I u
-  state-K u h ne = ap (λ (e : ℕ). byteAt K (stateLine e + u)) epoch-K ∙ states-K u h ne
+  pub state-kept : (u : ℕ) → u < 64 → u ≢ i → activeState K u ≡ activeState I u
+  state-kept u h ne = ap (λ (e : ℕ). byteAt K (stateLine e + u)) epoch-K ∙ states-K u h ne
 
   pub state-two : activeState K i ≡ 2
   state-two = ap (λ (e : ℕ). byteAt K (stateLine e + i)) epoch-K ∙ K-is (active + i) ∙ overlay-same (byteAt B) (active + i) 2
@@ -132,11 +132,11 @@ module _ {l : Layout} {O : Ops} {I₀ : Image} {s : Session} {P W : Contents} {i
 
       not-main : (u : ℕ) → dirtySegment (unmarked s i) u ≡ true → activeState K u ≡ 1 → Dec (u ≡ i) → ⊥
       not-main u e q (yes y) = cow .inv .moved u (same-dirty u e) (subst (λ (w : ℕ). activeState I w ≡ 1) (sym y) (cow .givable .holds))
-      not-main u e q (no y) = cow .inv .moved u (same-dirty u e) (sym (state-K u (omega (arith, low u e, m64)) y) ∙ q)
+      not-main u e q (no y) = cow .inv .moved u (same-dirty u e) (sym (state-kept u (omega (arith, low u e, m64)) y) ∙ q)
 
       one : (u : ℕ) → u < l .mains → activeState K u ≡ 1 → Dec (u ≡ i) → activeState I u ≡ 1
       one u h e (yes y) = subst (λ (w : ℕ). activeState I w ≡ 1) (sym y) (cow .givable .holds)
-      one u h e (no y) = sym (state-K u (omega (arith, m64)) y) ∙ e
+      one u h e (no y) = sym (state-kept u (omega (arith, m64)) y) ∙ e
 
       twin : (u t x : ℕ) → u < l .mains → t < l .backups → x < segmentSize l → backupToMain K t ≡ u → dirtyBlock (unmarked s i) u (x / 256) ≡ false → Dec (t ≡ j)
           → byteAt K (backupAt l t + x) ≡ byteAt K (mainAt l u + x)
@@ -155,4 +155,4 @@ module _ {l : Layout} {O : Ops} {I₀ : Image} {s : Session} {P W : Contents} {i
           let z : activeState K i ≡ 0 = subst (λ (w : ℕ). activeState K w ≡ 0) y e in
           let never : ⊥ = omega (arith, state-two) in absurd never
       blank u x h k e d (no y) = main-K u x h k
-          ∙ cow .inv .blank u x h k (sym (state-K u (omega (arith, m64)) y) ∙ e) (⊎-elim (λ q. absurd (y q)) (λ q. q) (unmarked-block s i u (x / 256) d))
+          ∙ cow .inv .blank u x h k (sym (state-kept u (omega (arith, m64)) y) ∙ e) (⊎-elim (λ q. absurd (y q)) (λ q. q) (unmarked-block s i u (x / 256) d))

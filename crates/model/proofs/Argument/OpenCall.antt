@@ -7,7 +7,7 @@ use native.Mathlib.Omega.{arith}
 use lib.ListN.{length}
 use Rattle.model.specs.declared.Layout.{Layout}
 use Rattle.model.specs.Words.{Image}
-use Rattle.model.specs.Container.{activeLine, HeaderOk}
+use Rattle.model.specs.Container.{activeLine, activeState, HeaderOk}
 use Rattle.model.specs.Session.{freshSession, zeroSession}
 use Rattle.model.specs.Ops.{Ops, Trace}
 use Rattle.model.specs.Open.{recoveryOps, openStatus, openOutcome}
@@ -19,7 +19,8 @@ use Rattle.model.proofs.Argument.Invariant.{Invariant}
 use Rattle.model.proofs.Argument.Recovery.{meta}
 use Rattle.model.proofs.Argument.Recovery.Opening.{open-clear, reopen-crash, reopen-done}
 use Rattle.model.proofs.Laws.Outcome.{Answered}
-use Rattle.model.proofs.Argument.Stands.{imageOf, checkpointOf, workingOf, Stands, Argument, low-epoch, Appends, inv-at, by-status}
+use Rattle.model.proofs.Argument.View.{low-epoch, low-states}
+use Rattle.model.proofs.Argument.Stands.{imageOf, checkpointOf, workingOf, Stands, Argument, Appends, inv-at, by-status}
 
 -- an image that an opening serves
 pub accepted : (l : Layout) (I : Image) (t : Trace) → openStatus l I t ≡ 0 → ContainerOk l I
@@ -77,6 +78,8 @@ module _ (s : State) (st : Stands s) (k : Layout) (t : Trace) (j : ℕ) where
         wholeCheckpoint = st .wholeCheckpoint;
         inv = reopen-done k (d .played) (d .durable) (st .session) _ _ (st .bytes) inv;
         epoch = low-epoch (d .durable) (d .played) E (λ n q. open-clear k I _ (inv .recovers) n (meta (omega arith))) ∙ omega arith;
+        states = λ i h. low-states (d .durable) (d .played) E (λ n q. open-clear k I _ (inv .recovers) n (meta (omega arith))) i (omega (arith, inv .recovers .fit .sizes .0))
+            ∙ sym (rw (a .status) (ap (λ (J : Image). activeState J i) (st .image)));
         crash = λ p H x. inl (reopen-crash k (d .played) (d .durable) (st .session) _ _ (st .bytes) inv p H x);
       }
 

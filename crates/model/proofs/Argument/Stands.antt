@@ -1,6 +1,6 @@
 -- Where a history stands between two calls (`Stands`), and what the crash argument needs of a call (`Argument`): played
--- whole it leaves what stands, crashed anywhere it leaves what recovers to a page that may be shown, and it counts for the
--- epoch. Each call meets it in its own file, and the induction over histories uses that alone. Calls that play operations
+-- whole it leaves what stands, crashed anywhere it leaves what recovers to a page that may be shown, it counts for the
+-- epoch, and it makes the states that follow. Each call meets it in its own file, and the induction over histories uses that alone. Calls that play operations
 -- on the module as it is meet it by `Appends`, and one that is refused does so once for all.
 use Prim.Native.Nat.{ℕ, _+_, _/_, _%_, _<_}
 use mathlib.Core.Path.{_≡_, refl, sym, ap, ap₂, _∙_, subst, subst₂}
@@ -17,7 +17,7 @@ use Rattle.model.specs.Range.{oneIf}
 use Rattle.model.specs.Words.{Image, Bytes}
 use Rattle.model.specs.Layout.{lineSize}
 use Rattle.model.specs.Status.{served}
-use Rattle.model.specs.Container.{committedEpoch}
+use Rattle.model.specs.Container.{committedEpoch, activeState}
 use Rattle.model.specs.Session.{zeroSession}
 use Rattle.model.specs.Ops.{Ops, replay}
 use Rattle.model.specs.Outcome.{outcomeOf}
@@ -26,11 +26,11 @@ use Rattle.model.specs.Reference.{Page, Model, modelStep, checkpointArgs
 use Rattle.model.specs.History.{Call, Device, State, outcome, calledOps, deviceStep, step}
 use Rattle.model.specs.CrashSafety.{Moment, during, playedAt, EpochStored, MayShow}
 use Rattle.model.specs.EpochCounts.{isCheckpoint}
+use Rattle.model.specs.FreeBackups.{stateAfter}
 use Rattle.model.proofs.Laws.Layout.{image-lines}
 use Rattle.model.proofs.Laws.Ops.{AllOk, played-ops, replayed-image}
-use Rattle.model.proofs.Laws.Words.{word-cong}
-use Rattle.model.proofs.Argument.Persist.{Clear, replay-clear, replay-append}
-use Rattle.model.proofs.Argument.View.{Recoverable}
+use Rattle.model.proofs.Argument.Persist.{replay-append}
+use Rattle.model.proofs.Argument.View.{Recoverable, low-epoch, low-states}
 use Rattle.model.proofs.Argument.Holds.{Contents}
 use Rattle.model.proofs.Argument.Invariant.{Invariant}
 use Rattle.model.proofs.Argument.Recovery.Opening.{reopen-crash}
@@ -74,16 +74,14 @@ pub record Argument (s : State) (c : Call) : Type 0 where
   -- it raises the epoch by 1 if it is a served checkpoint, and else not
   pub epoch : committedEpoch (step s c .device .image)
       ≡ committedEpoch (s .device .image) + oneIf (isCheckpoint (c .args) && served (outcome (s .device) c .status))
+  -- it makes of the states what it should
+  pub states : (i : ℕ) → i < s .device .layout .mains → activeState (step s c .device .image) i ≡ stateAfter (s .device) c i
 
 -- A CRASH between two calls
 pub rest-crash : (s : State) → Stands s → (H : Image) → CrashImage (s .device .durable) (s .device .played) H
     → Recoverable (s .device .layout) H (checkpointOf s)
 rest-crash s st H c = reopen-crash (s .device .layout) (s .device .played) (s .device .durable) (st .session) _ _ (st .bytes) (st .inv) 0 H
     (subst (λ (X : Ops). CrashImage (s .device .durable) X H) (sym (append-nil (s .device .played))) c)
-
--- operations that leave the first line alone leave the epoch
-pub low-epoch : (I₀ : Image) (O E : Ops) → ((k : ℕ) → k < 64 → Clear k E) → committedEpoch (replay (O ++ E) I₀) ≡ committedEpoch (replay O I₀)
-low-epoch I₀ O E h = ap (λ (J : Image). committedEpoch J) (replay-append O E I₀) ∙ word-cong _ _ 0 (λ k x y. replay-clear E (replay O I₀) k (h k (omega arith)))
 
 -- ---- calls that play operations on the module as it is
 
@@ -106,6 +104,7 @@ pub record Appends (s : State) (c : Call) : Type 0 where
       (contentsOf (s .device .layout) (model .checkpoint)) (contentsOf (s .device .layout) (model .working))
   pub epoch : committedEpoch (replay (s .device .played ++ ops) (s .device .durable))
       ≡ committedEpoch (imageOf (s .device)) + oneIf (isCheckpoint (c .args) && served (outcome (s .device) c .status))
+  pub states : (i : ℕ) → i < layout .mains → activeState (replay (s .device .played ++ ops) (s .device .durable)) i ≡ stateAfter (s .device) c i
   pub crash : (p : ℕ) (H : Image) → CrashImage (s .device .durable) (s .device .played ++ take p ops) H
       → Recoverable layout H (checkpointOf s) ⊎ ((c .args ≡ checkpointArgs) × EpochStored (take p ops) × Recoverable layout H (workingOf s))
 
@@ -184,8 +183,15 @@ module _ (s : State) (st : Stands s) where
         ∙ ap (λ (X : Ops). committedEpoch (replay (d .played ++ X) (d .durable))) (called-all ∙ n .opsAre)
         ∙ n .epoch ∙ ap (λ (J : Image). committedEpoch J + oneIf (isCheckpoint (c .args) && served (outcome d c .status))) (sym (st .image))
 
+    appended-states : Appends s c → (i : ℕ) → i < l .mains → activeState (step s c .device .image) i ≡ stateAfter d c i
+    unfolding step deviceStep
+    appended-states n i h =
+        ap (λ (J : Image). activeState J i) (appended-stands n .image)
+        ∙ ap (λ (X : Ops). activeState (replay (d .played ++ X) (d .durable)) i) (called-all ∙ n .opsAre)
+        ∙ n .states i (subst (λ (k : Layout). i < k .mains) (sym (n .layoutIs)) h)
+
     appended : Appends s c → Argument s c
-    appended n = record { stands = appended-stands n; crash = appended-crash n; epoch = appended-epoch n }
+    appended n = record { stands = appended-stands n; crash = appended-crash n; epoch = appended-epoch n; states = appended-states n }
 
     -- a refused call: nothing is played, and model and session stay, or the session is that of zeros
     refused : (kept : Session) → Answered (outcome d c) false kept [] → (kept ≡ d .session) ⊎ (kept ≡ zeroSession)
@@ -205,6 +211,8 @@ module _ (s : State) (st : Stands s) where
       wholeCheckpoint = st .wholeCheckpoint;
       inv = subst (λ (X : Ops). Invariant l X (replay X (d .durable)) (st .session) (checkpointOf s) (workingOf s)) (sym (append-nil (d .played))) (st .inv);
       epoch = low-epoch (d .durable) (d .played) [] (λ k h. tt) ∙ rw (a .status) (no-count (isCheckpoint (c .args)));
+      states = λ i h. low-states (d .durable) (d .played) [] (λ k x. tt) i (omega (arith, st .inv .recovers .fit .sizes .0))
+          ∙ sym (rw (a .status) (ap (λ (J : Image). activeState J i) (st .image)));
       crash = λ p H x. inl (reopen-crash l (d .played) (d .durable) (st .session) _ _ (st .bytes) (st .inv) 0 H (none p H x));
     }
       where

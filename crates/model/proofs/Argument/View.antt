@@ -1,14 +1,18 @@
 -- An image is recoverable to the contents that its active line holds; what another image must have in common with it to be
--- recoverable to the same.
+-- recoverable to the same; operations that leave its epoch and states alone.
 use Prim.Native.Nat.{ℕ, _+_, _≤_, _<_}
 use mathlib.Core.Path.{_≡_, sym, ap, _∙_, subst}
+use mathlib.Core.List.{_++_}
 use native.Mathlib.Omega.{arith}
 use lib.ListN.{length}
 use Rattle.model.specs.declared.Layout.{Layout}
 use Rattle.model.specs.Words.{Image, byteAt, Bytes}
 use Rattle.model.specs.Layout.{SizesOk, imageSize, stateLine, segmentSize, mainAt, backupAt}
 use Rattle.model.specs.Container.{activeState, committedEpoch, activeLine, segState, backupToMain, HeaderOk}
+use Rattle.model.specs.Ops.{Ops, replay}
 use Rattle.model.proofs.Laws.Words.{word-cong}
+use Rattle.model.proofs.Laws.Layout.{state-line-high}
+use Rattle.model.proofs.Argument.Persist.{Clear, replay-clear, replay-append}
 use Rattle.model.proofs.Argument.Holds.{Contents, Holds, holds-cong}
 
 -- an image of bytes of the layout's length, with its header
@@ -78,3 +82,14 @@ recoverable-alike l I H P a r =
 
 pub alike-state : (l : Layout) (I H : Image) → Alike l I H → (i : ℕ) → i < 64 → activeState H i ≡ activeState I i
 alike-state l I H a i h = ap (λ (e : ℕ). byteAt H (stateLine e + i)) (epoch-cong I H (a .epochs)) ∙ a .states i h
+
+-- operations that leave the first line alone leave the epoch
+pub low-epoch : (I₀ : Image) (O E : Ops) → ((k : ℕ) → k < 64 → Clear k E) → committedEpoch (replay (O ++ E) I₀) ≡ committedEpoch (replay O I₀)
+low-epoch I₀ O E h = ap (λ (J : Image). committedEpoch J) (replay-append O E I₀) ∙ epoch-cong (replay O I₀) (replay E (replay O I₀)) (λ k x. replay-clear E (replay O I₀) k (h k (omega arith)))
+
+-- operations that leave the epoch and the lines of states alone leave the states
+pub low-states : (I₀ : Image) (O E : Ops) → ((k : ℕ) → k < 256 → Clear k E) → (i : ℕ) → i < 64 → activeState (replay (O ++ E) I₀) i ≡ activeState (replay O I₀) i
+low-states I₀ O E h i b =
+    ap (λ (e : ℕ). byteAt (replay (O ++ E) I₀) (stateLine e + i)) (low-epoch I₀ O E (λ k x. h k (omega arith)))
+    ∙ ap (λ (J : Image). byteAt J (activeLine (replay O I₀) + i)) (replay-append O E I₀)
+    ∙ replay-clear E (replay O I₀) _ (h _ (omega (arith, state-line-high (committedEpoch (replay O I₀)))))

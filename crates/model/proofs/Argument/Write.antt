@@ -1,11 +1,13 @@
 -- Write, whole: the copy that its plan may ask for, and then the stores of its span.
 use Prim.Native.Nat.{ℕ, _+_, _-_, _≤_, _<_}
 use mathlib.Core.Path.{_≡_, refl, sym, ap, _∙_, subst}
-use mathlib.Core.Bool.{Bool, true, false, not, true≢false}
+use mathlib.Core.Bool.{Bool, true, false, not, cond, _&&_, true≢false}
 use native.Mathlib.Omega.{arith}
 use mathlib.Core.Logic.{_≢_, _⊎_, inl, ⊎-elim}
 use mathlib.Core.List.{[], _∷_, _++_, append-assoc}
-use borrow.Author.Tests.{leb-false}
+use native.Mathlib.Decide.{ℕ-discrete}
+use lib.Dec.{eqb}
+use borrow.Author.Tests.{leb-false, eq-eqb, ne-eqb}
 use lib.ListN.{length, take, length-set}
 use lib.Seq.{set-set, getD-set-same}
 use Rattle.model.specs.declared.Session.{Session}
@@ -15,7 +17,7 @@ use Rattle.model.specs.Ops.{sfence, Ops, Trace, replay}
 use Rattle.model.specs.Write.{WriteArgs, needsCopy, needsBackup, copyPlan, copies, backupOps, copyOnWriteOps, spanAt, spanBlocks, spanOps, writeOps, writeSession, writeErrors, writeStatus}
 use Rattle.model.specs.declared.Layout.{Layout}
 use Rattle.model.specs.declared.Plan.{Plan}
-use Rattle.model.specs.Layout.{segmentSize, mainAt}
+use Rattle.model.specs.Layout.{ssBackup, segmentSize, mainAt}
 use Rattle.model.specs.Session.{dirtyWord, dirtySegment, dirtyBlock, setBits, withDirty}
 use Rattle.model.specs.Crash.{CrashImage}
 use Rattle.model.proofs.Laws.Status.{served-condition}
@@ -25,12 +27,12 @@ use Rattle.model.proofs.Argument.Persist.{Misses, Clear, each-append}
 use Rattle.model.proofs.Argument.Phases.{statePhase, copy-phases}
 use Rattle.model.proofs.Argument.Settled.{crash-seq}
 use Rattle.model.proofs.Argument.Runs.{puts-clear}
-use Rattle.model.proofs.Argument.View.{Recoverable}
+use Rattle.model.proofs.Argument.View.{Recoverable, low-states}
 use Rattle.model.proofs.Argument.Holds.{Contents}
 use Rattle.model.proofs.Argument.GivenBackup.{Givable}
 use Rattle.model.proofs.Argument.Invariant.{Invariant}
 use Rattle.model.proofs.Argument.Span.{marked, span-crash, span-done}
-use Rattle.model.proofs.Argument.Copy.{unmarked, copy-done, state-two}
+use Rattle.model.proofs.Argument.Copy.{unmarked, copy-done, state-two, state-kept}
 use Rattle.model.proofs.Argument.Copy.FirstPart.{Ready, Copying}
 use Rattle.model.proofs.Argument.Copy.NewBackup.{ready-new}
 use Rattle.model.proofs.Argument.Copy.OwnBackup.{ready-old}
@@ -173,12 +175,16 @@ module _ (O : Ops) (I₀ : Image) (s : Session) (P W : Contents) (held : Bytes I
     turned : (p : Prepared plan) → activeState (replay (O ++ X) I₀) i ≢ 1
     turned p e = omega (arith, state-two (cow p))
 
+    -- the stores of the span leave the metadata alone
+    span-low : (k : ℕ) → k < 512 → Clear k U
+    span-low k h = puts-clear (span-puts l I w ok small) k (inl (omega (arith, span-bounds l w ok)))
+
     -- the epoch's line is not stored to
     pub write-low : (k : ℕ) → k < 64 → Clear k (writeOps s I w j)
     write-low k h = go (needsCopy s I i) refl
       where
         span : Clear k U
-        span = puts-clear (span-puts l I w ok small) k (inl (omega (arith, span-bounds l w ok)))
+        span = span-low k (omega arith)
 
         go : (b : Bool) → needsCopy s I i ≡ b → Clear k (writeOps s I w j)
         go true e =
@@ -188,6 +194,25 @@ module _ (O : Ops) (I₀ : Image) (s : Session) (P W : Contents) (held : Bytes I
             (each-append (Misses k) A (statePhase I i) (p .ready .clear k (inl (omega arith)))
             (state-clear (cow p) k (inl (omega arith)))) span)
         go false e = subst (λ (Y : Ops). Clear k Y) (sym (plain-ops e)) span
+
+    -- the state of the segment that is copied becomes 2, and all others stay
+    pub write-states : (u : ℕ) → u < l .mains → activeState (replay (O ++ writeOps s I w j) I₀) u ≡ cond (needsCopy s I i && eqb u i) ssBackup (activeState I u)
+    write-states u h = go (needsCopy s I i) refl
+      where
+        u64 : u < 64
+        u64 = omega (arith, inv .recovers .fit .sizes .0)
+
+        copied : (p : Prepared plan) → Dec (u ≡ i) → activeState (replay (O ++ X) I₀) u ≡ cond (eqb u i) ssBackup (activeState I u)
+        copied p (yes e) = rw (eq-eqb u i e) (subst (λ (k : ℕ). activeState (replay (O ++ X) I₀) k ≡ 2) (sym e) (state-two (cow p)))
+        copied p (no e) = rw (ne-eqb u i e) (state-kept (cow p) u u64 e)
+
+        go : (b : Bool) → needsCopy s I i ≡ b → activeState (replay (O ++ writeOps s I w j) I₀) u ≡ cond (b && eqb u i) ssBackup (activeState I u)
+        go true e =
+            let p = prepared j e free in
+            ap (λ (Y : Ops). activeState (replay Y I₀) u) (ap (λ (Y : Ops). O ++ Y) (copy-ops p) ∙ sym (append-assoc O X U))
+            ∙ low-states I₀ (O ++ X) U (λ k x. span-low k (omega arith)) u u64 ∙ copied p (ℕ-discrete u i)
+        go false e =
+            ap (λ (Y : Ops). activeState (replay (O ++ Y) I₀) u) (plain-ops e) ∙ low-states I₀ O U (λ k x. span-low k (omega arith)) u u64
 
     -- CRASHED: the same contents
     pub write-crash : (n : ℕ) (H : Image) → CrashImage I₀ (O ++ take n (writeOps s I w j)) H → Recoverable l H P

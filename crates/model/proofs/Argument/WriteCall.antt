@@ -2,18 +2,19 @@
 use Prim.Native.Nat.{ℕ, _+_, _-_, _*_, _<_}
 use mathlib.Core.Path.{_≡_, refl, sym, ap, ap₂, _∙_, subst, subst₂}
 use mathlib.Core.Logic.{inl}
-use mathlib.Core.Bool.{Bool, true}
+use mathlib.Core.Bool.{Bool, true, cond, _&&_}
 use native.Mathlib.Omega.{arith}
+use lib.Dec.{eqb}
 use lib.ListN.{length, length-set}
 use lib.Seq.{sets, length-sets}
 use Rattle.model.specs.declared.Layout.{Layout}
 use Rattle.model.specs.declared.Session.{Session}
 use Rattle.model.specs.Words.{Image, byteAt, Bytes, overlay}
-use Rattle.model.specs.Layout.{segmentSize, mainAt}
+use Rattle.model.specs.Layout.{ssBackup, segmentSize, mainAt}
 use Rattle.model.specs.Container.{activeState, backupToMain, Free}
 use Rattle.model.specs.Session.{withDirty}
 use Rattle.model.specs.Ops.{Trace}
-use Rattle.model.specs.Write.{WriteArgs, needsBackup, spanAt, writeOps, writeSession, writeStatus, writeOutcome, Chosen}
+use Rattle.model.specs.Write.{WriteArgs, needsCopy, needsBackup, spanAt, writeOps, writeSession, writeStatus, writeOutcome, Chosen}
 use Rattle.model.specs.Reference.{Page, Model, modelStep, writeArgs, pageAt}
 use Rattle.model.specs.History.{Call, Device, State, outcome}
 use Rattle.model.proofs.Laws.Open.{zero-write}
@@ -21,10 +22,11 @@ use Rattle.model.proofs.Laws.Words.{overlay-sets, overlay-shift}
 use Rattle.model.proofs.Laws.Replay.{write-outcome-ok}
 use Rattle.model.proofs.Argument.Invariant.{Invariant}
 use Rattle.model.proofs.Argument.SpanWords.{SpanOk}
-use Rattle.model.proofs.Argument.Write.{span-ok, write-low, write-crash, write-done}
+use Rattle.model.proofs.Argument.Write.{span-ok, write-low, write-states, write-crash, write-done}
 use Rattle.model.proofs.Argument.Pages.{contentsOf, block-inside}
 use Rattle.model.proofs.Laws.Outcome.{Answered}
-use Rattle.model.proofs.Argument.Stands.{imageOf, checkpointOf, workingOf, Stands, Argument, low-epoch, Appends, inv-at, session-known, by-status}
+use Rattle.model.proofs.Argument.View.{low-epoch}
+use Rattle.model.proofs.Argument.Stands.{imageOf, checkpointOf, workingOf, Stands, Argument, Appends, inv-at, session-known, by-status}
 
 -- a served write lays its bytes over the working page, and keeps the session's sizes
 model-write : (l : Layout) (w : WriteArgs) (m : Model)
@@ -92,6 +94,8 @@ module _ (s : State) (st : Stands s) (w : WriteArgs) (t : Trace) (j : ℕ) (smal
         wholeCheckpoint = st .wholeCheckpoint;
         inv = write-done (d .played) (d .durable) σ _ _ (st .bytes) inv w ok (st .wide) j free (contentsOf l page) given;
         epoch = low-epoch (d .durable) (d .played) (writeOps σ I w j) (write-low (d .played) (d .durable) σ _ _ (st .bytes) inv w ok (st .wide) j free) ∙ omega arith;
+        states = λ i h. write-states (d .played) (d .durable) σ _ _ (st .bytes) inv w ok (st .wide) j free i h
+            ∙ sym (rw (a .status) (ap₂ (λ (x : Session) (J : Image). cond (needsCopy x J (w .main) && eqb i (w .main)) ssBackup (activeState J i)) e (st .image)));
         crash = λ p H x. inl (write-crash (d .played) (d .durable) σ _ _ (st .bytes) inv w ok (st .wide) j free p H x);
       }
 
