@@ -27,7 +27,7 @@ argument s st c = go (c .args)
     go (writeArgs w) h = write-argument s st w (c .trace) (c .choice) (h .0) (h .1)
     go checkpointArgs h = checkpoint-argument s st (c .trace) (c .choice)
 
-run-stands : (s : State) (cs : List Call) → Stands s → AllPermitted s cs → Stands (run s cs)
+pub run-stands : (s : State) (cs : List Call) → Stands s → AllPermitted s cs → Stands (run s cs)
 unfolding run
 run-stands s [] st permitted = st
 run-stands s (c ∷ cs) st permitted = run-stands (step s c) cs (argument s st c (permitted .0) .stands) (permitted .1)

@@ -7,3 +7,4 @@ pub mod Argument
 pub mod CrashSafety
 pub mod Sisters
 pub mod FlushDurable
+pub mod FreeBackups

@@ -58,7 +58,7 @@ module _ (s : State) (st : Stands s) (t : Trace) (j : ℕ) where
 
   appends : checkpointStatus (d .session) (d .image) t ≡ 0 → Answered (outcome d c) true (withCheckpoint (d .session)) (checkpointOps (d .session) (d .image)) → Appends s c
   appends h a =
-      let e : d .session ≡ σ = session-known s st (λ x. checkpointStatus x (d .image) t) (zero-checkpoint (d .image) t) h in
+      let e : d .session ≡ σ = session-known s st (λ x. checkpointStatus x (d .image) t) (zero-checkpoint (d .image) t) (λ x. omega arith) in
       let inv : Invariant (σ .layout) (d .played) I σ (checkpointOf s) (workingOf s) = inv-at s st (σ .layout) (st .sized) in
       let fits : suc (committedEpoch I) < 2 ^ 64 =
       epoch-fits σ I t (inv .recovers .fit .bytes) (subst₂ (λ (x : Session) (J : Image). checkpointStatus x J t ≡ 0) e (st .image) h) in

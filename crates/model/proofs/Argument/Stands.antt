@@ -4,7 +4,7 @@
 -- on the module as it is meet it by `Appends`, and one that is refused does so once for all.
 use Prim.Native.Nat.{ℕ, _+_, _/_, _%_, _<_}
 use mathlib.Core.Path.{_≡_, refl, sym, ap, ap₂, _∙_, subst, subst₂}
-use mathlib.Core.Logic.{_⊎_, inl, inr, ⊎-elim}
+use mathlib.Core.Logic.{_≢_, _⊎_, inl, inr, ⊎-elim}
 use mathlib.Core.Bool.{Bool, true, false, _&&_}
 use mathlib.Core.List.{[], _++_, append-nil}
 use native.Mathlib.Decide.{ℕ-discrete}
@@ -126,9 +126,9 @@ module _ (s : State) (st : Stands s) where
       → Invariant k (s .device .played) (imageOf (s .device)) (st .session) (checkpointOf s) (workingOf s)
   inv-at k e = subst (λ (x : Layout). Invariant x (d .played) I (st .session) (checkpointOf s) (workingOf s)) (sym e) (st .inv)
 
-  -- a call that refuses the session of zeros is served only with the session of the last served call
-  pub session-known : (status : Session → ℕ) → status zeroSession ≡ 1 → status (s .device .session) ≡ 0 → s .device .session ≡ st .session
-  session-known status refused h = ⊎-elim (λ e. e) (λ e. absurd (let z : status zeroSession ≡ 0 = subst (λ (x : Session). status x ≡ 0) e h in omega arith)) (st .known)
+  -- a call that refuses the session of zeros with 1 gives another number only with the session of the last served call
+  pub session-known : (status : Session → ℕ) → status zeroSession ≡ 1 → status (s .device .session) ≢ 1 → s .device .session ≡ st .session
+  session-known status refused h = ⊎-elim (λ e. e) (λ e. absurd (h (ap status e ∙ refused))) (st .known)
 
   -- the call's operations are well formed on the module's image
   module _ (c : Call) (ok : AllOk (length (s .device .image) / lineSize) (outcome (s .device) c .ops)) where

@@ -72,7 +72,7 @@ module _ (s : State) (st : Stands s) (w : WriteArgs) (t : Trace) (j : ℕ) (smal
 
   appends : writeStatus (d .session) (d .image) w j t ≡ 0 → Answered (outcome d c) true (writeSession (d .session) (d .image) w) (writeOps (d .session) (d .image) w j) → Appends s c
   appends h a =
-      let e : d .session ≡ σ = session-known s st (λ x. writeStatus x (d .image) w j t) (zero-write (d .image) w j t) h in
+      let e : d .session ≡ σ = session-known s st (λ x. writeStatus x (d .image) w j t) (zero-write (d .image) w j t) (λ x. omega arith) in
       let inv : Invariant (σ .layout) (d .played) I σ (checkpointOf s) (workingOf s) = inv-at s st (σ .layout) (st .sized) in
       let free : needsBackup σ I (w .main) ≡ true → Free (σ .layout) (activeState I) (backupToMain I) j =
       subst₂ (λ (x : Session) (J : Image). needsBackup x J (w .main) ≡ true → Free (x .layout) (activeState J) (backupToMain J) j) e (st .image) (chosen h) in

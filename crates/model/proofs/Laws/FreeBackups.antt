@@ -3,7 +3,7 @@
 use Prim.Native.Nat.{ℕ, suc, _≤_, _<_}
 use mathlib.Core.Path.{_≡_, refl, sym, ap, ap₂, _∙_, subst}
 use mathlib.Core.Logic.{_≢_, inl, inr, ⊎-elim}
-use mathlib.Core.Bool.{Bool, true, false, not, _&&_, true≢false, false≢true}
+use mathlib.Core.Bool.{Bool, true, false, not, _&&_, true≢false, false≢true, and-false, Bool·not-not}
 use mathlib.Core.List.{_++_}
 use native.Mathlib.Omega.{arith}
 use native.Mathlib.Decide.{ℕ-discrete}
@@ -65,11 +65,7 @@ module _ (l : Layout) (st pr : ℕ → ℕ) (sizes : SizesOk l) (v : Valid l st 
           let k = v .kept i b e in
           sum-single (l .backups) (k .0) _ (k .1) (λ j x n. other i j (λ q. n (v .once j (k .0) x (k .1) (omega arith) (q ∙ sym (k .2)))))
           ∙ rw (eq-eqb (pr (k .0)) i (k .2))
-      go (no e) = sum-zero (l .backups) _ (λ j x. rw (ne-eqb (st i) ssBackup e) (none (eqb (pr j) i))) ∙ sym (rw (ne-eqb (st i) ssBackup e))
-        where
-          none : (a : Bool) → oneIf (a && false) ≡ 0
-          none true = refl
-          none false = refl
+      go (no e) = sum-zero (l .backups) _ (λ j x. rw (ne-eqb (st i) ssBackup e) (ap oneIf (and-false (eqb (pr j) i)))) ∙ sym (rw (ne-eqb (st i) ssBackup e))
 
   -- by the backup segment
   by-backup : (j : ℕ) → j < l .backups → sumTo (l .mains) (λ i. oneIf (holds i j)) ≡ oneIf (not (isFree st pr j))
@@ -77,12 +73,8 @@ module _ (l : Layout) (st pr : ℕ → ℕ) (sizes : SizesOk l) (v : Valid l st 
   by-backup j b = ⊎-elim
       (λ e. sum-zero (l .mains) _ (λ i x. other i j (λ q. omega (arith, sizes .0))) ∙ sym (rw (eq-eqb (pr j) unpaired e)))
       (λ m. sum-single (l .mains) (pr j) _ m (λ i x n. other i j (λ q. n (sym q)))
-      ∙ rw (eq-eqb (pr j) (pr j) refl, ne-eqb (pr j) unpaired (λ e. omega (arith, sizes .0))) (twice (eqb (st (pr j)) ssBackup)))
+      ∙ rw (eq-eqb (pr j) (pr j) refl, ne-eqb (pr j) unpaired (λ e. omega (arith, sizes .0))) (ap oneIf (sym (Bool·not-not (eqb (st (pr j)) ssBackup)))))
       (v .pairs j b)
-    where
-      twice : (a : Bool) → oneIf a ≡ oneIf (not (not a))
-      twice true = refl
-      twice false = refl
 
   counted : backupsInUse l st pr ≡ heldInBackups l st
   unfolding backupsInUse heldInBackups
@@ -136,11 +128,7 @@ module _ (s : Session) (I : Image) (w : WriteArgs) (early : firstError (earlyErr
           → ((needsCopy s I i && not (isPaired l (backupToMain I) i)) && not (anyFree l (activeState I) (backupToMain I))) ≡ (c && f)
       go false f p q = rw p
       go true true p q = rw (p, none-own p q, free-is, q)
-      go true false p q = rw (p, free-is, q) (none (not (isPaired l (backupToMain I) i)))
-        where
-          none : (a : Bool) → (a && false) ≡ false
-          none true = refl
-          none false = refl
+      go true false p q = rw (p, free-is, q) (and-false (not (isPaired l (backupToMain I) i)))
 
 pub nine-exactly : NineExactly
 unfolding writeStatus
