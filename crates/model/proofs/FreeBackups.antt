@@ -1,12 +1,11 @@
 -- Backup segments over histories (specs/FreeBackups.antt), proved: each call makes the states that it should (`Argument`), so
 -- the main segments in state 2 can be counted along a history, and a segment that is empty stays empty until it is written.
-use Prim.Native.Nat.{ℕ, suc, _+_, _<_}
+use Prim.Native.Nat.{ℕ, _+_, _<_}
 use mathlib.Core.Path.{_≡_, refl, sym, ap, ap₂, _∙_, subst}
 use mathlib.Core.Logic.{_≢_, inl, inr, ⊎-elim}
 use mathlib.Core.Bool.{Bool, true, false, cond, _&&_, true≢false, and-true, and-false}
 use mathlib.Core.List.{List, [], _∷_}
 use native.Mathlib.Omega.{arith}
-use native.Mathlib.Decide.{ℕ-discrete}
 use lib.Dec.{eqb}
 use borrow.Author.Tests.{eqb-true, eqb-false, eq-eqb, ne-eqb, leb-false}
 use Rattle.model.specs.declared.Layout.{Layout}
@@ -17,7 +16,7 @@ use Rattle.model.specs.Layout.{layoutOf}
 use Rattle.model.specs.Status.{served}
 use Rattle.model.specs.Container.{activeState, activeLine, backupToMain, Valid, Free, byState, checkpointLocated}
 use Rattle.model.specs.Session.{dirtySegment, freshSession, zeroSession, withCheckpoint}
-use Rattle.model.specs.Ops.{Ops, Trace}
+use Rattle.model.specs.Ops.{Trace}
 use Rattle.model.specs.Outcome.{outcomeOf}
 use Rattle.model.specs.Open.{openStatus, openOutcome}
 use Rattle.model.specs.Write.{WriteArgs, needsCopy, spanBlocks, writeSession, writeErrors, writeStatus, writeOutcome}
@@ -26,7 +25,7 @@ use Rattle.model.specs.Reads.{readStatus, noPart, locatedPart, partOf, c
 use Rattle.model.specs.Reference.{CallArgs, openArgs, writeArgs, checkpointArgs}
 use Rattle.model.specs.History.{Call, callWrite, callCheckpoint, Device, State, answers, outcome, deviceStep, step, run, start, Permitted, AllPermitted}
 use Rattle.model.specs.EpochCounts.{isCheckpoint, checkpoints}
-use Rattle.model.specs.FreeBackups.{heldInBackups, servedState, stateAfter, StatesFollow, heldOf, CheckpointFrees, isCopying, copyingWrites, HeldCounts, NoneRefusedYet, isWriteTo, writesTo, EmptyStays}
+use Rattle.model.specs.FreeBackups.{heldInBackups, servedState, StatesFollow, heldOf, CheckpointFrees, isCopying, copyingWrites, HeldCounts, NoneRefusedYet, isWriteTo, writesTo, EmptyStays}
 use Rattle.model.proofs.Laws.Status.{served-condition}
 use Rattle.model.proofs.Laws.Session.{dirty-segment-other, checkpoint-segment, fresh-segment}
 use Rattle.model.proofs.Laws.Open.{zero-write}

@@ -15,7 +15,7 @@ use Rattle.model.specs.declared.Session.{Session}
 use Rattle.model.specs.Words.{Image, byteAt, Bytes}
 use Rattle.model.specs.Layout.{stateLine, segmentSize, mainAt, backupAt}
 use Rattle.model.specs.Container.{activeState, committedEpoch, activeLine, inactiveLine, backupToMain}
-use Rattle.model.specs.Session.{isDirty, dirtySegment, dirtyBlock, withCheckpoint}
+use Rattle.model.specs.Session.{dirtySegment, dirtyBlock, withCheckpoint}
 use Rattle.model.specs.Ops.{store, clwb, sfence, Ops, apply, replay}
 use Rattle.model.specs.Checkpoint.{nextState, nextStates, checkpointOps}
 use Rattle.model.specs.Crash.{AgreeOn, CrashImage}

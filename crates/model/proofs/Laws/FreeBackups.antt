@@ -1,27 +1,26 @@
 -- Backup segments counted in one image: those that are not free are as many as the main segments in state 2, so refusal 9 can
 -- be told by the states alone.
-use Prim.Native.Nat.{ℕ, suc, _≤_, _<_}
-use mathlib.Core.Path.{_≡_, refl, sym, ap, ap₂, _∙_, subst}
-use mathlib.Core.Logic.{_≢_, inl, inr, ⊎-elim}
+use Prim.Native.Nat.{ℕ, suc, _<_}
+use mathlib.Core.Path.{_≡_, refl, sym, ap, _∙_}
+use mathlib.Core.Logic.{_≢_, inr, ⊎-elim}
 use mathlib.Core.Bool.{Bool, true, false, not, _&&_, true≢false, false≢true, and-false, Bool·not-not}
 use mathlib.Core.List.{_++_}
 use native.Mathlib.Omega.{arith}
 use native.Mathlib.Decide.{ℕ-discrete}
 use lib.Dec.{eqb}
-use borrow.Author.Tests.{eqb-true, eqb-false, eq-eqb, ne-eqb, not-true, leb-false}
+use borrow.Author.Tests.{eqb-true, eq-eqb, ne-eqb}
 use Rattle.model.specs.declared.Layout.{Layout}
 use Rattle.model.specs.declared.Session.{Session}
 use Rattle.model.specs.Range.{sumTo, oneIf}
 use Rattle.model.specs.Words.{Image}
 use Rattle.model.specs.Layout.{unpaired, ssBackup, SizesOk}
 use Rattle.model.specs.Status.{firstError}
-use Rattle.model.specs.Container.{activeState, backupToMain, Valid, isPaired, pairedBackup, Free, isFree, anyFree}
-use Rattle.model.specs.Ops.{Trace}
+use Rattle.model.specs.Container.{activeState, backupToMain, Valid, isPaired, pairedBackup, isFree, anyFree}
 use Rattle.model.specs.Write.{WriteArgs, needsCopy, needsBackup, copyPlan, noneFree, writeOps, earlyErrors, lateErrors, writeStatus}
 use Rattle.model.specs.FreeBackups.{heldInBackups, backupsInUse, InUseCounted, NineExactly}
 use Rattle.model.proofs.Laws.Range.{both, and-left, and-right, sum-zero, sum-ext, sum-swap, sum-change, sum-single, any-counted}
 use Rattle.model.proofs.Laws.Status.{first-holds, given-condition, after-served, before-refused}
-use Rattle.model.proofs.Laws.Container.{ContainerOk, container-then, free-test, any-free, paired-at}
+use Rattle.model.proofs.Laws.Container.{ContainerOk, container-then, any-free, paired-at}
 use Rattle.model.proofs.Laws.Write.{copy-needed, plan-none-free}
 
 -- ---- main segments in state 2
