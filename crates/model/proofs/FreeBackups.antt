@@ -25,7 +25,7 @@ use Rattle.model.specs.Reads.{readStatus, noPart, locatedPart, partOf, c
 use Rattle.model.specs.Reference.{CallArgs, openArgs, writeArgs, checkpointArgs}
 use Rattle.model.specs.History.{Call, callWrite, callCheckpoint, Device, State, answers, outcome, deviceStep, step, run, start, Permitted, AllPermitted}
 use Rattle.model.specs.EpochCounts.{isCheckpoint, checkpoints}
-use Rattle.model.specs.FreeBackups.{heldInBackups, servedState, StatesFollow, heldOf, CheckpointFrees, isCopying, copyingWrites, HeldCounts, NoneRefusedYet, isWriteTo, writesTo, EmptyStays}
+use Rattle.model.specs.FreeBackups.{heldInBackups, servedState, StatesFollow, heldOf, CheckpointFrees, isCopying, copyingWrites, HeldCounts, NineOnlyFull, NoneRefusedYet, isWriteTo, writesTo, EmptyStays}
 use Rattle.model.proofs.Laws.Status.{served-condition}
 use Rattle.model.proofs.Laws.Session.{dirty-segment-other, checkpoint-segment, fresh-segment}
 use Rattle.model.proofs.Laws.Open.{zero-write}
@@ -148,6 +148,9 @@ nine-full s st w t j h =
     let q = session-known s st (λ x. writeStatus x (s .device .image) w j t) (zero-write (s .device .image) w j t) (λ x. omega (arith, h, x)) in
     subst (λ (l : Layout). heldInBackups l (activeState (s .device .image)) ≡ l .backups) (ap (λ (x : Session). x .layout) q ∙ st .sized)
     (nine-exactly (s .device .session) (s .device .image) w j t .0 h .2)
+
+pub nine-only-full : NineOnlyFull
+nine-only-full l I t b h cs permitted = nine-full _ (history-stands l I t b h cs permitted)
 
 pub none-refused-yet : NoneRefusedYet
 unfolding step deviceStep

@@ -94,6 +94,11 @@ abbrev pub HeldCounts : Type 0
 HeldCounts = InEveryHistory (λ s.
     (cs : List Call) → AllPermitted s cs → checkpoints s cs ≡ 0 → heldOf (run s cs .device) ≡ heldOf (s .device) + copyingWrites s cs)
 
+-- a write hears 9 only when as many of them are in state 2 as there are backup segments
+abbrev pub NineOnlyFull : Type 0
+NineOnlyFull = InEveryHistory (λ s.
+    (w : WriteArgs) (t : Trace) (j : ℕ) → outcome (s .device) (callWrite w t j) .status ≡ 9 → heldOf (s .device) ≡ s .device .layout .backups)
+
 -- so after a served checkpoint of any history, until the next, no write hears 9 before as many copying writes as there are
 -- backup segments were served
 abbrev pub NoneRefusedYet : Type 0
