@@ -71,7 +71,7 @@ extern "C" {
 
 /* The version of this interface; raised whenever a signature or a struct
    changes. `pkg-config --modversion crpm` says the same. */
-#define CRPM_VERSION "1.0.0"
+#define CRPM_VERSION "1.1.0"
 
 /* ---- the layout of an image */
 
@@ -153,7 +153,8 @@ enum crpm_status {
     CRPM_NO_SUCH_MAIN = 6,   /* there is no such main segment */
     CRPM_NO_SUCH_BLOCK = 7,  /* there is no such block */
     CRPM_BAD_SPAN = 8,       /* no bytes to write, or offset and length leave the block */
-    CRPM_NO_FREE_BACKUP = 9, /* a write needs a new backup segment, and none is free */
+    CRPM_NO_FREE_BACKUP = 9, /* a write needs a new backup segment, and none is free: make a
+                                checkpoint, then all are */
     CRPM_EPOCH_LIMIT = 10,   /* a checkpoint at epoch 2^64 - 1 */
     CRPM_TRACE_SHORT = 11,   /* the trace is too short for the operations */
     CRPM_TRACE_BAD = 12      /* replay: length not divisible by 3, or an operation ill formed */
@@ -193,9 +194,10 @@ uint64_t crpm_write(
     uint64_t *ops);
 
 /* Makes the working bytes the checkpoint, in one step: a power cut shows the
-   old checkpoint or the new one, whole. Takes and writes a session as
-   crpm_write does; to `ops` the number of operations. Refusals: 1 to 5, 10,
-   11. */
+   old checkpoint or the new one, whole. Every backup segment is free then, so
+   the next writes that copy a main segment, as many as there are backup
+   segments, are not refused with 9. Takes and writes a session as crpm_write
+   does; to `ops` the number of operations. Refusals: 1 to 5, 10, 11. */
 uint64_t crpm_checkpoint(
     const uint8_t *image, size_t image_length,
     struct crpm_session *session,

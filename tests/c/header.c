@@ -500,6 +500,19 @@ static void places(void)
     CHECK(state_of(&t, 0) == CRPM_SS_BACKUP && state_of(&t, 2) == CRPM_SS_BACKUP);
     CHECK(state_of(&t, 1) == CRPM_SS_MAIN);
     RETURNS(write_bytes(at(&t, 1, 0, 0, ONE, 8)), CRPM_NO_FREE_BACKUP, 9);
+
+    /* a restart restores main segments 0 and 2, which keep their backup segments until a
+       checkpoint, though nobody writes them */
+    SERVED(open_image(&t));
+    STEP(play(&t, 256, 32, 1));
+    CHECK(state_of(&t, 0) == CRPM_SS_BACKUP && state_of(&t, 2) == CRPM_SS_BACKUP);
+    RETURNS(write_bytes(at(&t, 1, 0, 0, ONE, 8)), CRPM_NO_FREE_BACKUP, 9);
+    SERVED(checkpoint(&t));
+    STEP(play(&t, 9, 2, 3));
+    for (i = 0; i < 3; i++)
+        CHECK(state_of(&t, i) == CRPM_SS_MAIN);
+    SERVED(write_bytes(at(&t, 1, 0, 0, ONE, 8)));
+    STEP(play(&t, 131, 18, 2));
     finish(&t);
 }
 
