@@ -7,4 +7,5 @@ pub mod Argument
 pub mod CrashSafety
 pub mod Sisters
 pub mod FlushDurable
+pub mod States
 pub mod FreeBackups

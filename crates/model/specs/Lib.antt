@@ -26,9 +26,10 @@ pub mod Crash
 pub mod CrashSafety
 pub mod Sisters
 pub mod FlushDurable
--- further statements: what no call reads, the epoch, free backup segments, lengths of a trace, the crash relation taken apart
+-- further statements: what no call reads, the epoch, segment states, free backup segments, lengths of a trace, the crash relation taken apart
 pub mod Unread
 pub mod EpochCounts
+pub mod States
 pub mod FreeBackups
 pub mod TraceLength
 pub mod CrashExact

@@ -26,7 +26,7 @@ use Rattle.model.specs.Reference.{Page, Model, modelStep, checkpointArgs
 use Rattle.model.specs.History.{Call, Device, State, outcome, calledOps, deviceStep, step}
 use Rattle.model.specs.CrashSafety.{Moment, during, playedAt, EpochStored, MayShow}
 use Rattle.model.specs.EpochCounts.{isCheckpoint}
-use Rattle.model.specs.FreeBackups.{stateAfter}
+use Rattle.model.specs.States.{stateAfter}
 use Rattle.model.proofs.Laws.Layout.{image-lines}
 use Rattle.model.proofs.Laws.Ops.{AllOk, played-ops, replayed-image}
 use Rattle.model.proofs.Argument.Persist.{replay-append}

@@ -17,8 +17,8 @@ use Rattle.model.specs.Layout.{unpaired, ssBackup, SizesOk}
 use Rattle.model.specs.Status.{firstError}
 use Rattle.model.specs.Container.{activeState, backupToMain, Valid, isPaired, pairedBackup, isFree, anyFree}
 use Rattle.model.specs.Write.{WriteArgs, needsCopy, needsBackup, copyPlan, noneFree, writeOps, earlyErrors, lateErrors, writeStatus}
-use Rattle.model.specs.FreeBackups.{heldInBackups, backupsInUse, InUseCounted, NineExactly}
-use Rattle.model.proofs.Laws.Range.{both, and-left, and-right, sum-zero, sum-ext, sum-swap, sum-change, sum-single, any-counted}
+use Rattle.model.specs.FreeBackups.{mainsInBackup, freeBackups, backupsInUse, InUseCounted, NineExactly}
+use Rattle.model.proofs.Laws.Range.{both, and-left, and-right, sum-zero, sum-ext, sum-swap, sum-change, sum-single, sum-split, any-counted}
 use Rattle.model.proofs.Laws.Status.{first-holds, given-condition, after-served, before-refused}
 use Rattle.model.proofs.Laws.Container.{ContainerOk, container-then, any-free, paired-at}
 use Rattle.model.proofs.Laws.Write.{copy-needed, plan-none-free}
@@ -26,24 +26,24 @@ use Rattle.model.proofs.Laws.Write.{copy-needed, plan-none-free}
 -- ---- main segments in state 2
 
 -- their number goes by the states alone
-pub held-same : (l : Layout) (st st′ : ℕ → ℕ) → ((i : ℕ) → i < l .mains → st′ i ≡ st i) → heldInBackups l st′ ≡ heldInBackups l st
-unfolding heldInBackups
-held-same l st st′ h = sum-ext (l .mains) _ _ (λ i b. ap (λ (n : ℕ). oneIf (eqb n ssBackup)) (h i b))
+pub in-backup-same : (l : Layout) (st st′ : ℕ → ℕ) → ((i : ℕ) → i < l .mains → st′ i ≡ st i) → mainsInBackup l st′ ≡ mainsInBackup l st
+unfolding mainsInBackup
+in-backup-same l st st′ h = sum-ext (l .mains) _ _ (λ i b. ap (λ (n : ℕ). oneIf (eqb n ssBackup)) (h i b))
 
 -- one more is in state 2
-pub held-more : (l : Layout) (st st′ : ℕ → ℕ) (i : ℕ) → i < l .mains → st i ≢ ssBackup → st′ i ≡ ssBackup
-    → ((k : ℕ) → k < l .mains → k ≢ i → st′ k ≡ st k) → heldInBackups l st′ ≡ suc (heldInBackups l st)
-unfolding heldInBackups
-held-more l st st′ i b one two h =
+pub in-backup-more : (l : Layout) (st st′ : ℕ → ℕ) (i : ℕ) → i < l .mains → st i ≢ ssBackup → st′ i ≡ ssBackup
+    → ((k : ℕ) → k < l .mains → k ≢ i → st′ k ≡ st k) → mainsInBackup l st′ ≡ suc (mainsInBackup l st)
+unfolding mainsInBackup
+in-backup-more l st st′ i b one two h =
     let c = sum-change (l .mains) i (λ k. oneIf (eqb (st k) ssBackup)) (λ k. oneIf (eqb (st′ k) ssBackup)) b (λ k x y. ap (λ (n : ℕ). oneIf (eqb n ssBackup)) (h k x y)) in
     let f : oneIf (eqb (st i) ssBackup) ≡ 0 = ap oneIf (ne-eqb (st i) ssBackup one) in
     let g : oneIf (eqb (st′ i) ssBackup) ≡ 1 = ap oneIf (eq-eqb (st′ i) ssBackup two) in
     omega (arith, c, f, g)
 
 -- none is
-pub held-none : (l : Layout) (st : ℕ → ℕ) → ((i : ℕ) → i < l .mains → st i ≢ ssBackup) → heldInBackups l st ≡ 0
-unfolding heldInBackups
-held-none l st h = sum-zero (l .mains) _ (λ i b. ap oneIf (ne-eqb (st i) ssBackup (h i b)))
+pub in-backup-none : (l : Layout) (st : ℕ → ℕ) → ((i : ℕ) → i < l .mains → st i ≢ ssBackup) → mainsInBackup l st ≡ 0
+unfolding mainsInBackup
+in-backup-none l st h = sum-zero (l .mains) _ (λ i b. ap oneIf (ne-eqb (st i) ssBackup (h i b)))
 
 -- ---- backup segments in use: each is one of the pairs of a main segment in state 2 and its backup segment
 
@@ -75,18 +75,19 @@ module _ (l : Layout) (st pr : ℕ → ℕ) (sizes : SizesOk l) (v : Valid l st 
       ∙ rw (eq-eqb (pr j) (pr j) refl, ne-eqb (pr j) unpaired (λ e. omega (arith, sizes .0))) (ap oneIf (sym (Bool·not-not (eqb (st (pr j)) ssBackup)))))
       (v .pairs j b)
 
-  counted : backupsInUse l st pr ≡ heldInBackups l st
-  unfolding backupsInUse heldInBackups
+  counted : backupsInUse l st pr ≡ mainsInBackup l st
+  unfolding backupsInUse mainsInBackup
   counted =
       sym (sum-ext (l .backups) _ _ by-backup) ∙ sum-swap (l .backups) (l .mains) (λ j i. oneIf (holds i j)) ∙ sum-ext (l .mains) _ _ by-main
 
   -- some backup segment is free exactly if fewer main segments are in state 2 than there are backup segments
-  pub any-free-counted : anyFree l st pr ≡ not (eqb (heldInBackups l st) (l .backups))
+  pub any-free-counted : anyFree l st pr ≡ not (eqb (mainsInBackup l st) (l .backups))
   unfolding anyFree backupsInUse
   any-free-counted = any-counted (l .backups) (isFree st pr) ∙ ap (λ (n : ℕ). not (eqb n (l .backups))) counted
 
 pub in-use-counted : InUseCounted
-in-use-counted = counted
+unfolding freeBackups backupsInUse
+in-use-counted l st pr sizes v = let c = counted l st pr sizes v in (c, omega (arith, c, sum-split (l .backups) (isFree st pr)))
 
 -- ---- refusal 9
 
@@ -98,7 +99,7 @@ module _ (s : Session) (I : Image) (w : WriteArgs) (early : firstError (earlyErr
   i = w .main
 
   abbrev full : Bool
-  full = eqb (heldInBackups l (activeState I)) (l .backups)
+  full = eqb (mainsInBackup l (activeState I)) (l .backups)
 
   ok : ContainerOk l I
   ok = container-then l I _ early .0
@@ -134,18 +135,18 @@ unfolding writeStatus
 nine-exactly s I w j t = (given, gives)
   where
     given : firstError (earlyErrors s I w ++ lateErrors (copyPlan s I (w .main) j) (writeOps s I w j) t) ≡ 9
-        → (firstError (earlyErrors s I w) ≡ 0) × (needsCopy s I (w .main) ≡ true) × (heldInBackups (s .layout) (activeState I) ≡ s .layout .backups)
+        → (firstError (earlyErrors s I w) ≡ 0) × (needsCopy s I (w .main) ≡ true) × (mainsInBackup (s .layout) (activeState I) ≡ s .layout .backups)
     given h = go (ℕ-discrete (firstError (earlyErrors s I w)) 0)
       where
         go : Dec (firstError (earlyErrors s I w) ≡ 0)
-            → (firstError (earlyErrors s I w) ≡ 0) × (needsCopy s I (w .main) ≡ true) × (heldInBackups (s .layout) (activeState I) ≡ s .layout .backups)
+            → (firstError (earlyErrors s I w) ≡ 0) × (needsCopy s I (w .main) ≡ true) × (mainsInBackup (s .layout) (activeState I) ≡ s .layout .backups)
         go (yes z) =
-            let both : (needsCopy s I (w .main) && eqb (heldInBackups (s .layout) (activeState I)) (s .layout .backups)) ≡ true =
+            let both : (needsCopy s I (w .main) && eqb (mainsInBackup (s .layout) (activeState I)) (s .layout .backups)) ≡ true =
             sym (needs-free s I w z j) ∙ given-condition 9 _ (omega arith) h in
             (z, and-left _ _ both, eqb-true _ _ (and-right (needsCopy s I (w .main)) _ both))
         go (no n) = absurd (false≢true (given-condition 9 (earlyErrors s I w) (omega arith) (sym (before-refused (earlyErrors s I w) _ n) ∙ h)))
 
-    gives : (firstError (earlyErrors s I w) ≡ 0) × (needsCopy s I (w .main) ≡ true) × (heldInBackups (s .layout) (activeState I) ≡ s .layout .backups)
+    gives : (firstError (earlyErrors s I w) ≡ 0) × (needsCopy s I (w .main) ≡ true) × (mainsInBackup (s .layout) (activeState I) ≡ s .layout .backups)
         → firstError (earlyErrors s I w ++ lateErrors (copyPlan s I (w .main) j) (writeOps s I w j) t) ≡ 9
     gives (z, c, f) = after-served (earlyErrors s I w) _ (omega arith) z
         ∙ sym (first-holds 9 _ _ (needs-free s I w z j ∙ both c (eq-eqb _ _ f)))

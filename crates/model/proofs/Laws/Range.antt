@@ -167,6 +167,10 @@ unfolding sumTo
 sum-zero zero f h = refl
 sum-zero (suc n) f h = omega (arith, sum-zero n f (λ i l. h i (omega arith)), h n (omega arith))
 
+pub no-one : (b : Bool) → oneIf b ≡ 0 → b ≡ false
+no-one true e = absurd (omega arith)
+no-one false e = refl
+
 pub one-most : (b : Bool) → oneIf b ≤ 1
 one-most true = omega arith
 one-most false = omega arith
@@ -200,6 +204,17 @@ sum-change (suc n) i f g l h = go (ℕ-discrete i n) (λ b. sum-change n i f g b
 -- a function that is 0 but at one number
 pub sum-single : (n i : ℕ) (f : ℕ → ℕ) → i < n → ((k : ℕ) → k < n → k ≢ i → f k ≡ 0) → sumTo n f ≡ f i
 sum-single n i f l h = omega (arith, sum-change n i (λ k. 0) f l h, sum-zero n (λ k. 0) (λ k b. refl))
+
+-- a test holds of a number or does not
+pub sum-split : (n : ℕ) (P : ℕ → Bool) → sumTo n (λ k. oneIf (P k)) + sumTo n (λ k. oneIf (not (P k))) ≡ n
+unfolding sumTo
+sum-split zero P = refl
+sum-split (suc n) P = go (P n) (sum-split n P)
+  where
+    go : (b : Bool) → sumTo n (λ k. oneIf (P k)) + sumTo n (λ k. oneIf (not (P k))) ≡ n
+        → sumTo n (λ k. oneIf (P k)) + oneIf b + (sumTo n (λ k. oneIf (not (P k))) + oneIf (not b)) ≡ suc n
+    go true ih = omega arith
+    go false ih = omega arith
 
 -- a test holds of some number exactly if the numbers of which it does not hold are not all
 pub any-counted : (n : ℕ) (P : ℕ → Bool) → anyB n P ≡ not (eqb (sumTo n (λ k. oneIf (not (P k)))) n)

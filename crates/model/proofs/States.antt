@@ -1,0 +1,113 @@
+-- Segment states over histories (specs/States.antt), proved: each call makes the states that it should (`Argument`), and a
+-- segment that is empty stays empty until it is written.
+use Prim.Native.Nat.{ℕ, _<_}
+use mathlib.Core.Path.{_≡_, refl, sym, ap, ap₂, _∙_}
+use mathlib.Core.Bool.{Bool, true, false, cond, _&&_, and-true, and-false}
+use mathlib.Core.List.{List, [], _∷_}
+use native.Mathlib.Omega.{arith}
+use lib.Dec.{eqb}
+use borrow.Author.Tests.{eqb-false, ne-eqb}
+use Rattle.model.specs.declared.Layout.{Layout}
+use Rattle.model.specs.declared.Session.{Session}
+use Rattle.model.specs.Range.{oneIf}
+use Rattle.model.specs.Words.{Image, Bytes}
+use Rattle.model.specs.Layout.{layoutOf}
+use Rattle.model.specs.Status.{served}
+use Rattle.model.specs.Container.{activeState, activeLine, byState, checkpointLocated}
+use Rattle.model.specs.Session.{dirtySegment, freshSession, zeroSession, withCheckpoint}
+use Rattle.model.specs.Ops.{Trace, replay}
+use Rattle.model.specs.Outcome.{outcomeOf}
+use Rattle.model.specs.Open.{recoveryOps, openStatus, openOutcome}
+use Rattle.model.specs.Write.{needsCopy, spanBlocks, writeSession, writeStatus, writeOutcome}
+use Rattle.model.specs.Checkpoint.{nextState, checkpointStatus, checkpointOutcome}
+use Rattle.model.specs.Reads.{readStatus, noPart, locatedPart, partOf, checkpointPart, checkpointBlock}
+use Rattle.model.specs.Reference.{CallArgs, openArgs, writeArgs, checkpointArgs}
+use Rattle.model.specs.History.{Call, State, answers, outcome, deviceStep, step, run, openedImage, start, AllPermitted}
+use Rattle.model.specs.States.{servedState, StatesFollow, isWriteTo, writesTo, Empty, EmptyStays}
+use Rattle.model.proofs.Laws.Range.{no-one}
+use Rattle.model.proofs.Laws.Session.{dirty-segment-other, checkpoint-segment, fresh-segment}
+use Rattle.model.proofs.Laws.Checkpoint.{next-clean}
+use Rattle.model.proofs.Argument.Recovery.{meta}
+use Rattle.model.proofs.Argument.Recovery.Opening.{open-clear}
+use Rattle.model.proofs.Argument.View.{low-states}
+use Rattle.model.proofs.Argument.Stands.{Stands}
+use Rattle.model.proofs.Argument.Openings.{opened-is, starting}
+use Rattle.model.proofs.CrashSafety.{argument, history-stands}
+
+-- the opening that a history starts with keeps the states
+pub opened-states : (l : Layout) (I : Image) (t : Trace) → Bytes I → openStatus l I t ≡ 0
+    → (i : ℕ) → i < l .mains → activeState (openedImage l I t) i ≡ activeState I i
+unfolding replay
+opened-states l I t b h i m =
+    let r = starting l I t b h in
+    ap (λ (J : Image). activeState J i) (opened-is l I t h)
+    ∙ low-states I [] (recoveryOps l I (activeLine I)) (λ k q. open-clear l I _ r k (meta (omega arith))) i (omega (arith, r .fit .sizes .0))
+
+pub states-follow : StatesFollow
+states-follow = record {
+  opening = opened-states;
+  calls = λ l I t b h cs permitted c p i m. argument _ (history-stands l I t b h cs permitted) c p .states i m;
+}
+
+-- ---- empty stays empty
+
+-- a served call that does not write main segment i leaves it in state 0
+empty-served : (s : Session) (I : Image) (a : CallArgs) (i : ℕ) → activeState I i ≡ 0 → dirtySegment s i ≡ false → isWriteTo i a ≡ false → servedState s I a i ≡ 0
+empty-served s I (openArgs l) i e d n = e
+empty-served s I (writeArgs w) i e d n = rw (ne-eqb i (w .main) (λ q. eqb-false _ _ n (sym q)), and-false (needsCopy s I (w .main))) e
+empty-served s I checkpointArgs i e d n = ap₂ nextState e d ∙ next-clean
+
+-- a call that does not, or is refused, does not make it dirty
+not-dirtied : (s : Session) (I : Image) (a : CallArgs) (t : Trace) (j i : ℕ) → dirtySegment s i ≡ false
+    → (isWriteTo i a && served (answers s I a t j .status)) ≡ false → dirtySegment (answers s I a t j .session) i ≡ false
+unfolding openOutcome writeOutcome checkpointOutcome outcomeOf
+not-dirtied s I (openArgs l) t j i d n = go (served (openStatus l I t))
+  where
+    go : (b : Bool) → dirtySegment (cond b (freshSession l) zeroSession) i ≡ false
+    go true = fresh-segment l i
+    go false = unfold zeroSession in (fresh-segment (layoutOf 0 0 0) i)
+not-dirtied s I (writeArgs w) t j i d n = go (served (writeStatus s I w j t)) n
+  where
+    go : (b : Bool) → (eqb (w .main) i && b) ≡ false → dirtySegment (cond b (writeSession s I w) s) i ≡ false
+    go true q = unfold writeSession in (dirty-segment-other s (w .main) (w .block) (spanBlocks w) _ i (λ e. eqb-false _ _ (sym (and-true _) ∙ q) (sym e)) ∙ d)
+    go false q = d
+not-dirtied s I checkpointArgs t j i d n = go (served (checkpointStatus s I t))
+  where
+    go : (b : Bool) → dirtySegment (cond b (withCheckpoint s) s) i ≡ false
+    go true = checkpoint-segment s i
+    go false = d
+
+run-empty : (s : State) (cs : List Call) (i : ℕ) → Stands s → AllPermitted s cs → i < s .device .layout .mains → Empty (s .device) i → writesTo i s cs ≡ 0
+    → Empty (run s cs .device) i
+unfolding run writesTo step deviceStep
+run-empty s [] i st permitted m e none = e
+run-empty s (c ∷ cs) i st permitted m e none =
+    let a = argument s st c (permitted .0) in
+    run-empty (step s c) cs i (a .stands) (permitted .1) m
+    (record {
+      state = a .states i m ∙ go (served (outcome (s .device) c .status)) clear;
+      clean = not-dirtied (s .device .session) (s .device .image) (c .args) (c .trace) (c .choice) i (e .clean) clear;
+    })
+    (omega (arith, none))
+  where
+    clear : (isWriteTo i (c .args) && served (outcome (s .device) c .status)) ≡ false
+    clear = no-one _ (omega (arith, none))
+
+    go : (b : Bool) → (isWriteTo i (c .args) && b) ≡ false → cond b (servedState (s .device .session) (s .device .image) (c .args) i) (activeState (s .device .image) i) ≡ 0
+    go true n = empty-served (s .device .session) (s .device .image) (c .args) i (e .state) (e .clean) (sym (and-true _) ∙ n)
+    go false n = e .state
+
+-- the checkpoint read of a main segment in state 0
+read-empty : (l : Layout) (I : Image) (i b : ℕ) → activeState I i ≡ 0 → checkpointBlock l I i b ≡ []
+unfolding checkpointPart checkpointLocated byState
+read-empty l I i b e = go (served (readStatus l I i b))
+  where
+    go : (c : Bool) → partOf I (cond c (locatedPart (checkpointLocated l I (activeLine I) i) b) noPart) ≡ []
+    go true = rw e refl
+    go false = refl
+
+pub empty-stays : EmptyStays
+empty-stays l I t b h cs permitted i m e ds rest none =
+    let s = run (start l I t) cs in
+    let r = run-empty s ds i (history-stands l I t b h cs permitted) rest m e none in
+    (r, λ k. read-empty (s .device .layout) (run s ds .device .image) i k (r .state))

@@ -1,0 +1,65 @@
+-- What the calls of a history make of the segment states (SPECIFICATION 11.2, 11.6), and that a main segment without a
+-- checkpoint stays empty until it is written. Proved in proofs/States.antt. Assumes nothing.
+use Prim.Native.Nat.{ℕ, _+_, _<_}
+use mathlib.Core.Path.{_≡_}
+use mathlib.Core.Bool.{Bool, false, cond, _&&_}
+use mathlib.Core.List.{List, [], _∷_}
+use lib.Dec.{eqb}
+use Rattle.model.specs.declared.Layout.{Layout}
+use Rattle.model.specs.declared.Session.{Session}
+use Rattle.model.specs.Range.{oneIf}
+use Rattle.model.specs.Words.{Image, Bytes}
+use Rattle.model.specs.Layout.{ssInitial, ssBackup}
+use Rattle.model.specs.Status.{served}
+use Rattle.model.specs.Container.{activeState}
+use Rattle.model.specs.Session.{dirtySegment}
+use Rattle.model.specs.Ops.{Trace}
+use Rattle.model.specs.Open.{openStatus}
+use Rattle.model.specs.Write.{needsCopy}
+use Rattle.model.specs.Checkpoint.{nextState}
+use Rattle.model.specs.Reads.{checkpointBlock}
+use Rattle.model.specs.Reference.{CallArgs, openArgs, writeArgs, checkpointArgs}
+use Rattle.model.specs.History.{Call, Device, State, outcome, step, run, openedImage, Permitted, AllPermitted}
+use Rattle.model.specs.CrashSafety.{InEveryHistory}
+
+-- the state of main segment i after a served call: an opening keeps it, a write turns that of the segment which it copies to 2,
+-- a checkpoint makes the next states
+abbrev pub servedState : Session → Image → CallArgs → ℕ → ℕ
+servedState s I (openArgs l) i = activeState I i
+servedState s I (writeArgs w) i = cond (needsCopy s I (w .main) && eqb i (w .main)) ssBackup (activeState I i)
+servedState s I checkpointArgs i = nextState (activeState I i) (dirtySegment s i)
+
+-- and after any call: one that is refused keeps it
+abbrev pub stateAfter : Device → Call → ℕ → ℕ
+stateAfter d c i = cond (served (outcome d c .status)) (servedState (d .session) (d .image) (c .args) i) (activeState (d .image) i)
+
+-- the states of a history are these: the opening that it starts with keeps them, and each call makes them
+pub record StatesFollow : Type 0 where
+  pub opening : (l : Layout) (I : Image) (t : Trace) → Bytes I → openStatus l I t ≡ 0
+      → (i : ℕ) → i < l .mains → activeState (openedImage l I t) i ≡ activeState I i
+  pub calls : InEveryHistory (λ s.
+      (c : Call) → Permitted (s .device) c → (i : ℕ) → i < s .device .layout .mains → activeState (step s c .device .image) i ≡ stateAfter (s .device) c i)
+
+-- ---- empty stays empty
+
+-- a call is a write to main segment i
+abbrev pub isWriteTo : ℕ → CallArgs → Bool
+isWriteTo i (openArgs l) = false
+isWriteTo i (writeArgs w) = eqb (w .main) i
+isWriteTo i checkpointArgs = false
+
+-- the writes to main segment i that a list of calls serves
+unfoldable pub writesTo : ℕ → State → List Call → ℕ
+writesTo i s [] = 0
+writesTo i s (c ∷ cs) = oneIf (isWriteTo i (c .args) && served (outcome (s .device) c .status)) + writesTo i (step s c) cs
+
+-- main segment i has no checkpoint and is not dirty
+pub record Empty (d : Device) (i : ℕ) : Type 0 where
+  pub state : activeState (d .image) i ≡ ssInitial
+  pub clean : dirtySegment (d .session) i ≡ false
+
+-- such a segment stays so until a write to it is served, and its checkpoint read gives nothing
+abbrev pub EmptyStays : Type 0
+EmptyStays = InEveryHistory (λ s.
+    (i : ℕ) → i < s .device .layout .mains → Empty (s .device) i → (cs : List Call) → AllPermitted s cs → writesTo i s cs ≡ 0
+    → Empty (run s cs .device) i × ((b : ℕ) → checkpointBlock (s .device .layout) (run s cs .device .image) i b ≡ []))
