@@ -28,8 +28,8 @@
  *  - Hand to crpm_write and crpm_checkpoint only the session that the last call
  *    on this image wrote. Never one kept over a restart, never a copy of an
  *    earlier one: CRPM_BAD_SESSION does not catch every wrong one, and a wrong
- *    one that is served can turn the checkpoint to old bytes. After a restart,
- *    open.
+ *    one that is served can turn the checkpoint to old bytes, or make it of
+ *    bytes that nobody flushed. After a restart, open.
  *  - The image is the module's memory, mapped so that a flush reaches it. Its
  *    byte 0 stands at an address divisible by 64, and the processor's cache line
  *    is 64 bytes. Each store of a trace is one aligned 8-byte store.
@@ -69,8 +69,9 @@
 extern "C" {
 #endif
 
-/* The version of this interface; raised whenever a signature or a struct
-   changes. `pkg-config --modversion crpm` says the same. */
+/* The version of this interface: its first number is raised whenever a signature
+   or a struct changes, its second when what a call does changes and programs
+   need no change. `pkg-config --modversion crpm` says the same. */
 #define CRPM_VERSION "1.1.0"
 
 /* ---- the layout of an image */
