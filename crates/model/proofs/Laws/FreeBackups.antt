@@ -80,7 +80,7 @@ module _ (l : Layout) (st pr : ℕ → ℕ) (sizes : SizesOk l) (v : Valid l st 
   counted =
       sym (sum-ext (l .backups) _ _ by-backup) ∙ sum-swap (l .backups) (l .mains) (λ j i. oneIf (holds i j)) ∙ sum-ext (l .mains) _ _ by-main
 
-  -- some backup segment is free exactly if fewer main segments are in state 2 than there are backup segments
+  -- some backup segment is free unless as many main segments are in state 2 as there are backup segments
   pub any-free-counted : anyFree l st pr ≡ not (eqb (mainsInBackup l st) (l .backups))
   unfolding anyFree backupsInUse
   any-free-counted = any-counted (l .backups) (isFree st pr) ∙ ap (λ (n : ℕ). not (eqb n (l .backups))) counted
