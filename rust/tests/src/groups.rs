@@ -1,17 +1,18 @@
 //! Groups of checks that run over any implementation of the calls: the bench
-//! cases, every permitted image of single calls and short histories, random
-//! histories, and calls with any contents.
+//! cases, every permitted image of single calls, of short histories and of the
+//! first save after a restart, random histories, and calls with any contents.
 //!
 //! `selftest` runs them over the reference, `differential` over the library.
 //! Each gives a line of counts or the first failure.
 
 use crate::arbitrary::{self, Metadata};
-use crate::book::{Call, Deed};
+use crate::book::{state_of, Call, Deed};
 use crate::calls::*;
 use crate::crash::{permitted, Module};
 use crate::explore::*;
 use crate::prng::Rng;
 use crate::report::{Found, Outcome};
+use std::collections::BTreeMap;
 
 fn due<T: PartialEq + std::fmt::Debug>(what: &str, got: T, expected: T) -> Result<(), String> {
     match got == expected {
@@ -61,7 +62,7 @@ pub fn bench_cases<C: Calls>(calls: &C) -> Outcome {
     let (p4, image) = step(plain(Deed::Save, sizes))?;
     due("P4 orders", p4.answer.orders, 18)?;
     due("P4 states", &image[ODD_STATES..ODD_STATES + 2], &[1, 0])?;
-    cut_line_of_p4(&p4)?;
+    cut_line("P4", &p4)?;
     let (p5, _) = step(write_call(sizes, 0, 0, 8, 0x50))?;
     due("P5 orders", p5.answer.orders, 43)?;
     due("P5 first", p5.orders.first(), Some(&pair_store(0)))?;
@@ -90,18 +91,22 @@ fn pair_store(level: u64) -> Order {
     Order::Store { place: 256, word: 0xffff_ffff_ffff_ff00 + level }
 }
 
-/// Zeros up to 15 orders, either at 16 and 17, the new bytes at 18.
-fn cut_line_of_p4(save: &Step) -> Result<(), String> {
-    let [zeros, .., new] = &save.shown[..] else { return Err("P4 has no cuts".to_string()) };
-    let both = zeros | new;
-    due("P4 cut, pages", (zeros.len(), new.len(), both.len()), (1, 1, 2))?;
+/// The cuts of a save whose pages differ: the old page up to its epoch store,
+/// the third order from its end, either up to its last fence, then the new. In
+/// P4 these are the cuts after 0 to 15 orders, after 16 and 17, and after 18.
+fn cut_line(name: &str, save: &Step) -> Result<(), String> {
+    let [old, .., new] = &save.shown[..] else { return Err(format!("{name} has no cuts")) };
+    let both = old | new;
+    due(&format!("{name} cut, pages"), (old.len(), new.len(), both.len()), (1, 1, 2))?;
+    let orders = save.orders.len();
+    due(&format!("{name} cuts"), save.shown.len(), orders + 1)?;
     for (p, shown) in save.shown.iter().enumerate() {
         let expected = match p {
-            0..=15 => zeros,
-            16 | 17 => &both,
-            _ => new,
+            _ if p == orders => new,
+            _ if p + 2 >= orders => &both,
+            _ => old,
         };
-        due(&format!("P4 cut after {p}"), shown, expected)?;
+        due(&format!("{name} cut after {p}"), shown, expected)?;
     }
     Ok(())
 }
@@ -206,19 +211,29 @@ fn add(total: &mut Counts, counts: Counts) {
     total.ways = total.ways.saturating_add(counts.ways);
     total.distinct += counts.distinct;
     total.openings += counts.openings;
+    total.tried.add(counts.tried);
 }
 
 /// What a group found, with its part of the closing line.
 fn found(text: impl Into<String>, counts: Counts) -> Found {
-    let Counts { histories, calls, images, .. } = counts;
-    Found::new(text, &[("histories", histories), ("calls of histories", calls), ("images", images)])
+    let Counts { histories, calls, images, tried, .. } = counts;
+    let mut found =
+        Found::new(text, &[("histories", histories), ("calls of histories", calls), ("images", images)]);
+    found.counts.extend(tried.named());
+    found
+}
+
+/// How often the laws were tried, in words.
+fn laws_tried(counts: Counts) -> String {
+    counts.tried.named().map(|(name, count)| format!("{count} {name}")).join(", ")
 }
 
 /// What a group that looks at every image found.
 fn all_found(counts: Counts) -> Found {
-    let Counts { histories, calls, cuts, images, ways, distinct, openings } = counts;
+    let Counts { histories, calls, cuts, images, ways, distinct, openings, .. } = counts;
     let history = format!("{histories} histories, {calls} calls, {cuts} cuts");
-    found(format!("{history}, {images} images left in {ways} ways, {distinct} distinct, {openings} finished openings"), counts)
+    let seen = format!("{images} images left in {ways} ways, {distinct} distinct");
+    found(format!("{history}, {seen}, {openings} finished openings; {}", laws_tried(counts)), counts)
 }
 
 /// Every permitted image of single calls with one frame a level, all words of
@@ -286,24 +301,193 @@ fn told_after(path: &[Call], what: String) -> String {
 }
 
 /// Every history of `depth` calls from the alphabet, and with it each shorter
-/// one, from every start image, at every cut, over every permitted image.
+/// one, from every start image, at every cut, over every permitted image. One
+/// call is enough to try each law that these sizes allow.
 pub fn short_histories<C: Calls>(calls: &C, sizes: Sizes, depth: usize) -> Outcome {
+    let total = all_short(|| Explorer::new(calls, sizes, 5), sizes, depth)?;
+    total.tried.all_tried(sizes.levels > sizes.spares)?;
+    Ok(all_found(total))
+}
+
+/// The same with demand 3 and the book alone, for faults that must break them.
+pub fn short_histories_without_laws<C: Calls>(calls: &C, sizes: Sizes, depth: usize) -> Outcome {
+    all_short(|| Explorer::new(calls, sizes, 5).without_laws(), sizes, depth).map(all_found)
+}
+
+fn all_short<'a, C: Calls + 'a>(
+    explorer: impl Fn() -> Explorer<'a, C>,
+    sizes: Sizes,
+    depth: usize,
+) -> Result<Counts, String> {
     let mut total = Counts::default();
     for image in starts(sizes, &arbitrary::sparse_data(sizes)) {
-        let mut explorer = Explorer::new(calls, sizes, 5);
+        let mut explorer = explorer();
         let tell = |what| format!("sizes {sizes}, {}: {what}", metadata_of(&image, sizes));
         let start = explorer.start(&image, Plan::ALL).map_err(tell)?;
         let histories = descend(&mut explorer, sizes, &start, &mut Vec::new(), depth).map_err(tell)?;
         add(&mut total, Counts { histories, ..explorer.counts() });
     }
-    Ok(all_found(total))
+    Ok(total)
 }
 
 fn metadata_of(image: &[u8], sizes: Sizes) -> String {
-    let line = if image[EPOCH].is_multiple_of(2) { EVEN_STATES } else { ODD_STATES };
-    let states = &image[line..][..sizes.levels as usize];
     let pairs = &image[PAIRS..][..sizes.spares as usize];
-    format!("epoch {} states {states:?} pairs {pairs:?}", image[EPOCH])
+    format!("epoch {} states {:?} pairs {pairs:?}", image[EPOCH], states(image, sizes))
+}
+
+fn states(image: &[u8], sizes: Sizes) -> Vec<u8> {
+    (0..sizes.levels as usize).map(|level| state_of(image, level)).collect()
+}
+
+/// A write of a word that names its level and its turn, to a frame and a line
+/// that change with the turn.
+fn word_to(sizes: Sizes, level: u64, turn: u8) -> Call {
+    let frame = (level + u64::from(turn)) % sizes.frames;
+    let target = Target { level, frame, offset: 64 * u64::from(turn % 4) };
+    plain(Deed::Write(target, vec![0x10 * turn + level as u8 + 1; WORD]), sizes)
+}
+
+/// Before the power goes, with two levels more than spares: all levels but the
+/// last are written and saved, then as many written again as there are spares.
+/// Each of these takes a spare.
+fn before_restart(sizes: Sizes) -> Vec<Call> {
+    let mut calls: Vec<Call> = (0..=sizes.spares).map(|level| word_to(sizes, level, 0)).collect();
+    calls.push(plain(Deed::Save, sizes));
+    calls.extend((0..sizes.spares).map(|level| word_to(sizes, level, 1)));
+    calls
+}
+
+/// After it, with the numbers due if every spare restored a level: the first
+/// save frees all spares, and as many levels can be copied; then comes 9 again,
+/// up to the next save. `between` is a level written before the first save.
+fn after_restart(sizes: Sizes, between: Option<u64>) -> Vec<(Call, u64)> {
+    let (own, save) = (sizes.spares, plain(Deed::Save, sizes));
+    let mut calls = vec![(word_to(sizes, own, 2), 9)];
+    calls.extend(between.map(|level| (word_to(sizes, level, 2), 0)));
+    calls.extend([(save.clone(), 0), (word_to(sizes, own, 3), 0)]);
+    calls.extend((0..own - 1).map(|level| (word_to(sizes, level, 3), 0)));
+    calls.extend([(word_to(sizes, own - 1, 3), 9), (save, 0), (word_to(sizes, own - 1, 4), 0)]);
+    calls
+}
+
+/// The number that a call hears; its orders are played.
+fn heard<C: Calls>(calls: &C, image: &mut [u8], card: &mut Card, call: &Call) -> u64 {
+    let mut tape = vec![0; call.tape];
+    let answer = match &call.deed {
+        Deed::Open(sizes) => calls.open(image, *sizes, card, &mut tape),
+        Deed::Write(target, bytes) => calls.write(image, card, *target, bytes, &mut tape),
+        Deed::Save => calls.save(image, card, &mut tape),
+    };
+    calls.play(image, &tape[..3 * answer.orders as usize], answer.orders);
+    answer.number
+}
+
+/// The restart by the numbers heard, by the states, and by the last level's
+/// saved read, which has a part only once the level is written and saved. There
+/// are no cuts, and no law is counted.
+fn restart_by_numbers<C: Calls>(calls: &C, sizes: Sizes, between: Option<u64>) -> Result<(), String> {
+    let (mut image, mut card) = (laid_out(calls, sizes)?, Card::zeros());
+    let open = || (plain(Deed::Open(sizes), sizes), 0);
+    let before = before_restart(sizes).into_iter().map(|call| (call, 0));
+    for (call, number) in [open()].into_iter().chain(before).chain([open()]) {
+        due(&call.to_string(), heard(calls, &mut image, &mut card, &call), number)?;
+    }
+    let last = sizes.levels - 1;
+    let part = |image: &[u8]| calls.read(Page::Saved, image, sizes, last, 0).length;
+    due("saved read of the last level", part(&image), 0)?;
+    due("states after the restart", states(&image, sizes), restored(sizes))?;
+    for (call, number) in after_restart(sizes, between) {
+        let told = format!("after a restart {call}");
+        due(&told, heard(calls, &mut image, &mut card, &call), number)?;
+    }
+    let length = if between == Some(last) { FRAME as u64 } else { 0 };
+    due("saved read of the last level after saves", part(&image), length)
+}
+
+/// Every spare has restored a level, one level is in state 1, the last empty.
+fn restored(sizes: Sizes) -> Vec<u8> {
+    [vec![2; sizes.spares as usize], vec![1, 0]].concat()
+}
+
+/// Power goes at any cut of these orders: adds the history that opening starts
+/// from each image left, once for each image that then stands.
+fn restarts<C: Calls>(
+    explorer: &mut Explorer<C>,
+    mut module: Module,
+    orders: &[Order],
+    opened: &mut BTreeMap<Vec<u8>, History>,
+) -> Result<(), String> {
+    for p in 0..=orders.len() {
+        if p > 0 {
+            module.play(orders[p - 1]);
+        }
+        module.cut().for_all(|_, image| {
+            let start = explorer.start(&image(), Plan::ALL)?;
+            opened.entry(start.module.image().to_vec()).or_insert(start);
+            Ok::<(), String>(())
+        })?;
+    }
+    Ok(())
+}
+
+/// Goes on after a restart, with the cut line of each save that has a new page.
+fn go_on<C: Calls>(
+    explorer: &mut Explorer<C>,
+    mut history: History,
+    calls: &[(Call, u64)],
+    all_restored: bool,
+) -> Result<u64, String> {
+    let mut cut_lines = 0;
+    for (call, number) in calls {
+        let new_page = history.book.working != history.book.saved;
+        let step = explorer.step(&mut history, call, Plan::ALL)?;
+        if all_restored {
+            due(&call.to_string(), step.answer.number, *number)?;
+        }
+        if call.deed == Deed::Save && new_page {
+            cut_line("save", &step)?;
+            cut_lines += 1;
+        }
+    }
+    Ok(cut_lines)
+}
+
+/// Restored levels: power goes at any cut of writes that take every spare, and
+/// of the calls before them. Opening restores up to as many levels as there are
+/// spares; the first save after it settles them, whether they are touched or
+/// not, and is cut at every order, as are all calls around it.
+pub fn restored_levels<C: Calls>(calls: &C, sizes: Sizes) -> Outcome {
+    let last = sizes.levels - 1;
+    due("levels", last, sizes.spares + 1)?;
+    let betweens = [Some(last), None, Some(0)];
+    betweens.iter().try_for_each(|between| restart_by_numbers(calls, sizes, *between))?;
+    let mut explorer = Explorer::new(calls, sizes, 6);
+    let mut history = explorer.start(&laid_out(calls, sizes)?, Plan::ALL)?;
+    let mut opened = BTreeMap::new();
+    for call in before_restart(sizes) {
+        let module = history.module.clone();
+        let step = explorer.step(&mut history, &call, Plan::ALL)?;
+        restarts(&mut explorer, module, &step.orders, &mut opened)?;
+    }
+    let (mut whole, mut cut_lines, mut histories) = (0, 0, 1);
+    for start in opened.values() {
+        let all_restored = states(start.module.image(), sizes) == restored(sizes);
+        whole += u64::from(all_restored);
+        for between in if all_restored { &betweens[..] } else { &betweens[..1] } {
+            let calls = after_restart(sizes, *between);
+            cut_lines += go_on(&mut explorer, start.clone(), &calls, all_restored)?;
+            histories += 1;
+        }
+    }
+    due("restarts with every spare in use", whole, 1)?;
+    let counts = Counts { histories, ..explorer.counts() };
+    counts.tried.all_tried(true)?;
+    let Found { text, counts } = all_found(counts);
+    let restarts = opened.len();
+    Ok(Found {
+        text: format!("{restarts} restarts that differ, {cut_lines} cut lines of saves; {text}"),
+        counts,
+    })
 }
 
 /// How random histories are made.
@@ -314,6 +498,8 @@ pub struct Random {
     pub calls: usize,
     pub most: usize,
     pub plan: Plan,
+    /// Must each law be tried?
+    pub every_law: bool,
 }
 
 /// Random histories from laid-out and from arbitrary sound images, with any
@@ -336,11 +522,12 @@ pub fn random_histories<C: Calls>(calls: &C, random: Random) -> Outcome {
         }
         add(&mut total, Counts { histories: 1, ..explorer.counts() });
     }
+    if random.every_law {
+        total.tried.all_tried(true)?;
+    }
     let Counts { histories, calls, cuts, images, openings, .. } = total;
-    let text = format!(
-        "{histories} histories, {calls} calls, {cuts} cuts, {images} images, {openings} finished openings"
-    );
-    Ok(found(text, total))
+    let history = format!("{histories} histories, {calls} calls, {cuts} cuts, {images} images");
+    Ok(found(format!("{history}, {openings} finished openings; {}", laws_tried(total)), total))
 }
 
 /// Every call with any contents: images sound and damaged, cards true and

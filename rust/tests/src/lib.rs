@@ -23,6 +23,7 @@ pub mod crash;
 pub mod explore;
 pub mod fast;
 pub mod groups;
+pub mod laws;
 pub mod library;
 pub mod prng;
 pub mod raw;
