@@ -76,7 +76,8 @@ pub struct Counts {
 /// What the counts mean.
 pub const LEGEND: &str = "images: contents that a cut can leave, those looked at, each once a cut
 ways: choices of how many of its waiting stores reached each line; several ways can leave the same image
-distinct: images that differ, over all cuts; each is opened again once";
+distinct: images that differ, over all cuts; each is opened again once
+restored levels settled, empty levels kept: those in state 2 and in state 0 that nobody had touched, at served saves";
 
 /// A history in progress: what stands, the card last answered, the book, and
 /// the tally of the laws.

@@ -1,6 +1,6 @@
 //! Groups of checks that run over any implementation of the calls: the bench
-//! cases, every permitted image of single calls, of short histories and of the
-//! first save after a restart, random histories, and calls with any contents.
+//! cases, every permitted image of single calls and short histories, random
+//! histories, and calls with any contents. `restart` has one more.
 //!
 //! `selftest` runs them over the reference, `differential` over the library.
 //! Each gives a line of counts or the first failure.
@@ -12,9 +12,8 @@ use crate::crash::{permitted, Module};
 use crate::explore::*;
 use crate::prng::Rng;
 use crate::report::{Found, Outcome};
-use std::collections::BTreeMap;
 
-fn due<T: PartialEq + std::fmt::Debug>(what: &str, got: T, expected: T) -> Result<(), String> {
+pub(crate) fn due<T: PartialEq + std::fmt::Debug>(what: &str, got: T, expected: T) -> Result<(), String> {
     match got == expected {
         true => Ok(()),
         false => Err(format!("{what}: {got:?}, due {expected:?}")),
@@ -28,11 +27,11 @@ fn write_call(sizes: Sizes, level: u64, offset: u64, length: usize, value: u8) -
     Call { deed: Deed::Write(target, bytes), tape: sizes.room() }
 }
 
-fn plain(deed: Deed, sizes: Sizes) -> Call {
+pub(crate) fn plain(deed: Deed, sizes: Sizes) -> Call {
     Call { deed, tape: sizes.room() }
 }
 
-fn laid_out<C: Calls>(calls: &C, sizes: Sizes) -> Result<Vec<u8>, String> {
+pub(crate) fn laid_out<C: Calls>(calls: &C, sizes: Sizes) -> Result<Vec<u8>, String> {
     let mut image = vec![0xee; sizes.image_length()];
     due("laying-out", calls.lay_out(&mut image, sizes), 0)?;
     Ok(image)
@@ -94,7 +93,7 @@ fn pair_store(level: u64) -> Order {
 /// The cuts of a save whose pages differ: the old page up to its epoch store,
 /// the third order from its end, either up to its last fence, then the new. In
 /// P4 these are the cuts after 0 to 15 orders, after 16 and 17, and after 18.
-fn cut_line(name: &str, save: &Step) -> Result<(), String> {
+pub(crate) fn cut_line(name: &str, save: &Step) -> Result<(), String> {
     let [old, .., new] = &save.shown[..] else { return Err(format!("{name} has no cuts")) };
     let both = old | new;
     due(&format!("{name} cut, pages"), (old.len(), new.len(), both.len()), (1, 1, 2))?;
@@ -229,7 +228,7 @@ fn laws_tried(counts: Counts) -> String {
 }
 
 /// What a group that looks at every image found.
-fn all_found(counts: Counts) -> Found {
+pub(crate) fn all_found(counts: Counts) -> Found {
     let Counts { histories, calls, cuts, images, ways, distinct, openings, .. } = counts;
     let history = format!("{histories} histories, {calls} calls, {cuts} cuts");
     let seen = format!("{images} images left in {ways} ways, {distinct} distinct");
@@ -335,159 +334,8 @@ fn metadata_of(image: &[u8], sizes: Sizes) -> String {
     format!("epoch {} states {:?} pairs {pairs:?}", image[EPOCH], states(image, sizes))
 }
 
-fn states(image: &[u8], sizes: Sizes) -> Vec<u8> {
+pub(crate) fn states(image: &[u8], sizes: Sizes) -> Vec<u8> {
     (0..sizes.levels as usize).map(|level| state_of(image, level)).collect()
-}
-
-/// A write of a word that names its level and its turn, to a frame and a line
-/// that change with the turn.
-fn word_to(sizes: Sizes, level: u64, turn: u8) -> Call {
-    let frame = (level + u64::from(turn)) % sizes.frames;
-    let target = Target { level, frame, offset: 64 * u64::from(turn % 4) };
-    plain(Deed::Write(target, vec![0x10 * turn + level as u8 + 1; WORD]), sizes)
-}
-
-/// Before the power goes, with two levels more than spares: all levels but the
-/// last are written and saved, then as many written again as there are spares.
-/// Each of these takes a spare.
-fn before_restart(sizes: Sizes) -> Vec<Call> {
-    let mut calls: Vec<Call> = (0..=sizes.spares).map(|level| word_to(sizes, level, 0)).collect();
-    calls.push(plain(Deed::Save, sizes));
-    calls.extend((0..sizes.spares).map(|level| word_to(sizes, level, 1)));
-    calls
-}
-
-/// After it, with the numbers due if every spare restored a level: the first
-/// save frees all spares, and as many levels can be copied; then comes 9 again,
-/// up to the next save. `between` is a level written before the first save.
-fn after_restart(sizes: Sizes, between: Option<u64>) -> Vec<(Call, u64)> {
-    let (own, save) = (sizes.spares, plain(Deed::Save, sizes));
-    let mut calls = vec![(word_to(sizes, own, 2), 9)];
-    calls.extend(between.map(|level| (word_to(sizes, level, 2), 0)));
-    calls.extend([(save.clone(), 0), (word_to(sizes, own, 3), 0)]);
-    calls.extend((0..own - 1).map(|level| (word_to(sizes, level, 3), 0)));
-    calls.extend([(word_to(sizes, own - 1, 3), 9), (save, 0), (word_to(sizes, own - 1, 4), 0)]);
-    calls
-}
-
-/// The number that a call hears; its orders are played.
-fn heard<C: Calls>(calls: &C, image: &mut [u8], card: &mut Card, call: &Call) -> u64 {
-    let mut tape = vec![0; call.tape];
-    let answer = match &call.deed {
-        Deed::Open(sizes) => calls.open(image, *sizes, card, &mut tape),
-        Deed::Write(target, bytes) => calls.write(image, card, *target, bytes, &mut tape),
-        Deed::Save => calls.save(image, card, &mut tape),
-    };
-    calls.play(image, &tape[..3 * answer.orders as usize], answer.orders);
-    answer.number
-}
-
-/// The restart by the numbers heard, by the states, and by the last level's
-/// saved read, which has a part only once the level is written and saved. There
-/// are no cuts, and no law is counted.
-fn restart_by_numbers<C: Calls>(calls: &C, sizes: Sizes, between: Option<u64>) -> Result<(), String> {
-    let (mut image, mut card) = (laid_out(calls, sizes)?, Card::zeros());
-    let open = || (plain(Deed::Open(sizes), sizes), 0);
-    let before = before_restart(sizes).into_iter().map(|call| (call, 0));
-    for (call, number) in [open()].into_iter().chain(before).chain([open()]) {
-        due(&call.to_string(), heard(calls, &mut image, &mut card, &call), number)?;
-    }
-    let last = sizes.levels - 1;
-    let part = |image: &[u8]| calls.read(Page::Saved, image, sizes, last, 0).length;
-    due("saved read of the last level", part(&image), 0)?;
-    due("states after the restart", states(&image, sizes), restored(sizes))?;
-    for (call, number) in after_restart(sizes, between) {
-        let told = format!("after a restart {call}");
-        due(&told, heard(calls, &mut image, &mut card, &call), number)?;
-    }
-    let length = if between == Some(last) { FRAME as u64 } else { 0 };
-    due("saved read of the last level after saves", part(&image), length)
-}
-
-/// Every spare has restored a level, one level is in state 1, the last empty.
-fn restored(sizes: Sizes) -> Vec<u8> {
-    [vec![2; sizes.spares as usize], vec![1, 0]].concat()
-}
-
-/// Power goes at any cut of these orders: adds the history that opening starts
-/// from each image left, once for each image that then stands.
-fn restarts<C: Calls>(
-    explorer: &mut Explorer<C>,
-    mut module: Module,
-    orders: &[Order],
-    opened: &mut BTreeMap<Vec<u8>, History>,
-) -> Result<(), String> {
-    for p in 0..=orders.len() {
-        if p > 0 {
-            module.play(orders[p - 1]);
-        }
-        module.cut().for_all(|_, image| {
-            let start = explorer.start(&image(), Plan::ALL)?;
-            opened.entry(start.module.image().to_vec()).or_insert(start);
-            Ok::<(), String>(())
-        })?;
-    }
-    Ok(())
-}
-
-/// Goes on after a restart, with the cut line of each save that has a new page.
-fn go_on<C: Calls>(
-    explorer: &mut Explorer<C>,
-    mut history: History,
-    calls: &[(Call, u64)],
-    all_restored: bool,
-) -> Result<u64, String> {
-    let mut cut_lines = 0;
-    for (call, number) in calls {
-        let new_page = history.book.working != history.book.saved;
-        let step = explorer.step(&mut history, call, Plan::ALL)?;
-        if all_restored {
-            due(&call.to_string(), step.answer.number, *number)?;
-        }
-        if call.deed == Deed::Save && new_page {
-            cut_line("save", &step)?;
-            cut_lines += 1;
-        }
-    }
-    Ok(cut_lines)
-}
-
-/// Restored levels: power goes at any cut of writes that take every spare, and
-/// of the calls before them. Opening restores up to as many levels as there are
-/// spares; the first save after it settles them, whether they are touched or
-/// not, and is cut at every order, as are all calls around it.
-pub fn restored_levels<C: Calls>(calls: &C, sizes: Sizes) -> Outcome {
-    let last = sizes.levels - 1;
-    due("levels", last, sizes.spares + 1)?;
-    let betweens = [Some(last), None, Some(0)];
-    betweens.iter().try_for_each(|between| restart_by_numbers(calls, sizes, *between))?;
-    let mut explorer = Explorer::new(calls, sizes, 6);
-    let mut history = explorer.start(&laid_out(calls, sizes)?, Plan::ALL)?;
-    let mut opened = BTreeMap::new();
-    for call in before_restart(sizes) {
-        let module = history.module.clone();
-        let step = explorer.step(&mut history, &call, Plan::ALL)?;
-        restarts(&mut explorer, module, &step.orders, &mut opened)?;
-    }
-    let (mut whole, mut cut_lines, mut histories) = (0, 0, 1);
-    for start in opened.values() {
-        let all_restored = states(start.module.image(), sizes) == restored(sizes);
-        whole += u64::from(all_restored);
-        for between in if all_restored { &betweens[..] } else { &betweens[..1] } {
-            let calls = after_restart(sizes, *between);
-            cut_lines += go_on(&mut explorer, start.clone(), &calls, all_restored)?;
-            histories += 1;
-        }
-    }
-    due("restarts with every spare in use", whole, 1)?;
-    let counts = Counts { histories, ..explorer.counts() };
-    counts.tried.all_tried(true)?;
-    let Found { text, counts } = all_found(counts);
-    let restarts = opened.len();
-    Ok(Found {
-        text: format!("{restarts} restarts that differ, {cut_lines} cut lines of saves; {text}"),
-        counts,
-    })
 }
 
 /// How random histories are made.

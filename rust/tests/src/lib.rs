@@ -29,4 +29,5 @@ pub mod prng;
 pub mod raw;
 pub mod reference;
 pub mod report;
+pub mod restart;
 pub mod sheet;

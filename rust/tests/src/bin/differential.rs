@@ -17,6 +17,7 @@ use crpm_tests::groups::{self, Random};
 use crpm_tests::library::{Library, Wrapped};
 use crpm_tests::reference::Reference;
 use crpm_tests::report::{arguments, Found, Outcome, Suite};
+use crpm_tests::restart::restored_levels;
 use std::process::ExitCode;
 
 const USAGE: &str = "usage: differential [--quick]
@@ -114,7 +115,7 @@ fn short(sizes: Sizes, depth: usize) -> Outcome {
 }
 
 fn restored(sizes: Sizes) -> Outcome {
-    compared(&Library, |both| groups::restored_levels(both, sizes))
+    compared(&Library, |both| restored_levels(both, sizes))
 }
 
 /// Random histories that must try each law.
@@ -160,7 +161,7 @@ fn spoiled_histories() -> Outcome {
     let runs: [(&str, &[Spoil], SpoiledRun); 6] = [
         ("bench cases", &all, &|both| groups::bench_cases(both)),
         ("waiting lines", &all, &|both| groups::waiting_lines(both)),
-        ("restored levels", &all, &|both| groups::restored_levels(both, SHORT_STORY)),
+        ("restored levels", &all, &|both| restored_levels(both, SHORT_STORY)),
         ("random histories", &all, &|both| groups::random_histories(both, random)),
         ("single calls", &few, &|both| groups::single_calls(both)),
         ("short histories", &all, &|both| groups::short_histories(both, SMALL, 2)),

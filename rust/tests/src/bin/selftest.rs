@@ -14,6 +14,7 @@ use crpm_tests::fast::Fast;
 use crpm_tests::groups::{self, Random};
 use crpm_tests::reference::{Choice, Fault, Reference};
 use crpm_tests::report::{arguments, Found, Outcome, Suite};
+use crpm_tests::restart::restored_levels;
 use crpm_tests::{arbitrary, corners, sheet};
 use std::process::ExitCode;
 
@@ -45,9 +46,9 @@ fn main() -> ExitCode {
     suite.add("other spares, histories up to 2 at 2,2,1", || groups::short_histories(&other, FOUR, 2));
     suite.add("random histories", || groups::random_histories(&good, random(21, 40)));
     suite.add("other spares, random histories", || groups::random_histories(&other, random(22, 20)));
-    suite.add("restored levels at 6,4,1", || groups::restored_levels(&good, STORY));
-    suite.add("restored levels at 4,2,2", || groups::restored_levels(&good, STORY_OF_FRAMES));
-    suite.add("other spares, restored levels at 6,4,1", || groups::restored_levels(&other, STORY));
+    suite.add("restored levels at 6,4,1", || restored_levels(&good, STORY));
+    suite.add("restored levels at 4,2,2", || restored_levels(&good, STORY_OF_FRAMES));
+    suite.add("other spares, restored levels at 6,4,1", || restored_levels(&other, STORY));
     for (fault, breaks) in FAULTS {
         suite.add(format!("fault {fault:?}"), move || caught(fault, breaks));
     }
@@ -101,7 +102,7 @@ fn caught(fault: Fault, breaks: &str) -> Outcome {
 
 /// The numbers and the reads after a restart must show the fault.
 fn heard(fault: Fault, breaks: &str) -> Outcome {
-    match groups::restored_levels(&Reference::faulty(fault), STORY) {
+    match restored_levels(&Reference::faulty(fault), STORY) {
         Err(witness) => noticed(witness, breaks),
         Ok(_) => Err("not caught".to_string()),
     }
@@ -122,7 +123,7 @@ fn forms_agree(good: &Reference) -> Outcome {
         groups::any_contents(&compared, 31, 300, |rng| arbitrary::sizes(rng, 4));
         groups::any_contents(&compared, 32, 2, arbitrary::edge_sizes);
         groups::bench_cases(&compared)?;
-        groups::restored_levels(&compared, STORY_OF_FRAMES)?;
+        restored_levels(&compared, STORY_OF_FRAMES)?;
         compared.verdict()?;
         calls += compared.calls();
     }
