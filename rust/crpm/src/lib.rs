@@ -201,7 +201,7 @@ pub fn write<'t>(
 }
 
 /// Makes the working bytes the checkpoint, in one step: a power cut shows the
-/// old checkpoint or the new one, whole.
+/// old checkpoint or the new one, whole. Every backup segment is free after it.
 ///
 /// # Errors
 ///

@@ -24,7 +24,8 @@ pub enum Refusal {
     NoSuchBlock = 7,
     /// No bytes to write, or offset and length leave the block.
     BadSpan = 8,
-    /// A write needs a new backup segment, and none is free.
+    /// A write needs a new backup segment, and none is free; a checkpoint frees
+    /// them all.
     NoFreeBackup = 9,
     /// A checkpoint at epoch 2^64 - 1.
     EpochLimit = 10,

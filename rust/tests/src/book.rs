@@ -35,19 +35,30 @@ impl fmt::Display for Call {
     }
 }
 
-/// The two pages, each of M×B frames.
+/// A page: M×B frames, and which levels are set, bit by bit. A level is set by
+/// the first save that finds it touched (section 11.2). The others are empty:
+/// their bytes are zero and the saved read has no part of them (section 12.2).
+#[derive(Clone, PartialEq, Eq)]
+pub struct Contents {
+    pub frames: Vec<u8>,
+    pub set: u64,
+}
+
+/// The two pages.
 #[derive(Clone, PartialEq, Eq)]
 pub struct Book {
     sizes: Sizes,
-    pub working: Vec<u8>,
-    pub saved: Vec<u8>,
+    pub working: Contents,
+    pub saved: Contents,
 }
 
 impl Book {
     /// The book at the start of a history: both pages hold the saved bytes of
     /// the image handed to the starting opening, which serves it.
     pub fn start(image: &[u8], sizes: Sizes) -> Book {
-        let saved = saved_bytes(image, sizes);
+        let set = (0..sizes.levels as usize).filter(|level| state_of(image, *level) != 0);
+        let saved =
+            Contents { frames: saved_bytes(image, sizes), set: set.fold(0, |all, level| all | 1 << level) };
         Book { sizes, working: saved.clone(), saved }
     }
 
@@ -59,20 +70,26 @@ impl Book {
             Deed::Write(target, bytes) => {
                 let first = target.level * self.sizes.frames + target.frame;
                 let at = FRAME * first as usize + target.offset as usize;
-                self.working[at..at + bytes.len()].copy_from_slice(bytes);
+                self.working.frames[at..at + bytes.len()].copy_from_slice(bytes);
+                self.working.set |= 1 << target.level;
             }
         }
     }
 }
 
+/// The active state of a level.
+pub fn state_of(image: &[u8], level: usize) -> u8 {
+    let states = if image[EPOCH].is_multiple_of(2) { EVEN_STATES } else { ODD_STATES };
+    image[states + level]
+}
+
 /// The saved bytes of a sound image, by its active states and its pairs.
 pub fn saved_bytes(image: &[u8], sizes: Sizes) -> Vec<u8> {
-    let states = if image[EPOCH].is_multiple_of(2) { EVEN_STATES } else { ODD_STATES };
     let length = FRAME * sizes.frames as usize;
     let mut page = Vec::new();
     for level in 0..sizes.levels as usize {
         let paired = || (0..MOST as usize).find(|s| image[PAIRS + s] == level as u8);
-        match image[states + level] {
+        match state_of(image, level) {
             0 => page.resize(page.len() + length, 0),
             1 => page.extend_from_slice(&image[sizes.in_level(level, 0)..][..length]),
             _ => {
@@ -84,22 +101,34 @@ pub fn saved_bytes(image: &[u8], sizes: Sizes) -> Vec<u8> {
     page
 }
 
-/// What the two reads give in every frame: the working page and the saved
-/// page, the latter with zeros where a level is empty and there is no part.
-pub fn pages_read<C: Calls>(calls: &C, image: &[u8], sizes: Sizes) -> Result<[Vec<u8>; 2], String> {
-    let mut pages = [Vec::new(), Vec::new()];
+/// What the two reads give in every frame: the working page's bytes and the
+/// saved page, with zeros where a level is empty and there is no part.
+pub fn pages_read<C: Calls>(calls: &C, image: &[u8], sizes: Sizes) -> Result<(Vec<u8>, Contents), String> {
+    let mut working = Vec::new();
+    let mut saved = Contents { frames: Vec::new(), set: 0 };
     for level in 0..sizes.levels {
+        let mut parts = 0;
         for frame in 0..sizes.frames {
-            for (kind, page) in [Page::Working, Page::Saved].into_iter().zip(&mut pages) {
+            let read = |kind| {
                 let part = calls.read(kind, image, sizes, level, frame);
-                let bytes = part.of(image).filter(|_| part.number == 0);
-                match bytes.map(|b| (b.len(), kind)) {
-                    Some((FRAME, _)) => page.extend_from_slice(bytes.unwrap_or_default()),
-                    Some((0, Page::Saved)) => page.resize(page.len() + FRAME, 0),
-                    _ => return Err(format!("{kind:?} read of {level},{frame} answers {part:?}")),
+                let told = || format!("{kind:?} read of {level},{frame} answers {part:?}");
+                part.of(image).filter(|_| part.number == 0).ok_or_else(told)
+            };
+            match (read(Page::Working)?, read(Page::Saved)?) {
+                (own, part) if own.len() == FRAME && [0, FRAME].contains(&part.len()) => {
+                    working.extend_from_slice(own);
+                    saved.frames.extend_from_slice(part);
+                    saved.frames.resize(working.len(), 0);
+                    parts += part.len() / FRAME;
                 }
+                _ => return Err(format!("a read of {level},{frame} gives another part than a frame")),
             }
         }
+        match parts as u64 {
+            0 => {}
+            n if n == sizes.frames => saved.set |= 1 << level,
+            _ => return Err(format!("the saved read has only some frames of level {level}")),
+        }
     }
-    Ok(pages)
+    Ok((working, saved))
 }

@@ -29,6 +29,17 @@ fn small(image: &[u8]) -> Option<Vec<u8>> {
     (image.len() <= SMALL).then(|| image.to_vec())
 }
 
+/// Where two tapes differ first, if they do.
+fn tapes(got: &[u64], due: &[u64]) -> String {
+    match got.chunks(3).zip(due.chunks(3)).position(|(got, due)| got != due) {
+        None => "tapes alike".to_string(),
+        Some(at) => {
+            let order = |tape: &[u64]| format!("{:x?}", tape.chunks(3).nth(at).unwrap_or_default());
+            format!("order {at} (hexadecimal) {}, due {}", order(got), order(due))
+        }
+    }
+}
+
 fn unchanged(kept: Option<Vec<u8>>, image: &[u8]) -> bool {
     kept.is_none_or(|kept| kept == image)
 }
@@ -108,7 +119,8 @@ impl<G: Calls, T: Calls> Calls for Compared<'_, G, T> {
         let got = self.tested.open(image, sizes, card, tape);
         let same = due == got && *card == card_due && tape_due == tape && kept == image;
         self.judge("open", due.number, same, || {
-            format!("open {sizes}, tape {}: {got:?} {card:?}, due {due:?} {card_due:?}", tape_due.len())
+            let told = tapes(tape, &tape_due);
+            format!("open {sizes}, tape {}: {told}; {got:?} {card:?}, due {due:?} {card_due:?}", tape.len())
         });
         got
     }
@@ -119,7 +131,8 @@ impl<G: Calls, T: Calls> Calls for Compared<'_, G, T> {
         let got = self.tested.write(image, card, target, bytes, tape);
         let same = due == got && *card == card_due && tape_due == tape && kept == image;
         self.judge("write", due.number, same, || {
-            format!("write {target:?}, {} bytes: {got:?} {card:?}, due {due:?} {card_due:?}", bytes.len())
+            let (told, length) = (tapes(tape, &tape_due), bytes.len());
+            format!("write {target:?}, {length} bytes: {told}; {got:?} {card:?}, due {due:?} {card_due:?}")
         });
         got
     }
@@ -130,7 +143,8 @@ impl<G: Calls, T: Calls> Calls for Compared<'_, G, T> {
         let got = self.tested.save(image, card, tape);
         let same = due == got && *card == card_due && tape_due == tape && kept == image;
         self.judge("save", due.number, same, || {
-            format!("save, tape {}: {got:?} {card:?}, due {due:?} {card_due:?}", tape_due.len())
+            let told = tapes(tape, &tape_due);
+            format!("save, tape {}: {told}; {got:?} {card:?}, due {due:?} {card_due:?}", tape.len())
         });
         got
     }

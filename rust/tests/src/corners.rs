@@ -35,7 +35,8 @@ fn group(level: &str, frame: &str, at: &str, bytes: &str, save: &str) -> String 
     format!("level={level}\nframe={frame}\nat={at}\nbytes={bytes}\nsave={save}\n")
 }
 
-/// Good sheets: the specification's own, refused calls, spares left out.
+/// Good sheets: the specification's own, refused calls, spares left out, a
+/// write that hears 9 and is served after a save.
 fn whole_outputs() -> Vec<Corner> {
     let word = "0102030405060708";
     let step = |n: u32, rest: &str| format!("step={n} {rest}\n");
@@ -51,6 +52,14 @@ fn whole_outputs() -> Vec<Corner> {
     ]
     .concat();
     let fourth = |rest: &str| format!("{OPEN}{first_three}step=4 {rest} save=- orders=0 epoch=1\n");
+    let saved_then_served = [
+        step(4, "write=9 orders=0 save=0 orders=22 epoch=2"),
+        step(5, "write=0 orders=43 save=- orders=0 epoch=2"),
+    ]
+    .concat();
+    let five = [("0", "0"), ("1", "1"), ("0", "0"), ("1", "1"), ("1", "0")]
+        .map(|(level, save)| group(level, "0", "0", word, save))
+        .concat();
     vec![
         corner(sheet(GROUP), one("write=0 orders=2 save=0 orders=18 epoch=1")),
         corner(HEAD, OPEN),
@@ -79,6 +88,7 @@ fn whole_outputs() -> Vec<Corner> {
         ),
         corner(format!("mains=2\nframes=1\n{four}"), fourth("write=0 orders=43")),
         corner(format!("{HEAD}{four}"), fourth("write=9 orders=0")),
+        corner(format!("{HEAD}{five}"), format!("{OPEN}{first_three}{saved_then_served}")),
     ]
 }
 

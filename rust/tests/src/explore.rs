@@ -5,7 +5,11 @@
 //! (section 7) every permitted image (or the extreme ones and samples) is
 //! opened again, also after openings that were themselves cut, and the first
 //! opening that finishes must be served and show a permitted page. The faults
-//! of section 18 are caught by it (`selftest`).
+//! of section 18 are caught by it (`selftest`). After each call both reads must
+//! give the book's pages, and the laws of section 11.5 must hold (`laws`).
+//!
+//! A page is shown only if the levels that were never set, and no others, are
+//! empty: a little more than the demand asks, as a level of zeros would do.
 //!
 //! With `Images::All` chains of cut openings of any length are covered: every
 //! image that stands after a cut opening is explored in its turn, until no new
@@ -24,6 +28,7 @@
 use crate::book::*;
 use crate::calls::*;
 use crate::crash::Module;
+use crate::laws::{Tally, Tried};
 use crate::prng::Rng;
 use std::collections::{BTreeSet, HashMap};
 use std::hash::{BuildHasherDefault, Hasher};
@@ -64,19 +69,24 @@ pub struct Counts {
     pub distinct: u64,
     /// Openings that finished, each checked by both reads.
     pub openings: u64,
+    /// How often each law of section 11.5 was tried.
+    pub tried: Tried,
 }
 
 /// What the counts mean.
 pub const LEGEND: &str = "images: contents that a cut can leave, those looked at, each once a cut
 ways: choices of how many of its waiting stores reached each line; several ways can leave the same image
-distinct: images that differ, over all cuts; each is opened again once";
+distinct: images that differ, over all cuts; each is opened again once
+restored levels settled, empty levels kept: those in state 2 and in state 0 that nobody had touched, at served saves";
 
-/// A history in progress: what stands, the card last answered, the book.
+/// A history in progress: what stands, the card last answered, the book, and
+/// the tally of the laws.
 #[derive(Clone)]
 pub struct History {
     pub module: Module,
     pub card: Card,
     pub book: Book,
+    tally: Tally,
 }
 
 /// A served or refused call of a history.
@@ -93,9 +103,10 @@ pub struct Explorer<'a, C: Calls> {
     rng: Rng,
     /// The page that an image shows, by the image's hash of 128 bits.
     known: HashMap<u128, usize, BuildHasherDefault<AlreadyHashed>>,
-    pages: Vec<Vec<u8>>,
+    pages: Vec<Contents>,
     tape: Vec<u64>,
     counts: Counts,
+    laws: bool,
 }
 
 /// The keys are hashes already.
@@ -130,7 +141,13 @@ impl<'a, C: Calls> Explorer<'a, C> {
             pages: Vec::new(),
             tape: vec![RUBBISH; sizes.opening_room()],
             counts: Counts::default(),
+            laws: true,
         }
+    }
+
+    /// An explorer that holds histories against demand 3 and the book alone.
+    pub fn without_laws(self) -> Self {
+        Explorer { laws: false, ..self }
     }
 
     /// What was looked at so far.
@@ -139,10 +156,10 @@ impl<'a, C: Calls> Explorer<'a, C> {
     }
 
     /// The number under which this page is known.
-    pub fn page_number(&mut self, page: &[u8]) -> usize {
+    pub fn page_number(&mut self, page: &Contents) -> usize {
         let known = self.pages.iter().position(|p| p == page);
         known.unwrap_or_else(|| {
-            self.pages.push(page.to_vec());
+            self.pages.push(page.clone());
             self.pages.len() - 1
         })
     }
@@ -159,7 +176,8 @@ impl<'a, C: Calls> Explorer<'a, C> {
         if module.cut().count() != 1 {
             return Err("a finished opening leaves something waiting".to_string());
         }
-        let history = History { module, card: Card::fresh(self.sizes), book };
+        let tally = Tally::start(image, self.sizes);
+        let history = History { module, card: Card::fresh(self.sizes), book, tally };
         self.check_reads(&history)?;
         Ok(history)
     }
@@ -192,6 +210,11 @@ impl<'a, C: Calls> Explorer<'a, C> {
             shown.push(self.look_at(&history.module, plan, &allowed).map_err(told)?);
         }
         self.check_reads(history)?;
+        if self.laws {
+            let after = history.module.image();
+            let tried = history.tally.feed(&call.deed, answer.number, &image, after);
+            self.counts.tried.add(tried.map_err(|what| format!("{call}: {what}"))?);
+        }
         Ok(Step { answer, orders, shown })
     }
 
@@ -237,8 +260,8 @@ impl<'a, C: Calls> Explorer<'a, C> {
 
     /// Both reads give both pages of the book.
     fn check_reads(&self, history: &History) -> Result<(), String> {
-        let [working, saved] = pages_read(self.calls, history.module.image(), self.sizes)?;
-        match working == history.book.working && saved == history.book.saved {
+        let (working, saved) = pages_read(self.calls, history.module.image(), self.sizes)?;
+        match working == history.book.working.frames && saved == history.book.saved {
             true => Ok(()),
             false => Err("the reads do not give the book's pages".to_string()),
         }
@@ -300,8 +323,12 @@ impl<'a, C: Calls> Explorer<'a, C> {
     }
 
     fn is_allowed(&self, page: usize, allowed: &[usize]) -> Result<(), String> {
-        match allowed.contains(&page) {
-            true => Ok(()),
+        if allowed.contains(&page) {
+            return Ok(());
+        }
+        let frames = |page: usize| &self.pages[page].frames;
+        match allowed.iter().any(|other| frames(*other) == frames(page)) {
+            true => Err("opening again shows other levels empty than those never set".to_string()),
             false => Err("opening again shows a page that is not permitted".to_string()),
         }
     }
@@ -372,9 +399,9 @@ impl<'a, C: Calls> Explorer<'a, C> {
         if answer != (Answer { number: 0, orders: n as u64 }) {
             return Err("the player does not play an opening's tape".to_string());
         }
-        let [working, saved] = pages_read(self.calls, &played, self.sizes)?;
-        match working == saved {
-            true => Ok(self.page_number(&working)),
+        let (working, saved) = pages_read(self.calls, &played, self.sizes)?;
+        match working == saved.frames {
+            true => Ok(self.page_number(&saved)),
             false => Err("after opening again the two reads differ".to_string()),
         }
     }

@@ -423,15 +423,11 @@ fn saving(image: &[u8], mut card: Card, tape: &mut [u64]) -> Result<Served, u64>
         }
     }
     let idle = EVEN_STATES + ODD_STATES - sound.active;
-    let mut states: [u8; LINE] = image[sound.active..sound.active + LINE].try_into().unwrap_or([0; LINE]);
-    let mut touched = card.touched;
-    while touched != 0 {
-        states[touched.trailing_zeros() as usize] = 1;
-        touched &= touched - 1;
-    }
+    let states = &image[sound.active..sound.active + LINE];
     put(tape, at, [3, 0, 0]);
     for (i, word) in states.as_chunks::<8>().0.iter().enumerate() {
-        put(tape, at + 1 + i, [1, (idle + 8 * i) as u64, u64::from_le_bytes(*word)]);
+        let word = settled(u64::from_le_bytes(*word), card.touched >> (8 * i));
+        put(tape, at + 1 + i, [1, (idle + 8 * i) as u64, word]);
     }
     put(tape, at + 9, [2, idle as u64, 0]);
     put(tape, at + 10, [3, 0, 0]);
@@ -440,6 +436,16 @@ fn saving(image: &[u8], mut card: Card, tape: &mut [u64]) -> Result<Served, u64>
     put(tape, at + 13, [3, 0, 0]);
     card.touched = 0;
     Ok(Served { card, orders: count })
+}
+
+const ONES: u64 = 0x0101_0101_0101_0101;
+
+/// The states that a save stores for eight levels: 1 for each in state 1 or 2
+/// and for each that is touched, 0 for the others.
+fn settled(states: u64, touched: u64) -> u64 {
+    let each = (touched & 0xff).wrapping_mul(ONES) & 0x8040_2010_0804_0201;
+    let spread = (each + 0x7f * ONES) >> 7;
+    (states | states >> 1 | spread) & ONES
 }
 
 #[inline(never)]

@@ -1,19 +1,19 @@
 //! Groups of checks that run over any implementation of the calls: the bench
 //! cases, every permitted image of single calls and short histories, random
-//! histories, and calls with any contents.
+//! histories, and calls with any contents. `restart` has one more.
 //!
 //! `selftest` runs them over the reference, `differential` over the library.
 //! Each gives a line of counts or the first failure.
 
 use crate::arbitrary::{self, Metadata};
-use crate::book::{Call, Deed};
+use crate::book::{state_of, Call, Deed};
 use crate::calls::*;
 use crate::crash::{permitted, Module};
 use crate::explore::*;
 use crate::prng::Rng;
 use crate::report::{Found, Outcome};
 
-fn due<T: PartialEq + std::fmt::Debug>(what: &str, got: T, expected: T) -> Result<(), String> {
+pub(crate) fn due<T: PartialEq + std::fmt::Debug>(what: &str, got: T, expected: T) -> Result<(), String> {
     match got == expected {
         true => Ok(()),
         false => Err(format!("{what}: {got:?}, due {expected:?}")),
@@ -27,11 +27,11 @@ fn write_call(sizes: Sizes, level: u64, offset: u64, length: usize, value: u8) -
     Call { deed: Deed::Write(target, bytes), tape: sizes.room() }
 }
 
-fn plain(deed: Deed, sizes: Sizes) -> Call {
+pub(crate) fn plain(deed: Deed, sizes: Sizes) -> Call {
     Call { deed, tape: sizes.room() }
 }
 
-fn laid_out<C: Calls>(calls: &C, sizes: Sizes) -> Result<Vec<u8>, String> {
+pub(crate) fn laid_out<C: Calls>(calls: &C, sizes: Sizes) -> Result<Vec<u8>, String> {
     let mut image = vec![0xee; sizes.image_length()];
     due("laying-out", calls.lay_out(&mut image, sizes), 0)?;
     Ok(image)
@@ -61,7 +61,7 @@ pub fn bench_cases<C: Calls>(calls: &C) -> Outcome {
     let (p4, image) = step(plain(Deed::Save, sizes))?;
     due("P4 orders", p4.answer.orders, 18)?;
     due("P4 states", &image[ODD_STATES..ODD_STATES + 2], &[1, 0])?;
-    cut_line_of_p4(&p4)?;
+    cut_line("P4", &p4)?;
     let (p5, _) = step(write_call(sizes, 0, 0, 8, 0x50))?;
     due("P5 orders", p5.answer.orders, 43)?;
     due("P5 first", p5.orders.first(), Some(&pair_store(0)))?;
@@ -90,18 +90,22 @@ fn pair_store(level: u64) -> Order {
     Order::Store { place: 256, word: 0xffff_ffff_ffff_ff00 + level }
 }
 
-/// Zeros up to 15 orders, either at 16 and 17, the new bytes at 18.
-fn cut_line_of_p4(save: &Step) -> Result<(), String> {
-    let [zeros, .., new] = &save.shown[..] else { return Err("P4 has no cuts".to_string()) };
-    let both = zeros | new;
-    due("P4 cut, pages", (zeros.len(), new.len(), both.len()), (1, 1, 2))?;
+/// The cuts of a save whose pages differ: the old page up to its epoch store,
+/// the third order from its end, either up to its last fence, then the new. In
+/// P4 these are the cuts after 0 to 15 orders, after 16 and 17, and after 18.
+pub(crate) fn cut_line(name: &str, save: &Step) -> Result<(), String> {
+    let [old, .., new] = &save.shown[..] else { return Err(format!("{name} has no cuts")) };
+    let both = old | new;
+    due(&format!("{name} cut, pages"), (old.len(), new.len(), both.len()), (1, 1, 2))?;
+    let orders = save.orders.len();
+    due(&format!("{name} cuts"), save.shown.len(), orders + 1)?;
     for (p, shown) in save.shown.iter().enumerate() {
         let expected = match p {
-            0..=15 => zeros,
-            16 | 17 => &both,
-            _ => new,
+            _ if p == orders => new,
+            _ if p + 2 >= orders => &both,
+            _ => old,
         };
-        due(&format!("P4 cut after {p}"), shown, expected)?;
+        due(&format!("{name} cut after {p}"), shown, expected)?;
     }
     Ok(())
 }
@@ -206,19 +210,29 @@ fn add(total: &mut Counts, counts: Counts) {
     total.ways = total.ways.saturating_add(counts.ways);
     total.distinct += counts.distinct;
     total.openings += counts.openings;
+    total.tried.add(counts.tried);
 }
 
 /// What a group found, with its part of the closing line.
 fn found(text: impl Into<String>, counts: Counts) -> Found {
-    let Counts { histories, calls, images, .. } = counts;
-    Found::new(text, &[("histories", histories), ("calls of histories", calls), ("images", images)])
+    let Counts { histories, calls, images, tried, .. } = counts;
+    let mut found =
+        Found::new(text, &[("histories", histories), ("calls of histories", calls), ("images", images)]);
+    found.counts.extend(tried.named());
+    found
+}
+
+/// How often the laws were tried, in words.
+fn laws_tried(counts: Counts) -> String {
+    counts.tried.named().map(|(name, count)| format!("{count} {name}")).join(", ")
 }
 
 /// What a group that looks at every image found.
-fn all_found(counts: Counts) -> Found {
-    let Counts { histories, calls, cuts, images, ways, distinct, openings } = counts;
+pub(crate) fn all_found(counts: Counts) -> Found {
+    let Counts { histories, calls, cuts, images, ways, distinct, openings, .. } = counts;
     let history = format!("{histories} histories, {calls} calls, {cuts} cuts");
-    found(format!("{history}, {images} images left in {ways} ways, {distinct} distinct, {openings} finished openings"), counts)
+    let seen = format!("{images} images left in {ways} ways, {distinct} distinct");
+    found(format!("{history}, {seen}, {openings} finished openings; {}", laws_tried(counts)), counts)
 }
 
 /// Every permitted image of single calls with one frame a level, all words of
@@ -286,24 +300,42 @@ fn told_after(path: &[Call], what: String) -> String {
 }
 
 /// Every history of `depth` calls from the alphabet, and with it each shorter
-/// one, from every start image, at every cut, over every permitted image.
+/// one, from every start image, at every cut, over every permitted image. One
+/// call is enough to try each law that these sizes allow.
 pub fn short_histories<C: Calls>(calls: &C, sizes: Sizes, depth: usize) -> Outcome {
+    let total = all_short(|| Explorer::new(calls, sizes, 5), sizes, depth)?;
+    total.tried.all_tried(sizes.levels > sizes.spares)?;
+    Ok(all_found(total))
+}
+
+/// The same with demand 3 and the book alone, for faults that must break them.
+pub fn short_histories_without_laws<C: Calls>(calls: &C, sizes: Sizes, depth: usize) -> Outcome {
+    all_short(|| Explorer::new(calls, sizes, 5).without_laws(), sizes, depth).map(all_found)
+}
+
+fn all_short<'a, C: Calls + 'a>(
+    explorer: impl Fn() -> Explorer<'a, C>,
+    sizes: Sizes,
+    depth: usize,
+) -> Result<Counts, String> {
     let mut total = Counts::default();
     for image in starts(sizes, &arbitrary::sparse_data(sizes)) {
-        let mut explorer = Explorer::new(calls, sizes, 5);
+        let mut explorer = explorer();
         let tell = |what| format!("sizes {sizes}, {}: {what}", metadata_of(&image, sizes));
         let start = explorer.start(&image, Plan::ALL).map_err(tell)?;
         let histories = descend(&mut explorer, sizes, &start, &mut Vec::new(), depth).map_err(tell)?;
         add(&mut total, Counts { histories, ..explorer.counts() });
     }
-    Ok(all_found(total))
+    Ok(total)
 }
 
 fn metadata_of(image: &[u8], sizes: Sizes) -> String {
-    let line = if image[EPOCH].is_multiple_of(2) { EVEN_STATES } else { ODD_STATES };
-    let states = &image[line..][..sizes.levels as usize];
     let pairs = &image[PAIRS..][..sizes.spares as usize];
-    format!("epoch {} states {states:?} pairs {pairs:?}", image[EPOCH])
+    format!("epoch {} states {:?} pairs {pairs:?}", image[EPOCH], states(image, sizes))
+}
+
+pub(crate) fn states(image: &[u8], sizes: Sizes) -> Vec<u8> {
+    (0..sizes.levels as usize).map(|level| state_of(image, level)).collect()
 }
 
 /// How random histories are made.
@@ -314,6 +346,8 @@ pub struct Random {
     pub calls: usize,
     pub most: usize,
     pub plan: Plan,
+    /// Must each law be tried?
+    pub every_law: bool,
 }
 
 /// Random histories from laid-out and from arbitrary sound images, with any
@@ -336,11 +370,12 @@ pub fn random_histories<C: Calls>(calls: &C, random: Random) -> Outcome {
         }
         add(&mut total, Counts { histories: 1, ..explorer.counts() });
     }
+    if random.every_law {
+        total.tried.all_tried(true)?;
+    }
     let Counts { histories, calls, cuts, images, openings, .. } = total;
-    let text = format!(
-        "{histories} histories, {calls} calls, {cuts} cuts, {images} images, {openings} finished openings"
-    );
-    Ok(found(text, total))
+    let history = format!("{histories} histories, {calls} calls, {cuts} cuts, {images} images");
+    Ok(found(format!("{history}, {openings} finished openings; {}", laws_tried(total)), total))
 }
 
 /// Every call with any contents: images sound and damaged, cards true and

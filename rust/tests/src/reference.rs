@@ -26,13 +26,20 @@ pub enum Refusal {
     TapeBad = 12,
 }
 
-/// Section 18's faults, which a reader could mistake for good work.
+/// Section 18's faults, which a reader could mistake for good work, and three
+/// wrong rules for the states that a save stores (section 11.2).
 #[derive(Clone, Copy, PartialEq, Eq, Debug)]
 pub enum Fault {
     StateBeforeFence,
     MarksClearedAtSave,
     OpeningSkipsLevelToSpare,
     FreeByIdleLine,
+    /// A level in state 2 that nobody touched stays in state 2.
+    SaveKeepsRestored,
+    /// An empty level that nobody touched gets state 1.
+    SaveSetsEmpty,
+    /// A level in state 1 gets state 2.
+    SaveTurnsOwnToSpare,
 }
 
 /// Which free spare a write takes; section 10 leaves it open.
@@ -344,7 +351,7 @@ impl Reference {
         orders.push(Order::Fence);
         let mut states = [0; LINE];
         for (l, level) in board.levels.iter().enumerate() {
-            states[l] = if card.touched >> l & 1 == 1 { 1 } else { level.state() };
+            states[l] = self.saved_state(*level, card.touched >> l & 1 == 1);
         }
         let idle = idle_line(board.epoch);
         orders.extend(
@@ -359,6 +366,19 @@ impl Reference {
             next.marks = [0; 64];
         }
         Ok((orders, next))
+    }
+
+    /// The state that a save stores for a level: 0 for an empty one that is
+    /// not touched, 1 for every other.
+    fn saved_state(&self, level: Level, touched: bool) -> u8 {
+        match level {
+            _ if touched => 1,
+            Level::Empty if self.has(Fault::SaveSetsEmpty) => 1,
+            Level::Empty => 0,
+            Level::Own { .. } if self.has(Fault::SaveTurnsOwnToSpare) => 2,
+            Level::InSpare { .. } if self.has(Fault::SaveKeepsRestored) => 2,
+            Level::Own { .. } | Level::InSpare { .. } => 1,
+        }
     }
 }
 

@@ -3,9 +3,10 @@
 //!
 //! Compared byte for byte: each call with any contents; random histories step
 //! by step, cut at every order and opened again through the library's own
-//! calls; every permitted image of single calls and short histories. Then the
-//! library's answers are spoiled one at a time, and each group must notice.
-//! Seeds are fixed.
+//! calls; every permitted image of single calls, of short histories and of the
+//! first save after a restart. In every history the laws of section 11.5 are
+//! counted. Then the library's answers are spoiled one at a time, and each group
+//! must notice. Seeds are fixed.
 
 use crpm_tests::arbitrary;
 use crpm_tests::calls::*;
@@ -16,6 +17,7 @@ use crpm_tests::groups::{self, Random};
 use crpm_tests::library::{Library, Wrapped};
 use crpm_tests::reference::Reference;
 use crpm_tests::report::{arguments, Found, Outcome, Suite};
+use crpm_tests::restart::restored_levels;
 use std::process::ExitCode;
 
 const USAGE: &str = "usage: differential [--quick]
@@ -28,6 +30,9 @@ type SpoiledRun<'a> = &'a dyn Fn(&SpoiledPair) -> Outcome;
 
 const SMALL: Sizes = Sizes::new(1, 1, 1);
 const TWO: Sizes = Sizes::new(2, 1, 1);
+const STORY: Sizes = Sizes::new(6, 4, 1);
+const STORY_OF_FRAMES: Sizes = Sizes::new(4, 2, 2);
+const SHORT_STORY: Sizes = Sizes::new(3, 1, 1);
 const EVERY_CUT: Plan = Plan { images: Images::Some { samples: 2 }, every_cut_up_to: 400 };
 const SOME_CUTS: Plan = Plan { images: Images::Some { samples: 1 }, every_cut_up_to: 20 };
 
@@ -50,9 +55,13 @@ fn all(suite: &mut Suite) {
     suite.add("any contents, sizes 1 to 64", any_large);
     suite.add("bench cases", || compared(&Library, |both| groups::bench_cases(both)));
     suite.add("waiting lines", || compared(&Library, |both| groups::waiting_lines(both)));
-    suite.add("random histories, sizes 1 to 3", || histories(41, 1200, 12, 3, EVERY_CUT));
-    suite.add("random histories, sizes 1 to 9", || histories(42, 150, 40, 9, SOME_CUTS));
-    suite.add("random histories, sizes 1 to 64", || histories(43, 5, 16, 64, SOME_CUTS));
+    suite.add("restored levels at 6,4,1", || restored(STORY));
+    suite.add("restored levels at 4,2,2", || restored(STORY_OF_FRAMES));
+    suite.add("random histories, sizes 1 to 3", || histories(random(41, 1200, 12, 3, EVERY_CUT)));
+    suite.add("random histories, sizes 1 to 9", || histories(random(42, 150, 40, 9, SOME_CUTS)));
+    suite.add("random histories, sizes 1 to 64", || {
+        histories(Random { every_law: false, ..random(43, 5, 16, 64, SOME_CUTS) })
+    });
     suite.add("single calls at 1,1,1", || compared(&Library, |both| groups::single_calls(both)));
     suite.add("histories up to 5 at 1,1,1", || short(SMALL, 5));
     suite.add("histories up to 4 at 2,1,1", || short(TWO, 4));
@@ -65,7 +74,8 @@ fn all(suite: &mut Suite) {
 fn quick(suite: &mut Suite) {
     suite.add("any contents, sizes 1 to 4", || any_small(&Library, 5_000));
     suite.add("bench cases", || compared(&Library, |both| groups::bench_cases(both)));
-    suite.add("random histories, sizes 1 to 3", || histories(41, 40, 12, 3, EVERY_CUT));
+    suite.add("restored levels at 6,4,1", || restored(STORY));
+    suite.add("random histories, sizes 1 to 3", || histories(random(41, 40, 12, 3, EVERY_CUT)));
     suite.add("histories up to 3 at 2,1,1", || short(TWO, 3));
     suite.add("safe calls, any contents", || any_small(&Wrapped, 5_000));
     suite.add("safe calls, bench cases", || compared(&Wrapped, |both| groups::bench_cases(both)));
@@ -104,8 +114,16 @@ fn short(sizes: Sizes, depth: usize) -> Outcome {
     compared(&Library, |both| groups::short_histories(both, sizes, depth))
 }
 
-fn histories(seed: u64, histories: usize, calls: usize, most: usize, plan: Plan) -> Outcome {
-    let random = Random { seed, histories, calls, most, plan };
+fn restored(sizes: Sizes) -> Outcome {
+    compared(&Library, |both| restored_levels(both, sizes))
+}
+
+/// Random histories that must try each law.
+const fn random(seed: u64, histories: usize, calls: usize, most: usize, plan: Plan) -> Random {
+    Random { seed, histories, calls, most, plan, every_law: true }
+}
+
+fn histories(random: Random) -> Outcome {
     compared(&Library, |both| {
         let mut found = groups::random_histories(both, random)?;
         found.text += &format!(", {} saves refused at the last epoch", both.answered("save", 10));
@@ -138,11 +156,12 @@ fn spoiled_contents() -> Outcome {
 /// One spoiled answer in a history, by the group that runs it.
 fn spoiled_histories() -> Outcome {
     let plan = Plan { images: Images::Some { samples: 1 }, every_cut_up_to: 20 };
-    let random = Random { seed: 44, histories: 8, calls: 8, most: 2, plan };
+    let random = Random { every_law: false, ..random(44, 8, 8, 2, plan) };
     let (all, few) = (Spoil::all(), [Spoil::Number(CallKind::Write), Spoil::PlayedImage, Spoil::ReadStart]);
-    let runs: [(&str, &[Spoil], SpoiledRun); 5] = [
+    let runs: [(&str, &[Spoil], SpoiledRun); 6] = [
         ("bench cases", &all, &|both| groups::bench_cases(both)),
         ("waiting lines", &all, &|both| groups::waiting_lines(both)),
+        ("restored levels", &all, &|both| restored_levels(both, SHORT_STORY)),
         ("random histories", &all, &|both| groups::random_histories(both, random)),
         ("single calls", &few, &|both| groups::single_calls(both)),
         ("short histories", &all, &|both| groups::short_histories(both, SMALL, 2)),

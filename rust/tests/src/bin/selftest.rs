@@ -1,9 +1,11 @@
 //! The explorer over the reference alone; calls no library.
 //!
 //! Checked against the specification: the bench cases, the cut model, demand 3
-//! over every permitted image of single calls and short histories and over
-//! random histories, for another choice of free spares too; each of the four
-//! faults must be caught; the corner sheets print as they should.
+//! over every permitted image of single calls, of short histories and of the
+//! first save after a restart, and over random histories, for another choice of
+//! free spares too, with the laws of section 11.5 counted in all of them; each
+//! fault must be caught by what it breaks; the corner sheets print as they
+//! should.
 
 use crpm_tests::calls::Sizes;
 use crpm_tests::compared::Compared;
@@ -12,6 +14,7 @@ use crpm_tests::fast::Fast;
 use crpm_tests::groups::{self, Random};
 use crpm_tests::reference::{Choice, Fault, Reference};
 use crpm_tests::report::{arguments, Found, Outcome, Suite};
+use crpm_tests::restart::restored_levels;
 use crpm_tests::{arbitrary, corners, sheet};
 use std::process::ExitCode;
 
@@ -22,6 +25,8 @@ A line for each group, totals at the end. Status: 0 passed, 1 failed, 2 wrong ar
 const SMALL: Sizes = Sizes::new(1, 1, 1);
 const TWO: Sizes = Sizes::new(2, 1, 1);
 const FOUR: Sizes = Sizes::new(2, 2, 1);
+const STORY: Sizes = Sizes::new(6, 4, 1);
+const STORY_OF_FRAMES: Sizes = Sizes::new(4, 2, 2);
 
 fn main() -> ExitCode {
     if let Err(status) = arguments(USAGE, &[], 0) {
@@ -41,38 +46,73 @@ fn main() -> ExitCode {
     suite.add("other spares, histories up to 2 at 2,2,1", || groups::short_histories(&other, FOUR, 2));
     suite.add("random histories", || groups::random_histories(&good, random(21, 40)));
     suite.add("other spares, random histories", || groups::random_histories(&other, random(22, 20)));
-    for fault in FAULTS {
-        suite.add(format!("fault {fault:?}"), move || caught(fault));
+    suite.add("restored levels at 6,4,1", || restored_levels(&good, STORY));
+    suite.add("restored levels at 4,2,2", || restored_levels(&good, STORY_OF_FRAMES));
+    suite.add("other spares, restored levels at 6,4,1", || restored_levels(&other, STORY));
+    for (fault, breaks) in FAULTS {
+        suite.add(format!("fault {fault:?}"), move || caught(fault, breaks));
+    }
+    for (fault, breaks) in FAULTS_OF_SAVE {
+        suite.add(format!("fault {fault:?} after a restart"), move || heard(fault, breaks));
     }
     suite.add("forms of the benchmark", || forms_agree(&good));
     suite.add("corner sheets", corner_sheets);
     suite.run("selftest")
 }
 
-const FAULTS: [Fault; 4] = [
-    Fault::StateBeforeFence,
-    Fault::MarksClearedAtSave,
-    Fault::OpeningSkipsLevelToSpare,
-    Fault::FreeByIdleLine,
+/// Each fault, and what must be said of it. A save that keeps restored levels
+/// breaks neither demand 3 nor the book, and only the laws show it.
+const FAULTS: [(Fault, &str); 7] = [
+    (Fault::StateBeforeFence, "opening again answers 4"),
+    (Fault::MarksClearedAtSave, "opening again shows a page that is not permitted"),
+    (Fault::OpeningSkipsLevelToSpare, "opening again shows a page that is not permitted"),
+    (Fault::FreeByIdleLine, "opening again answers 4"),
+    (Fault::SaveKeepsRestored, "save: levels in state 2: 1, spares not free: 1, due 0 of each"),
+    (Fault::SaveSetsEmpty, "opening again shows other levels empty than those never set"),
+    (Fault::SaveTurnsOwnToSpare, "opening again answers 4"),
+];
+
+/// The faults of a save's states, and what is heard after a restart.
+const FAULTS_OF_SAVE: [(Fault, &str); 3] = [
+    (Fault::SaveKeepsRestored, "after a restart write 8 bytes to level 4 frame 0 at 192: 9, due 0"),
+    (Fault::SaveSetsEmpty, "saved read of the last level: 256, due 0"),
+    (Fault::SaveTurnsOwnToSpare, "after a restart write 8 bytes to level 4 frame 0 at 192: 4, due 0"),
 ];
 
 fn random(seed: u64, histories: usize) -> Random {
     let plan = Plan { images: Images::Some { samples: 2 }, every_cut_up_to: 300 };
-    Random { seed, histories, calls: 12, most: 3, plan }
+    Random { seed, histories, calls: 12, most: 3, plan, every_law: true }
 }
 
-/// The explorer must find a wrong page or a refused opening; the shortest
-/// histories are tried first.
-fn caught(fault: Fault) -> Outcome {
+/// The explorer must find what the fault breaks, by demand 3 and the book
+/// first and then by the laws; the shortest histories are tried first.
+fn caught(fault: Fault, breaks: &str) -> Outcome {
     let faulty = Reference::faulty(fault);
-    for depth in 1..=3 {
-        for sizes in [SMALL, TWO] {
-            if let Err(witness) = groups::short_histories(&faulty, sizes, depth) {
-                return Ok(Found::new(format!("caught: {witness}"), &[("faults caught", 1)]));
+    for explore in [groups::short_histories_without_laws, groups::short_histories] {
+        for depth in 1..=3 {
+            for sizes in [SMALL, TWO] {
+                if let Err(witness) = explore(&faulty, sizes, depth) {
+                    return noticed(witness, breaks);
+                }
             }
         }
     }
     Err("not caught".to_string())
+}
+
+/// The numbers and the reads after a restart must show the fault.
+fn heard(fault: Fault, breaks: &str) -> Outcome {
+    match restored_levels(&Reference::faulty(fault), STORY) {
+        Err(witness) => noticed(witness, breaks),
+        Ok(_) => Err("not caught".to_string()),
+    }
+}
+
+fn noticed(witness: String, breaks: &str) -> Outcome {
+    match witness.ends_with(breaks) {
+        true => Ok(Found::new(format!("caught: {witness}"), &[("faults caught", 1)])),
+        false => Err(format!("caught otherwise: {witness}, due: {breaks}")),
+    }
 }
 
 /// The Rust forms that the benchmark measures give what the reference gives.
@@ -83,6 +123,7 @@ fn forms_agree(good: &Reference) -> Outcome {
         groups::any_contents(&compared, 31, 300, |rng| arbitrary::sizes(rng, 4));
         groups::any_contents(&compared, 32, 2, arbitrary::edge_sizes);
         groups::bench_cases(&compared)?;
+        restored_levels(&compared, STORY_OF_FRAMES)?;
         compared.verdict()?;
         calls += compared.calls();
     }

@@ -204,6 +204,7 @@ fn cases(sizes: Sizes) -> Vec<Case> {
         case("write, new spare", write(8), &own, few),
         case("save, one mark", Action::Save, &in_spares, touched_few),
         case("save, all marks", Action::Save, &in_spares, touched_full),
+        case("save, restored levels", Action::Save, &in_spares, fresh),
         case("working read", Action::Read(Page::Working), &in_spares, fresh),
         case("saved read", Action::Read(Page::Saved), &in_spares, fresh),
         case("likeness, alike", Action::Same(image(&in_spares)), &in_spares, fresh),

@@ -1,0 +1,105 @@
+//! The tally of section 11.5's laws over single calls, each law broken by hand.
+
+use crpm_tests::arbitrary::{distinct_data, image_of, Metadata};
+use crpm_tests::book::Deed;
+use crpm_tests::calls::*;
+use crpm_tests::laws::{Tally, Tried};
+
+const SIZES: Sizes = Sizes::new(3, 2, 1);
+
+fn image(states: [u8; 3], pairs: [u8; 2]) -> Vec<u8> {
+    let metadata = Metadata { states: states.to_vec(), pairs: pairs.to_vec() };
+    image_of(SIZES, 6, &metadata, 0, &distinct_data(SIZES))
+}
+
+fn write_to(level: u64) -> Deed {
+    Deed::Write(Target { level, frame: 0, offset: 0 }, vec![1; WORD])
+}
+
+/// One call of a history that starts at the first image and leaves the second.
+fn one(deed: &Deed, number: u64, before: &[u8], after: &[u8]) -> Result<Tried, String> {
+    Tally::start(before, SIZES).feed(deed, number, before, after)
+}
+
+/// A save settles every level in state 2, touched or not.
+#[test]
+fn after_a_save_no_spare_is_taken() {
+    let before = image([2, 1, 2], [0, 2]);
+    let tried = one(&Deed::Save, 0, &before, &image([1, 1, 1], [0, 2])).expect("the law holds");
+    assert_eq!((tried.saves, tried.settled, tried.empty), (1, 2, 0));
+    for after in [image([2, 1, 1], [0, 2]), image([1, 1, 2], [0, 2]), before.clone()] {
+        assert!(one(&Deed::Save, 0, &before, &after).is_err());
+    }
+    assert!(one(&Deed::Save, 11, &before, &before).is_ok());
+    assert!(one(&Deed::Save, 11, &before, &image([1, 1, 1], [0, 2])).is_err());
+}
+
+/// A copying write takes one spare, every other call none.
+#[test]
+fn copying_writes_are_counted() {
+    let (none, some) = (image([1, 0, 1], [UNPAIRED; 2]), image([2, 0, 1], [0, UNPAIRED]));
+    assert_eq!(one(&write_to(0), 0, &none, &some).map(|tried| tried.copies), Ok(1));
+    assert!(one(&write_to(0), 0, &none, &none).is_err());
+    assert!(one(&write_to(0), 11, &none, &some).is_err());
+    assert_eq!(one(&write_to(1), 0, &none, &none).map(|tried| tried.copies), Ok(0));
+    assert_eq!(one(&write_to(0), 0, &some, &some).map(|tried| tried.copies), Ok(0));
+    assert!(one(&Deed::Open(SIZES), 0, &some, &some).is_ok());
+    assert!(one(&Deed::Open(SIZES), 0, &some, &none).is_err());
+}
+
+/// A level in state 2 without a spare, and a spare that two levels need.
+#[test]
+fn as_many_spares_as_levels_in_state_2() {
+    let whole = image([2, 2, 1], [0, 1]);
+    for after in [image([2, 2, 1], [0, UNPAIRED]), image([2, 1, 1], [0, 0])] {
+        assert!(one(&Deed::Open(SIZES), 0, &whole, &after).is_err());
+    }
+}
+
+/// 9 exactly where the write would copy and every spare is taken.
+#[test]
+fn nine_exactly_where_due() {
+    let (all, one_left) = (image([2, 2, 1], [0, 1]), image([2, 1, 1], [0, 1]));
+    assert_eq!(one(&write_to(2), 9, &all, &all).map(|tried| tried.nines), Ok(1));
+    assert!(one(&write_to(2), 0, &all, &all).is_err());
+    assert!(one(&write_to(2), 11, &all, &all).is_err());
+    assert!(one(&write_to(0), 9, &all, &all).is_err());
+    assert!(one(&write_to(2), 9, &one_left, &one_left).is_err());
+    assert!(one(&write_to(2), 5, &all, &all).is_ok());
+}
+
+/// Over several calls: an opening keeps the count and forgets who was touched;
+/// a save starts it anew.
+#[test]
+fn from_save_to_save() {
+    let start = image([2, 1, 1], [0, UNPAIRED]);
+    let full = image([2, 2, 1], [0, 1]);
+    let saved = image([1, 1, 1], [0, 1]);
+    let mut tally = Tally::start(&start, SIZES);
+    let calls = [
+        (write_to(1), 0, &start, &full),
+        (write_to(1), 0, &full, &full),
+        (write_to(2), 9, &full, &full),
+        (Deed::Open(SIZES), 0, &full, &full),
+        (write_to(2), 9, &full, &full),
+        (Deed::Save, 0, &full, &saved),
+        (write_to(0), 0, &saved, &image([2, 1, 1], [0, 1])),
+    ];
+    let mut total = Tried::default();
+    for (deed, number, before, after) in calls {
+        total.add(tally.feed(&deed, number, before, after).expect("the laws hold"));
+    }
+    let Tried { saves, settled, empty, copies, nines } = total;
+    assert_eq!((saves, settled, empty, copies, nines), (1, 2, 0, 2, 2));
+}
+
+/// A law that was never tried is no success.
+#[test]
+fn untried_laws_fail() {
+    let tried = Tried { saves: 1, settled: 1, empty: 1, copies: 1, nines: 1 };
+    assert!(tried.all_tried(true).is_ok());
+    assert!(Tried { nines: 0, ..tried }.all_tried(false).is_ok());
+    for untried in [Tried { nines: 0, ..tried }, Tried { settled: 0, ..tried }, Tried { saves: 0, ..tried }] {
+        assert!(untried.all_tried(true).is_err());
+    }
+}
