@@ -31,12 +31,15 @@ const EPOCH_AT: usize = Layout::EPOCH_AT as usize;
 // The values of eight bits: a word of dirty segments has one for each byte of states, so eight for a word of them.
 const EIGHT_BITS: u64 = 1 << Layout::LINE_WORDS;
 
-// Words of eight bytes: each byte 1; byte k the number whose bit k is set; the seven low bits of each byte set.
+// Words by their bytes: each is 1; byte k has bit k alone; each has its seven low bits.
 const EACH_ONE: u64 = 0x0101010101010101;
 
 const EACH_ITS_BIT: u64 = 0x8040201008040201;
 
 const EACH_LOW: u64 = 0x7f7f7f7f7f7f7f7f;
+
+// The top bit of a byte.
+const TOP_BIT: u64 = 7;
 
 // The epoch that cannot be raised.
 const LAST_EPOCH: u64 = 18446744073709551615;
@@ -77,8 +80,8 @@ fn put_flushes(
 
 // ---- the states
 
-// Word k of the next states, by the line of states: eight segments at once. A byte of `held` is not 0 exactly where the segment
-// had a checkpoint or is dirty, and only there the byte of `topped` has its top bit.
+// Word k of the next states, by the line of states: eight segments at once (SPECIFICATION 11.2). A byte of `held` is 0 exactly
+// where the segment is in state 0 and not dirty, and a byte of `topped` has its top bit exactly where that of `held` is not 0.
 fn next_word(image: &[u8], line: usize, segments: u64, k: usize) -> u64
     requires { ⌜ (k < lineWords) × (line + lineSize ≤ length (now image)) ⌝ }
     ensures { λ r. ⌜ r ≡ wordOf (nextStates segments (segState (now (image .entry)) line)) (wordSize * k) ⌝ }
@@ -88,7 +91,7 @@ fn next_word(image: &[u8], line: usize, segments: u64, k: usize) -> u64
     let bits = (segments >> i) % EIGHT_BITS;
     let held = states | ((bits * EACH_ONE) & EACH_ITS_BIT);
     let topped = ((held & EACH_LOW) + EACH_LOW) | held;
-    (topped >> 7) & EACH_ONE
+    (topped >> TOP_BIT) & EACH_ONE
 }
 
 // Stores the next states on the inactive line, upward, and writes it back.
