@@ -62,19 +62,19 @@ bit-of-eight m p k h =
 -- ---- the bytes that are not 0
 
 -- `((w & EACH_LOW) + EACH_LOW) | w`, its top bits brought down; and the same of one byte
-abbrev heldOf : ℕ → ℕ
-heldOf w = bitAnd (bitOr (bitAnd w eachLow + eachLow) w / 128) eachOne
+abbrev presentOf : ℕ → ℕ
+presentOf w = bitAnd (bitOr (bitAnd w eachLow + eachLow) w / 128) eachOne
 
-abbrev heldByte : ℕ → ℕ
-heldByte b = bitOr (bitAnd b 127 + 127) b / 128
+abbrev presentByte : ℕ → ℕ
+presentByte b = bitOr (bitAnd b 127 + 127) b / 128
 
 -- the sum is a word
 pub no-carry : (w : ℕ) → bitAnd w eachLow + eachLow < 2 ^ 64
 no-carry w = omega (arith, and-le-r w eachLow)
 
-held-bytes : (f : ℕ → ℕ) → Small 8 f 0 → heldOf (wordOf f 0) ≡ wordOf (λ k. heldByte (f k)) 0
+present-bytes : (f : ℕ → ℕ) → Small 8 f 0 → presentOf (wordOf f 0) ≡ wordOf (λ k. presentByte (f k)) 0
 unfolding wordOf
-held-bytes f h = rw (
+present-bytes f h = rw (
   each 127,
   each 1,
   by-bytes bitAnd (and-block 8) refl 8 f (λ k. 127) 0 h (λ k a b. omega arith),
@@ -86,9 +86,9 @@ held-bytes f h = rw (
     low k = omega (arith, and-le-r (f k) 127)
 
 -- it is 0 for the byte 0 and 1 for every other
-held-byte : (b : ℕ) → b < 256 → heldByte b ≡ cond (eqb b 0) 0 1
+present-byte : (b : ℕ) → b < 256 → presentByte b ≡ cond (eqb b 0) 0 1
 unfolding allB
-held-byte b h = eqb-true _ _ (all-at 256 (λ b. eqb (heldByte b) (cond (eqb b 0) 0 1)) refl b h)
+present-byte b h = eqb-true _ _ (all-at 256 (λ b. eqb (presentByte b) (cond (eqb b 0) 0 1)) refl b h)
 
 -- ---- the next states
 
@@ -97,9 +97,9 @@ abbrev next : Image → ℕ → ℕ → ℕ → ℕ
 next I line m = nextStates m (segState I line)
 
 -- the next state is 0 for state 0 with a bit that is not set, and else 1
-next-held : (st m i k : ℕ) → cond (eqb (bitOr st (bit m i * 2 ^ k)) 0) 0 1 ≡ nextState st (isDirty m i)
+next-present : (st m i k : ℕ) → cond (eqb (bitOr st (bit m i * 2 ^ k)) 0) 0 1 ≡ nextState st (isDirty m i)
 unfolding nextState byState
-next-held st m i k = ap (λ (b : Bool). cond b 0 1) (or-zero st (bit m i * 2 ^ k)) ∙ go st (ℕ-discrete (bit m i) 0)
+next-present st m i k = ap (λ (b : Bool). cond b 0 1) (or-zero st (bit m i * 2 ^ k)) ∙ go st (ℕ-discrete (bit m i) 0)
   where
     go : (st : ℕ) → Dec (bit m i ≡ 0) → cond (eqb st 0 && eqb (bit m i * 2 ^ k) 0) 0 1 ≡ nextState st (isDirty m i)
     go zero (yes e) = rw (e, zero-mul (2 ^ k))
@@ -118,27 +118,27 @@ module _ (I : Image) (line m p : ℕ) (bytes : Bytes I) where
   state k = byteAt I (line + p + k)
 
   -- a state laid over by the segment's bit, where that stands
-  abbrev held : ℕ → ℕ
-  held k = bitOr (state k) (bitAnd bits (2 ^ k))
+  abbrev present : ℕ → ℕ
+  present k = bitOr (state k) (bitAnd bits (2 ^ k))
 
   small-bit : (k : ℕ) → bitAnd bits (2 ^ k) < 256
   small-bit k = omega (arith, and-le-l bits (2 ^ k))
 
-  small : Small 8 held 0
+  small : Small 8 present 0
   small k a b = or-lt 8 (state k) (bitAnd bits (2 ^ k)) (bytes (line + p + k)) (small-bit k)
 
-  overlaid : bitOr (wordAt I (line + p)) (spreadOf bits) ≡ wordOf held 0
+  overlaid : bitOr (wordAt I (line + p)) (spreadOf bits) ≡ wordOf present 0
   overlaid =
       ap₂ bitOr (word-from (byteAt I) (line + p)) (spread bits (omega arith))
       ∙ unfold wordOf in (by-bytes bitOr (or-block 8) refl 8 state (λ k. bitAnd bits (2 ^ k)) 0 (λ k a b. bytes (line + p + k)) (λ k a b. small-bit k))
 
-  next-byte : (k : ℕ) → 0 ≤ k → k < 8 → heldByte (held k) ≡ next I line m (p + k)
+  next-byte : (k : ℕ) → 0 ≤ k → k < 8 → presentByte (present k) ≡ next I line m (p + k)
   next-byte k a b =
-      held-byte (held k) (small k a b) ∙ ap (λ (w : ℕ). cond (eqb (bitOr (state k) w) 0) 0 1) (bit-of-eight m p k b)
-      ∙ next-held (state k) m (p + k) k ∙ ap (λ (n : ℕ). nextState (byteAt I n) (isDirty m (p + k))) (add-assoc line p k)
+      present-byte (present k) (small k a b) ∙ ap (λ (w : ℕ). cond (eqb (bitOr (state k) w) 0) 0 1) (bit-of-eight m p k b)
+      ∙ next-present (state k) m (p + k) k ∙ ap (λ (n : ℕ). nextState (byteAt I n) (isDirty m (p + k))) (add-assoc line p k)
 
-  pub next-word : (states : ℕ) → states ≡ wordAt I (line + p) → heldOf (bitOr states (spreadOf bits)) ≡ wordOf (next I line m) p
-  next-word states e = rw (e, overlaid) (held-bytes held small ∙ word-cong _ (λ k. next I line m (p + k)) 0 next-byte ∙ sym (word-from (next I line m) p))
+  pub next-word : (states : ℕ) → states ≡ wordAt I (line + p) → presentOf (bitOr states (spreadOf bits)) ≡ wordOf (next I line m) p
+  next-word states e = rw (e, overlaid) (present-bytes present small ∙ word-cong _ (λ k. next I line m (p + k)) 0 next-byte ∙ sym (word-from (next I line m) p))
 
 -- ---- operations
 

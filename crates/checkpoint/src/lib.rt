@@ -80,8 +80,8 @@ fn put_flushes(
 
 // ---- the states
 
-// Word k of the next states, by the line of states: eight segments at once (SPECIFICATION 11.2). A byte of `held` is 0 exactly
-// where the segment is in state 0 and not dirty, and a byte of `topped` has its top bit exactly where that of `held` is not 0.
+// Word k of the next states, by the line of states: eight segments at once (SPECIFICATION 11.2). A byte of `present` is 0 exactly
+// where the segment is in state 0 and not dirty, and a byte of `topped` has its top bit exactly where that of `present` is not 0.
 fn next_word(image: &[u8], line: usize, segments: u64, k: usize) -> u64
     requires { ⌜ (k < lineWords) × (line + lineSize ≤ length (now image)) ⌝ }
     ensures { λ r. ⌜ r ≡ wordOf (nextStates segments (segState (now (image .entry)) line)) (wordSize * k) ⌝ }
@@ -89,8 +89,8 @@ fn next_word(image: &[u8], line: usize, segments: u64, k: usize) -> u64
     let i = WORD_SIZE * k;
     let states = words::word_at(image, line + i);
     let bits = (segments >> i) % EIGHT_BITS;
-    let held = states | ((bits * EACH_ONE) & EACH_ITS_BIT);
-    let topped = ((held & EACH_LOW) + EACH_LOW) | held;
+    let present = states | ((bits * EACH_ONE) & EACH_ITS_BIT);
+    let topped = ((present & EACH_LOW) + EACH_LOW) | present;
     (topped >> TOP_BIT) & EACH_ONE
 }
 

@@ -18,8 +18,8 @@ word-at-requires c κs = search needs
 shr-bits : tie.Need-shr-bits
 shr-bits c = search needs
 
-mul-held : tie.Need-mul-held
-mul-held c = search needs
+mul-present : tie.Need-mul-present
+mul-present c = search needs
 
 add-topped : tie.Need-add-topped
 add-topped c = search (needs, no-carry)
@@ -31,4 +31,4 @@ returns c =
 
 pub next-word-spec : {M : Type 1} → statement M
 next-word-spec =
-    tie.close (tie.spec mul-i add-word-at word-at-requires shr-bits mul-held add-topped returns)
+    tie.close (tie.spec mul-i add-word-at word-at-requires shr-bits mul-present add-topped returns)
