@@ -2,4 +2,9 @@
 pub mod Compute
 pub mod Table
 pub mod Starts
+pub mod Blocks
+pub mod Leads
+pub mod FirstLife
+pub mod Shown
 pub mod Cut
+pub mod Restored
