@@ -9,11 +9,10 @@ use Rattle.model.specs.Words.{Image, Bytes}
 use Rattle.model.specs.Ops.{Ops, store, clwb, sfence, replay}
 use Rattle.model.specs.Format.{container, formatted}
 use Rattle.model.specs.Open.{openStatus}
-use Rattle.model.specs.Reference.{Page}
 use Rattle.model.specs.History.{State, outcome, calledOps, start, step, run, openedImage, AllPermitted}
 use Rattle.model.specs.CrashSafety.{during}
 use Rattle.cases.specs.Table.{l211, fresh, longTrace, fourBytes, writeFour, checkpoint}
-use Rattle.cases.specs.Cut.{MayLeave, EitherPage, CutCheckpoint, beforeP4, zeros, newBytes, CutP4}
+use Rattle.cases.specs.Cut.{EitherPage, CutCheckpoint, beforeP4, zeros, newBytes, CutP4}
 use Rattle.model.proofs.Argument.Stands.{Stands}
 use Rattle.model.proofs.CrashSafety.{history-stands}
 use Rattle.cases.proofs.Compute.{model-rules, same, same-equal, small, small-bytes}

@@ -1,7 +1,7 @@
 -- A history followed call by call, through the images and sessions that its calls leave; and the image that a write leaves that
 -- copies a main segment first.
 use Prim.Native.Nat.{ℕ, _+_, _%_, _≤_}
-use mathlib.Core.Path.{_≡_, refl, sym, ap, ap₂, subst₂, _∙_}
+use mathlib.Core.Path.{_≡_, sym, ap, ap₂, subst₂, _∙_}
 use mathlib.Core.List.{List, [], _∷_, _++_}
 use native.Mathlib.Omega.{arith}
 use lib.ListN.{length}
@@ -42,11 +42,11 @@ pub leads : {I J K : Image} {x y : Session} (c : Call) (cs : List Call) → leng
 unfolding run step deviceStep
 leads c cs whole may answer image next s h =
     let permitted : Permitted (s .device) c =
-        subst₂ (λ (x : Session) (I : Image). PermittedOn x I (c .args) (c .trace) (c .choice)) (sym (h .session)) (sym (h .image)) may in
+    subst₂ (λ (x : Session) (I : Image). PermittedOn x I (c .args) (c .trace) (c .choice)) (sym (h .session)) (sym (h .image)) may in
     let played : step s c .device .image ≡ replay (outcome (s .device) c .ops) (s .device .image) =
-        replayed-image (s .device .image) (outcome (s .device) c .ops) (c .trace) (length (outcome (s .device) c .ops))
-        (omega (arith, whole, ap length (h .image))) (call-ok (s .device) c permitted)
-        ∙ ap (λ (O : Ops). replay O (s .device .image)) (take-length (outcome (s .device) c .ops)) in
+    replayed-image (s .device .image) (outcome (s .device) c .ops) (c .trace) (length (outcome (s .device) c .ops))
+    (omega (arith, whole, ap length (h .image))) (call-ok (s .device) c permitted)
+    ∙ ap (λ (O : Ops). replay O (s .device .image)) (take-length (outcome (s .device) c .ops)) in
     let r = next (step s c) (record {
       image = played ∙ ap₂ (λ (x : Session) (I : Image). replay (answers x I (c .args) (c .trace) (c .choice) .ops) I) (h .session) (h .image) ∙ image;
       session = ap₂ (λ (x : Session) (I : Image). answers x I (c .args) (c .trace) (c .choice) .session) (h .session) (h .image) ∙ answer;

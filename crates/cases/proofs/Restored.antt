@@ -1,35 +1,33 @@
 -- The restored board: its second life, and the crash inside its checkpoint.
-use Prim.Native.Nat.{ℕ, _+_}
+use Prim.Native.Nat.{ℕ, suc, _+_}
 use mathlib.Core.Path.{_≡_, refl, sym, ap, subst, _∙_}
 use mathlib.Core.Logic.{_≢_, inr}
 use mathlib.Core.Bool.{true, false, false≢true}
 use mathlib.Core.List.{List, [], _∷_, _++_}
 use native.Mathlib.Omega.{arith}
-use lib.Dec.{T, leb, eqb, lit<, lit≤}
+use lib.Dec.{T, leb, eqb, lit<}
 use lib.ListN.{length, take, replicate}
-use Rattle.model.specs.Range.{cat, anyB, orNext, firstB}
+use Rattle.model.specs.Range.{anyB, orNext, firstB}
 use Rattle.model.specs.Words.{Image, Bytes, bytesOf}
 use Rattle.model.specs.Layout.{mainAt, backupAt, unpaired}
 use Rattle.model.specs.Container.{activeLine, segmentBytes, isPaired, pairedBackup, byState}
-use Rattle.model.specs.Ops.{Ops, store, clwb, sfence, replay, apply, copySegment, zeroSegment}
+use Rattle.model.specs.Ops.{Ops, store, clwb, sfence, replay, copySegment}
 use Rattle.model.specs.Format.{container}
-use Rattle.model.specs.Open.{recoveryAction, actionOps, recoverSegment, recoveryOps, openStatus}
+use Rattle.model.specs.Open.{recoveryAction, actionOps, recoverSegment, openStatus}
 use Rattle.model.specs.Reads.{checkpointBlock}
-use Rattle.model.specs.History.{State, outcome, calledOps, start, step, run, openedImage, AllPermitted}
+use Rattle.model.specs.History.{State, outcome, calledOps, step, run, openedImage, AllPermitted}
 use Rattle.model.specs.CrashSafety.{Recovers, during}
 use Rattle.cases.specs.Table.{Case, checkpoint, follow}
 use Rattle.cases.specs.Cut.{EitherPage, CutCheckpoint}
 use Rattle.cases.specs.Restored.{l641, boardTrace, put, segments, leftBoard, restoredBoard, board, story, shorter, AsExpected, calls, beforeCheckpoint, oldPage, newPage, RestoredStory}
-use Rattle.model.proofs.Argument.Persist.{replay-append}
 use Rattle.model.proofs.Argument.Stands.{Stands}
-use Rattle.model.proofs.Argument.Openings.{opened-is}
 use Rattle.model.proofs.CrashSafety.{history-stands}
 use Rattle.cases.proofs.Compute.{model-rules, same, same-equal, small, small-bytes}
 use Rattle.cases.proofs.Table.{agree, agree-equal}
 use Rattle.cases.proofs.Starts.{standing, started}
-use Rattle.cases.proofs.Blocks.{laid, copied, zeroed}
+use Rattle.cases.proofs.Blocks.{laid, Recovered, recovered-none, recovered-copy, recovered-zero, recovered-idle, recovered-all}
 use Rattle.cases.proofs.Shown.{left, shows, storesEpoch, shows-before, shows-after}
-use Rattle.cases.proofs.FirstLife.{turn, later, life}
+use Rattle.cases.proofs.FirstLife.{later}
 use Rattle.cases.proofs.FirstLife as first
 
 -- ---- its opening
@@ -46,51 +44,30 @@ bytes = small-bytes leftBoard refl
 abbrev holding : List ℕ → Image
 holding mains = later (2 ∷ 2 ∷ 2 ∷ 2 ∷ 1 ∷ 0 ∷ []) (0 ∷ 1 ∷ 2 ∷ 3 ∷ []) mains (10 ∷ 11 ∷ 12 ∷ 13 ∷ [])
 
-abbrev recover : ℕ → Ops
-recover = recoverSegment l641 leftBoard 192
-
-none : replay (cat 0 recover) leftBoard ≡ leftBoard
-unfolding replay cat
-none = refl
-
-copies-back : (i : ℕ) (J K : Image) → recover i ≡ copySegment l641 leftBoard (backupAt l641 i) (mainAt l641 i)
-    → T (leb (backupAt l641 i + 256) (length leftBoard)) → T (leb (mainAt l641 i + 256) (length J))
-    → same (laid J (mainAt l641 i) (segmentBytes l641 leftBoard (backupAt l641 i))) K ≡ true → replay (recover i) J ≡ K
-copies-back i J K e has room test =
-    ap (λ (O : Ops). replay O J) e ∙ copied l641 leftBoard J (backupAt l641 i) (mainAt l641 i) bytes (lit≤ has) (lit≤ room) ∙ same-equal _ _ test
-
-zeros : (J : Image) → recover 5 ≡ zeroSegment l641 (mainAt l641 5) → T (leb (mainAt l641 5 + 256) (length J))
-    → same (laid J (mainAt l641 5) (replicate 256 0)) J ≡ true → replay (recover 5) J ≡ J
-zeros J e room test = ap (λ (O : Ops). replay O J) e ∙ zeroed l641 J (mainAt l641 5) (lit≤ room) ∙ same-equal _ _ test
-
-stays : (J : Image) → recover 4 ≡ [] → replay (recover 4) J ≡ J
-unfolding replay
-stays J e = ap (λ (O : Ops). replay O J) e
-
 abbrev restored : Image
 restored = holding (10 ∷ 11 ∷ 12 ∷ 13 ∷ 14 ∷ 0 ∷ [])
 
-turns : replay (cat 6 recover) leftBoard ≡ restored
+copies-back : (n : ℕ) (J K : Image) → recoverSegment l641 leftBoard 192 n ≡ copySegment l641 leftBoard (backupAt l641 n) (mainAt l641 n)
+    → T (leb (backupAt l641 n + 256) (length leftBoard)) → T (leb (mainAt l641 n + 256) (length J))
+    → same (laid J (mainAt l641 n) (segmentBytes l641 leftBoard (backupAt l641 n))) K ≡ true → Recovered l641 leftBoard 192 n J → Recovered l641 leftBoard 192 (suc n) K
+copies-back n J K = recovered-copy l641 leftBoard 192 n n J K bytes
+
+turns : Recovered l641 leftBoard 192 6 restored
 unfolding recoverSegment actionOps recoveryAction byState isPaired pairedBackup anyB orNext firstB container bytesOf same
 turns =
-    turn 5 recover leftBoard restored restored
-    (turn 4 recover leftBoard restored restored
-    (turn 3 recover leftBoard (holding (10 ∷ 11 ∷ 12 ∷ 23 ∷ 14 ∷ 0 ∷ [])) restored
-    (turn 2 recover leftBoard (holding (10 ∷ 11 ∷ 22 ∷ 23 ∷ 14 ∷ 0 ∷ [])) (holding (10 ∷ 11 ∷ 12 ∷ 23 ∷ 14 ∷ 0 ∷ []))
-    (turn 1 recover leftBoard (holding (10 ∷ 21 ∷ 22 ∷ 23 ∷ 14 ∷ 0 ∷ [])) (holding (10 ∷ 11 ∷ 22 ∷ 23 ∷ 14 ∷ 0 ∷ []))
-    (turn 0 recover leftBoard leftBoard (holding (10 ∷ 21 ∷ 22 ∷ 23 ∷ 14 ∷ 0 ∷ [])) none (copies-back 0 _ _ refl tt tt refl))
-    (copies-back 1 _ _ refl tt tt refl)) (copies-back 2 _ _ refl tt tt refl)) (copies-back 3 _ _ refl tt tt refl)) (stays restored refl))
-    (zeros restored refl tt refl)
+    recovered-zero l641 leftBoard 192 5 restored restored refl tt refl
+    (recovered-idle l641 leftBoard 192 4 restored refl
+    (copies-back 3 (holding (10 ∷ 11 ∷ 12 ∷ 23 ∷ 14 ∷ 0 ∷ [])) restored refl tt tt refl
+    (copies-back 2 (holding (10 ∷ 11 ∷ 22 ∷ 23 ∷ 14 ∷ 0 ∷ [])) (holding (10 ∷ 11 ∷ 12 ∷ 23 ∷ 14 ∷ 0 ∷ [])) refl tt tt refl
+    (copies-back 1 (holding (10 ∷ 21 ∷ 22 ∷ 23 ∷ 14 ∷ 0 ∷ [])) (holding (10 ∷ 11 ∷ 22 ∷ 23 ∷ 14 ∷ 0 ∷ [])) refl tt tt refl
+    (copies-back 0 leftBoard (holding (10 ∷ 21 ∷ 22 ∷ 23 ∷ 14 ∷ 0 ∷ [])) refl tt tt refl (recovered-none l641 leftBoard 192))))))
 
 active : activeLine leftBoard ≡ 192
 unfolding model-rules
 active = refl
 
 opened : openedImage l641 leftBoard boardTrace ≡ restored
-unfolding recoveryOps replay apply
-opened =
-    opened-is l641 leftBoard boardTrace opens ∙ ap (λ (line : ℕ). replay (recoveryOps l641 leftBoard line) leftBoard) active
-    ∙ replay-append (cat 6 recover) (sfence ∷ []) leftBoard ∙ turns
+opened = recovered-all l641 leftBoard boardTrace 192 restored opens active turns
 
 starts : restoredBoard ≡ standing l641 restored oldPage
 unfolding model-rules same
@@ -118,11 +95,16 @@ not-two n test e = false≢true (sym test ∙ ap (λ (k : ℕ). eqb k 2) e)
 
 all-permitted : AllPermitted (standing l641 restored oldPage) (calls story)
 unfolding model-rules story small
-all-permitted =
-    ((small-bytes (34 ∷ []) refl, λ served needs. absurd (nine served)),
-    ((small-bytes (35 ∷ []) refl, λ served needs. absurd (false≢true needs)),
-    (tt,
-    ((small-bytes (34 ∷ []) refl, λ served needs. (lit< tt, inr (not-two _ refl))), tt))))
+all-permitted = (
+  (small-bytes (34 ∷ []) refl, λ served needs. absurd (nine served)),
+  (
+    (small-bytes (35 ∷ []) refl, λ served needs. absurd (false≢true needs)),
+    (
+      tt,
+      ((small-bytes (34 ∷ []) refl, λ served needs. (lit< tt, inr (not-two _ refl))), tt),
+    ),
+  ),
+)
 
 board-is : board (standing l641 restored oldPage) ≡ 2 ∷ 2 ∷ 2 ∷ 2 ∷ 1 ∷ 0 ∷ [] ++ 0 ∷ 1 ∷ 2 ∷ 3 ∷ []
 unfolding model-rules
@@ -220,8 +202,9 @@ shows-left = shows l641 leftBoard boardTrace oldPage refl refl refl
 -- THE STORY
 pub restored-story : RestoredStory
 restored-story = record {
-  formats = first.formats;
-  lived = life .0;
+  firstBytes = first.bytes;
+  firstOpens = first.opens;
+  firstPermitted = first.life .0;
   left = first.left;
   bytes = bytes;
   opens = shows-left;

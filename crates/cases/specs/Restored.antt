@@ -4,9 +4,9 @@
 -- The first life: a formatted image is opened; a byte is written to each of main segments 0 to 4; a checkpoint; another byte is
 -- written to each of main segments 0 to 3, which copies each of them to a backup segment first; power fails. The second life is an
 -- opening of what is left: a write to main segment 4 is refused with 9, one to main segment 5 is served, then comes a checkpoint,
--- which turns every state to 1, and now main segment 4 can be written. Under the rule before, which kept the states of segments that
--- are not dirty, main segments 0 to 3 would be in state 2 after that checkpoint too, and after every later one until they are
--- written, and the write would be refused with 9 as long. Proved in proofs/Restored.antt.
+-- which turns every state to 1, and now main segment 4 can be written. Under the rule before, by which a segment that is not dirty
+-- kept its state, main segments 0 to 3 stayed in state 2 through every checkpoint until they were written, and the write to main
+-- segment 4 was refused with 9 through all of them. Proved in proofs/Restored.antt.
 use Prim.Native.Nat.{ℕ, _+_}
 use mathlib.Core.Path.{_≡_}
 use mathlib.Core.List.{List, [], _∷_, _++_, map}
@@ -106,9 +106,10 @@ newPage = segments (10 ∷ 11 ∷ 12 ∷ 13 ∷ 14 ∷ 35 ∷ [])
 -- ---- the story
 
 pub record RestoredStory : Type 0 where
-  -- the first life is one that demand 3 speaks of, and a crash after it may leave this image
-  pub formats : openStatus l641 (formatted l641) boardTrace ≡ 0
-  pub lived : AllPermitted formattedBoard firstLife
+  -- the first life is a history that demand 3 speaks of, and a crash after it may leave this image
+  pub firstBytes : Bytes (formatted l641)
+  pub firstOpens : openStatus l641 (formatted l641) boardTrace ≡ 0
+  pub firstPermitted : AllPermitted formattedBoard firstLife
   pub left : MayLeave (run formattedBoard firstLife) between leftBoard
   -- so is the second; its opening shows the checkpoint of the first, and leaves these states and pairs
   pub bytes : Bytes leftBoard
