@@ -31,6 +31,13 @@ const EPOCH_AT: usize = Layout::EPOCH_AT as usize;
 // The values of eight bits: a word of dirty segments has one for each byte of states, so eight for a word of them.
 const EIGHT_BITS: u64 = 1 << Layout::LINE_WORDS;
 
+// Words of eight bytes: each byte 1; byte k the number whose bit k is set; the seven low bits of each byte set.
+const EACH_ONE: u64 = 0x0101010101010101;
+
+const EACH_ITS_BIT: u64 = 0x8040201008040201;
+
+const EACH_LOW: u64 = 0x7f7f7f7f7f7f7f7f;
+
 // The epoch that cannot be raised.
 const LAST_EPOCH: u64 = 18446744073709551615;
 
@@ -70,38 +77,18 @@ fn put_flushes(
 
 // ---- the states
 
-// The state of main segment i after the checkpoint, by the line of states: a dirty segment holds its checkpoint itself,
-// another keeps its state.
-fn next_state(image: &[u8], line: usize, segments: u64, i: usize) -> u8
-    requires { ⌜ (i < most) × (line + lineSize ≤ length (now image)) ⌝ }
-    ensures { λ r. ⌜ r ≡ nextStates segments (segState (now (image .entry)) line) i ⌝ }
-{
-    let state = image[line + i];
-    if session::is_dirty(segments, i as u64) {
-        return Layout::SS_MAIN;
-    }
-    state
-}
-
-// Word k of the next states: where none of its segments is dirty, the word as it stands.
+// Word k of the next states, by the line of states: eight segments at once. A byte of `held` is not 0 exactly where the segment
+// had a checkpoint or is dirty, and only there the byte of `topped` has its top bit.
 fn next_word(image: &[u8], line: usize, segments: u64, k: usize) -> u64
     requires { ⌜ (k < lineWords) × (line + lineSize ≤ length (now image)) ⌝ }
     ensures { λ r. ⌜ r ≡ wordOf (nextStates segments (segState (now (image .entry)) line)) (wordSize * k) ⌝ }
 {
     let i = WORD_SIZE * k;
-    if (segments >> i) % EIGHT_BITS == 0 {
-        return words::word_at(image, line + i);
-    }
-    words::join([
-        next_state(image, line, segments, i),
-        next_state(image, line, segments, i + 1),
-        next_state(image, line, segments, i + 2),
-        next_state(image, line, segments, i + 3),
-        next_state(image, line, segments, i + 4),
-        next_state(image, line, segments, i + 5),
-        next_state(image, line, segments, i + 6),
-        next_state(image, line, segments, i + 7),
-    ])
+    let states = words::word_at(image, line + i);
+    let bits = (segments >> i) % EIGHT_BITS;
+    let held = states | ((bits * EACH_ONE) & EACH_ITS_BIT);
+    let topped = ((held & EACH_LOW) + EACH_LOW) | held;
+    (topped >> 7) & EACH_ONE
 }
 
 // Stores the next states on the inactive line, upward, and writes it back.
