@@ -113,38 +113,20 @@ fn print_metadata(image: &[u8]) {
     print_number(b" at256=", byte_at(image, 256));
 }
 
-// Prints the metadata and the saved reads of levels 0 and 1.
+// Prints the metadata and the saved reads of levels 0 and 1; of the restart's image, the board.
 fn print_image(image: &[u8], layout: Layout) {
+    if layout.mains == BOARD_MAINS {
+        print_board(image, layout);
+        return;
+    }
     print_metadata(image);
     print_saved(b" saved=", image, layout, 0);
     print_saved(b",", image, layout, 1);
     print(b"\n");
 }
 
-// Prints the states of the board's six levels on the active line, and the pairs of its four spares.
-fn print_states(image: &[u8]) {
-    let line = active_line(image);
-    print_bytes(b" states=", image, line);
-    print_bytes(b",", image, line + 2);
-    print_bytes(b",", image, line + 4);
-    print_bytes(b" pairs=", image, 256);
-    print_bytes(b",", image, 258);
-}
-
-// Prints the first byte of the epoch, states and pairs, and the saved reads of the six levels.
-fn print_board(image: &[u8], layout: Layout) {
-    print_number(b" epoch=", byte_at(image, 0));
-    print_states(image);
-    print_saved(b" saved=", image, layout, 0);
-    print_saved(b",", image, layout, 1);
-    print_saved(b",", image, layout, 2);
-    print_saved(b",", image, layout, 3);
-    print_saved(b",", image, layout, 4);
-    print_saved(b",", image, layout, 5);
-}
-
-// Prints the first two bytes of the working read of a level's frame 0, in hexadecimal.
-fn print_working(name: &[u8], image: &[u8], layout: Layout, main: u64) {
+// Prints a level of the board: its saved read, and the first two bytes of its working read in hexadecimal.
+fn print_level(name: &[u8], image: &[u8], layout: Layout, main: u64) {
     let part = reads::crpm_read_working(
         image,
         layout.mains,
@@ -153,31 +135,29 @@ fn print_working(name: &[u8], image: &[u8], layout: Layout, main: u64) {
         main,
         0,
     );
-    print(name);
+    print_saved(name, image, layout, main);
+    print(b":");
     io::print_hex(STDOUT_FILENO, byte_at(part, 0), 2);
     io::print_hex(STDOUT_FILENO, byte_at(part, 1), 2);
 }
 
-// Prints the board after an opening: besides, the working reads of the six levels.
-fn print_opened(image: &[u8], layout: Layout) {
-    print_board(image, layout);
-    print_working(b" working=", image, layout, 0);
-    print_working(b",", image, layout, 1);
-    print_working(b",", image, layout, 2);
-    print_working(b",", image, layout, 3);
-    print_working(b",", image, layout, 4);
-    print_working(b",", image, layout, 5);
+// Prints the board of the restart: the first byte of the epoch, the states of its six levels on the active line, the pairs of its
+// four spares, and the levels.
+fn print_board(image: &[u8], layout: Layout) {
+    let line = active_line(image);
+    print_number(b" epoch=", byte_at(image, 0));
+    print_bytes(b" states=", image, line);
+    print_bytes(b",", image, line + 2);
+    print_bytes(b",", image, line + 4);
+    print_bytes(b" pairs=", image, 256);
+    print_bytes(b",", image, 258);
+    print_level(b" levels=", image, layout, 0);
+    print_level(b",", image, layout, 1);
+    print_level(b",", image, layout, 2);
+    print_level(b",", image, layout, 3);
+    print_level(b",", image, layout, 4);
+    print_level(b",", image, layout, 5);
     print(b"\n");
-}
-
-// Prints what a call left: the board of the restart, or another image.
-fn print_left(image: &[u8], layout: Layout) {
-    if layout.mains == BOARD_MAINS {
-        print_board(image, layout);
-        print(b"\n");
-    } else {
-        print_image(image, layout);
-    }
 }
 
 // Prints the name of a case: P1 to P10 and, from 11 on, R1 to R7.
@@ -271,8 +251,8 @@ const CALLS: [[u64; 6]; 31] = [
     [13, 0, 4, 0, 0, 2],
     [14, 0, 5, 0, 0, 2],
     [15, 1, 0, 0, 0, 0],
-    [16, 0, 4, 0, 0, 2],
-    [17, 1, 0, 0, 0, 0],
+    [16, 1, 0, 0, 0, 0],
+    [17, 0, 4, 0, 0, 2],
 ];
 
 // The call of a row.
@@ -318,7 +298,7 @@ fn step(image: &mut [u8], trace: &mut [u64], session: Session, call: Call) -> Se
     let given = first_of(&bytes, call.length);
     let answer = make(image, trace, session, call, given);
     print_ops(trace, answer.ops);
-    print_left(image, session.layout);
+    print_image(image, session.layout);
     answer.session
 }
 
@@ -405,49 +385,35 @@ fn p10() {
 
 // ---- the restart
 
-// R2, and the opening after a cut: what stands is opened again.
-fn reopen(image: &mut [u8], layout: Layout) -> Session {
-    let mut trace = [0u64; TAPE];
-    let answer = driver::step_open(
-        image,
-        layout.mains,
-        layout.backups,
-        layout.blocks,
-        &mut trace,
-    );
+// What stands is opened.
+fn reopen(image: &mut [u8], layout: Layout, trace: &mut [u64]) -> Session {
+    let answer = driver::step_open(image, layout.mains, layout.backups, layout.blocks, trace);
     print_answer(b" open=", answer);
-    print_opened(image, layout);
+    print_board(image, layout);
     answer.session
 }
 
-// R5: the save cut after n orders, every store of which has arrived, and opened again. A cut after 16 or 17 may leave the epoch's
-// line as it was too, which is what a cut after 15 leaves.
+// The save of R5 cut after n orders, of which every store has arrived, what stands opened, and a save at once. A cut after 16 or 17
+// may leave the epoch's line as it was too, which is what a cut after 15 leaves.
 fn cut(before: [u8; BOARD], layout: Layout, saved: &[u64], n: u64) {
     let mut image = before;
+    let mut trace = [0u64; TAPE];
     let played = replay::crpm_replay(&mut image, saved, n);
     print_number(b"R5 cut=", played.played);
-    reopen(&mut image, layout);
+    let session = reopen(&mut image, layout, &mut trace);
+    history(&mut image, &mut trace, session, 29, 30);
 }
 
-// R5: the save of a history, and its cuts.
-fn cuts(before: [u8; BOARD], layout: Layout, saved: &[u64]) {
-    cut(before, layout, saved, 0);
-    cut(before, layout, saved, 15);
-    cut(before, layout, saved, 16);
-    cut(before, layout, saved, 18);
-}
-
-// R3 to R6, from the restart on; and R7, the save without the write of R4.
+// R3 to R7: the calls after the restart, and the cuts of their save.
 fn restarted(opened: [u8; BOARD], layout: Layout, session: Session) {
     let mut image = opened;
-    let mut other = opened;
     let mut trace = [0u64; TAPE];
     let touched = history(&mut image, &mut trace, session, 26, 28);
     let before = image;
     let saved = history(&mut image, &mut trace, touched, 28, 29);
-    cuts(before, layout, &trace);
-    history(&mut image, &mut trace, saved, 29, 30);
-    history(&mut other, &mut trace, session, 30, 31);
+    cut(before, layout, &trace, 15);
+    cut(before, layout, &trace, 16);
+    history(&mut image, &mut trace, saved, 30, 31);
 }
 
 // R1: a save, and writes after it that take every spare; then power fails, and every store has arrived. R2 opens what stands.
@@ -460,7 +426,7 @@ fn restart() {
     print(b"\n");
     history(&mut image, &mut trace, session, 16, 26);
     print(b"R2");
-    let restored = reopen(&mut image, layout);
+    let restored = reopen(&mut image, layout, &mut trace);
     restarted(image, layout, restored);
 }
 
