@@ -1,6 +1,8 @@
-// The bench cases P1 to P10 of SPECIFICATION 17, run on the library. Each line has what was measured. The file `stdout` has the
-// expected lines, worked out by hand from SPECIFICATION 17. The cuts of this history are tried by the second program (rust/,
-// `bench cases`), over every permitted image.
+// The bench cases P1 to P10 of SPECIFICATION 17, run on the library, and R1 to R7, a restart with four levels restored from all
+// spares and the first save after it (SPECIFICATION 11.2, 11.5), which crate `cases` computes (`RestoredStory`). Each line has what
+// was measured. The file `stdout` has the expected lines, worked out by hand from the specification; where it leaves the spare open
+// (10.7), a spare without a level is taken before others, and else the lowest. The cuts of P4 are tried by the second program
+// (rust/, `bench cases`), over every permitted image.
 use libc::STDOUT_FILENO;
 use model::Answer;
 use model::Layout;
@@ -18,6 +20,13 @@ const BLOCKS: u64 = 1;
 const IMAGE: usize = 1280;
 
 const IMAGE_P10: usize = 2560;
+
+// The levels and spares of the restart's board, one frame each, and the bytes of its image.
+const BOARD_MAINS: u64 = 6;
+
+const BOARD_BACKUPS: u64 = 4;
+
+const BOARD: usize = 3072;
 
 // The numbers of the tape that an opening of the history's image needs, and of the tape that the calls get.
 const OPENING: usize = 219;
@@ -90,7 +99,7 @@ fn print_saved(name: &[u8], image: &[u8], layout: Layout, main: u64) {
 
 // Prints a name and two bytes that stand side by side.
 fn print_bytes(name: &[u8], image: &[u8], at: usize)
-    requires { ⌜ at ≤ 256 ⌝ }
+    requires { ⌜ at ≤ 258 ⌝ }
 {
     print_number(name, byte_at(image, at));
     print_number(b",", byte_at(image, at + 1));
@@ -104,15 +113,70 @@ fn print_metadata(image: &[u8]) {
     print_number(b" at256=", byte_at(image, 256));
 }
 
-// Prints the metadata and the saved reads of levels 0 and 1.
+// Prints the metadata and the saved reads of levels 0 and 1; of the restart's image, the board.
 fn print_image(image: &[u8], layout: Layout) {
+    if layout.mains == BOARD_MAINS {
+        print_board(image, layout);
+        return;
+    }
     print_metadata(image);
     print_saved(b" saved=", image, layout, 0);
     print_saved(b",", image, layout, 1);
     print(b"\n");
 }
 
+// Prints a level of the board: its saved read, and the first two bytes of its working read in hexadecimal.
+fn print_level(name: &[u8], image: &[u8], layout: Layout, main: u64) {
+    let part = reads::crpm_read_working(
+        image,
+        layout.mains,
+        layout.backups,
+        layout.blocks,
+        main,
+        0,
+    );
+    print_saved(name, image, layout, main);
+    print(b":");
+    io::print_hex(STDOUT_FILENO, byte_at(part, 0), 2);
+    io::print_hex(STDOUT_FILENO, byte_at(part, 1), 2);
+}
+
+// Prints the board of the restart: the first byte of the epoch, the states of its six levels on the active line, the pairs of its
+// four spares, and the levels.
+fn print_board(image: &[u8], layout: Layout) {
+    let line = active_line(image);
+    print_number(b" epoch=", byte_at(image, 0));
+    print_bytes(b" states=", image, line);
+    print_bytes(b",", image, line + 2);
+    print_bytes(b",", image, line + 4);
+    print_bytes(b" pairs=", image, 256);
+    print_bytes(b",", image, 258);
+    print_level(b" levels=", image, layout, 0);
+    print_level(b",", image, layout, 1);
+    print_level(b",", image, layout, 2);
+    print_level(b",", image, layout, 3);
+    print_level(b",", image, layout, 4);
+    print_level(b",", image, layout, 5);
+    print(b"\n");
+}
+
+// Prints the name of a case: P1 to P10 and, from 11 on, R1 to R7.
+fn print_case(case: u64) {
+    if case <= 10 {
+        print_number(b"P", case);
+    } else {
+        print_number(b"R", case - 10);
+    }
+}
+
 // ---- small parts
+
+// Where the active line of states stands, by the epoch's first byte.
+fn active_line(image: &[u8]) -> usize
+    ensures { λ r. ⌜ r ≤ 192 ⌝ }
+{
+    if byte_at(image, 0) % 2 == 0 { 128 } else { 192 }
+}
 
 // One of the three numbers of an order, or 0 past the end of the tape.
 fn number_of(trace: &[u64], op: u64, k: u64) -> u64 {
@@ -155,8 +219,9 @@ struct Call {
     length: u64,
 }
 
-// The calls of P3 to P9, which are one history, and of P10, which are another: case, 1 for a save, level, frame, offset, length.
-const CALLS: [[u64; 6]; 16] = [
+// The calls of P3 to P9, which are one history, of P10, which are another, and of the restart: those before it (case 11) and those
+// after it. Case, 1 for a save, level, frame, offset, length.
+const CALLS: [[u64; 6]; 31] = [
     [3, 0, 0, 0, 6, 4],
     [4, 1, 0, 0, 0, 0],
     [5, 0, 0, 0, 0, 8],
@@ -173,6 +238,21 @@ const CALLS: [[u64; 6]; 16] = [
     [10, 0, 0, 3, 0, 8],
     [10, 1, 0, 0, 0, 0],
     [10, 0, 0, 1, 0, 8],
+    [11, 0, 0, 0, 0, 1],
+    [11, 0, 1, 0, 0, 1],
+    [11, 0, 2, 0, 0, 1],
+    [11, 0, 3, 0, 0, 1],
+    [11, 0, 4, 0, 0, 1],
+    [11, 1, 0, 0, 0, 0],
+    [11, 0, 0, 0, 0, 2],
+    [11, 0, 1, 0, 0, 2],
+    [11, 0, 2, 0, 0, 2],
+    [11, 0, 3, 0, 0, 2],
+    [13, 0, 4, 0, 0, 2],
+    [14, 0, 5, 0, 0, 2],
+    [15, 1, 0, 0, 0, 0],
+    [16, 1, 0, 0, 0, 0],
+    [17, 0, 4, 0, 0, 2],
 ];
 
 // The call of a row.
@@ -189,7 +269,7 @@ fn call_of(row: [u64; 6]) -> Call {
 
 // Makes a call.
 fn make(image: &mut [u8], trace: &mut [u64], session: Session, call: Call, bytes: &[u8]) -> Answer {
-    print_number(b"P", call.case);
+    print_case(call.case);
     if call.checkpoint {
         let saved = driver::step_checkpoint(image, session, trace);
         print_answer(b" save=", saved);
@@ -222,16 +302,17 @@ fn step(image: &mut [u8], trace: &mut [u64], session: Session, call: Call) -> Se
     answer.session
 }
 
-// The calls of the table from one on and below another, from a finished opening on.
-fn history(image: &mut [u8], trace: &mut [u64], opened: Session, from: usize, to: usize)
-    requires { ⌜ to ≤ 16 ⌝ }
+// The calls of the table from one on and below another, with a session; the session afterwards.
+fn history(image: &mut [u8], trace: &mut [u64], given: Session, from: usize, to: usize) -> Session
+    requires { ⌜ to ≤ 31 ⌝ }
 {
-    let mut session = opened;
+    let mut session = given;
     let mut i = from;
     while i < to {
         session = step(image, trace, session, call_of(CALLS[i]));
         i += 1;
     }
+    session
 }
 
 // ---- the other cases
@@ -302,6 +383,53 @@ fn p10() {
     history(&mut image, &mut trace, session, 11, 16);
 }
 
+// ---- the restart
+
+// What stands is opened.
+fn reopen(image: &mut [u8], layout: Layout, trace: &mut [u64]) -> Session {
+    let answer = driver::step_open(image, layout.mains, layout.backups, layout.blocks, trace);
+    print_answer(b" open=", answer);
+    print_board(image, layout);
+    answer.session
+}
+
+// The save of R5 cut after n orders, of which every store has arrived, what stands opened, and a save at once. A cut after 16 or 17
+// may leave the epoch's line as it was too, which is what a cut after 15 leaves.
+fn cut(before: [u8; BOARD], layout: Layout, saved: &[u64], n: u64) {
+    let mut image = before;
+    let mut trace = [0u64; TAPE];
+    let played = replay::crpm_replay(&mut image, saved, n);
+    print_number(b"R5 cut=", played.played);
+    let session = reopen(&mut image, layout, &mut trace);
+    history(&mut image, &mut trace, session, 29, 30);
+}
+
+// R3 to R7: the calls after the restart, and the cuts of their save.
+fn restarted(opened: [u8; BOARD], layout: Layout, session: Session) {
+    let mut image = opened;
+    let mut trace = [0u64; TAPE];
+    let touched = history(&mut image, &mut trace, session, 26, 28);
+    let before = image;
+    let saved = history(&mut image, &mut trace, touched, 28, 29);
+    cut(before, layout, &trace, 15);
+    cut(before, layout, &trace, 16);
+    history(&mut image, &mut trace, saved, 30, 31);
+}
+
+// R1: a save, and writes after it that take every spare; then power fails, and every store has arrived. R2 opens what stands.
+fn restart() {
+    let layout = Layout::new(BOARD_MAINS, BOARD_BACKUPS, BLOCKS);
+    let mut image = [7u8; BOARD];
+    let mut trace = [0u64; TAPE];
+    print(b"R1");
+    let session = open(&mut image, layout, &mut trace);
+    print(b"\n");
+    history(&mut image, &mut trace, session, 16, 26);
+    print(b"R2");
+    let restored = reopen(&mut image, layout, &mut trace);
+    restarted(image, layout, restored);
+}
+
 fn main() {
     let mut image = [7u8; IMAGE];
     let mut trace = [0u64; TAPE];
@@ -309,4 +437,5 @@ fn main() {
     let session = p2(&mut image);
     history(&mut image, &mut trace, session, 0, 11);
     p10();
+    restart();
 }

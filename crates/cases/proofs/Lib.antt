@@ -1,5 +1,11 @@
--- The bench cases, computed: what lets the checker compute, the table, how a history starts, the crash inside P4.
+-- The bench cases, computed: what lets the checker compute, the table, how a history starts and goes on, what is shown after a crash
+-- inside a checkpoint, that of P4, and the first checkpoint after a restart.
 pub mod Compute
 pub mod Table
 pub mod Starts
+pub mod Blocks
+pub mod Leads
+pub mod Shown
 pub mod Cut
+pub mod FirstLife
+pub mod Restored

@@ -11,11 +11,11 @@ use Rattle.cases.proofs.Compute.{model-rules, same, same-equal}
 
 -- ---- a test of rows
 
-agree : List Row → Bool
+unfoldable pub agree : List Row → Bool
 agree [] = true
 agree (r ∷ rs) = same (r .given) (r .expected) && agree rs
 
-agree-equal : (rs : List Row) → agree rs ≡ true → map (λ r. r .given) rs ≡ map (λ r. r .expected) rs
+pub agree-equal : (rs : List Row) → agree rs ≡ true → map (λ r. r .given) rs ≡ map (λ r. r .expected) rs
 unfolding agree
 agree-equal [] e = refl
 agree-equal (r ∷ rs) e =

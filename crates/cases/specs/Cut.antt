@@ -1,23 +1,49 @@
--- A crash inside the checkpoint of P4, which has 18 operations: what opening can show afterwards, by the number of
--- operations played. Proved in proofs/Cut.antt.
+-- A crash inside a checkpoint of 18 operations: what opening can show afterwards, by the number of operations played; and that of
+-- P4 (SPECIFICATION 17.3). Proved in proofs/Cut.antt.
+use mathlib.Core.Path.{_≡_}
 use mathlib.Core.Logic.{_≢_}
 use mathlib.Core.List.{[], _∷_, _++_}
-use lib.ListN.{replicate}
+use lib.ListN.{length, replicate}
 use Rattle.model.specs.Words.{Image}
 use Rattle.model.specs.Ops.{Trace}
 use Rattle.model.specs.Open.{openStatus}
 use Rattle.model.specs.Crash.{CrashImage}
 use Rattle.model.specs.Reference.{Page}
-use Rattle.model.specs.History.{State, start, run}
+use Rattle.model.specs.History.{State, outcome, start, step, run}
 use Rattle.model.specs.CrashSafety.{Recovers, Moment, between, during, playedAt}
 use Rattle.cases.specs.Table.{l211, fresh, longTrace, fourBytes, writeFour, checkpoint}
 
--- where the history stands before P4, and once P4 is played whole
+-- a crash at this moment of the state s may leave H
+abbrev pub MayLeave : State → Moment → Image → Type 0
+MayLeave s m H = CrashImage (s .device .durable) (playedAt (s .device) m) H
+
+-- some crash there is followed by an opening that shows the page Q
+abbrev pub CanShow : State → Moment → Page → Type 0
+CanShow s m Q = (H : Image) × MayLeave s m H × (t : Trace) × Recovers (s .device .layout) H t Q
+
+-- every crash there is followed by openings that show the page Q
+abbrev pub OnlyShows : State → Moment → Page → Type 0
+OnlyShows s m Q =
+    (H : Image) → MayLeave s m H → (t : Trace) → openStatus (s .device .layout) H t ≢ 11 → Recovers (s .device .layout) H t Q
+
+pub record EitherPage (s : State) (m : Moment) (old new : Page) : Type 0 where
+  pub canOld : CanShow s m old
+  pub canNew : CanShow s m new
+
+-- a checkpoint made in state s: before the store of the epoch only the old page is shown, from there on up to the last fence
+-- either can be, and once it is played whole only the new one
+pub record CutCheckpoint (s : State) (old new : Page) : Type 0 where
+  pub count : length (outcome (s .device) checkpoint .ops) ≡ 18
+  pub after15 : OnlyShows s (during checkpoint 15) old
+  pub after16 : EitherPage s (during checkpoint 16) old new
+  pub after17 : EitherPage s (during checkpoint 17) old new
+  pub after18 : OnlyShows (step s checkpoint) between new
+
+-- ---- P4
+
+-- where the history stands before P4
 abbrev pub beforeP4 : State
 beforeP4 = run (start l211 fresh longTrace) (writeFour ∷ [])
-
-abbrev pub afterP4 : State
-afterP4 = run (start l211 fresh longTrace) (writeFour ∷ checkpoint ∷ [])
 
 -- the page of the last checkpoint, and the page with the bytes of P3
 abbrev pub zeros : Page
@@ -26,24 +52,5 @@ zeros = replicate 512 0
 abbrev pub newBytes : Page
 newBytes = replicate 6 0 ++ fourBytes ++ replicate 502 0
 
--- a crash at this moment of the state s may leave H
-abbrev pub MayLeave : State → Moment → Image → Type 0
-MayLeave s m H = CrashImage (s .device .durable) (playedAt (s .device) m) H
-
--- some crash there is followed by an opening that shows the page Q
-abbrev pub CanShow : State → Moment → Page → Type 0
-CanShow s m Q = (H : Image) × MayLeave s m H × Recovers l211 H longTrace Q
-
--- every crash there is followed by openings that show the page Q
-abbrev pub OnlyShows : State → Moment → Page → Type 0
-OnlyShows s m Q = (H : Image) → MayLeave s m H → (t : Trace) → openStatus l211 H t ≢ 11 → Recovers l211 H t Q
-
-pub record EitherPage (s : State) (m : Moment) : Type 0 where
-  pub old : CanShow s m zeros
-  pub new : CanShow s m newBytes
-
-pub record CutP4 : Type 0 where
-  pub after15 : OnlyShows beforeP4 (during checkpoint 15) zeros
-  pub after16 : EitherPage beforeP4 (during checkpoint 16)
-  pub after17 : EitherPage beforeP4 (during checkpoint 17)
-  pub after18 : OnlyShows afterP4 between newBytes
+abbrev pub CutP4 : Type 0
+CutP4 = CutCheckpoint beforeP4 zeros newBytes

@@ -25,7 +25,7 @@ use Rattle.model.specs.History.{Call, callWrite, callCheckpoint, State, outcome
 -- ---- rows
 
 pub record Row : Type 0 where
-  -- the number of the case in SPECIFICATION 17.2
+  -- the number of the case in SPECIFICATION 17.2, or of the call in a history of its own
   pub case : ℕ
   pub given : List ℕ
   pub expected : List ℕ

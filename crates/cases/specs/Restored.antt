@@ -1,0 +1,124 @@
+-- A board that lost power and was opened again with four main segments restored from all its backup segments, and its first
+-- checkpoint after that (SPECIFICATION 11.2, 11.5): 6 main segments, 4 backup segments, 1 block.
+--
+-- The first life: a formatted image is opened; a byte is written to each of main segments 0 to 4; a checkpoint; another byte is
+-- written to each of main segments 0 to 3, which copies each of them to a backup segment first; power fails. The second life is an
+-- opening of what is left: a write to main segment 4 is refused with 9, one to main segment 5 is served, then comes a checkpoint,
+-- which turns every state to 1, and now main segment 4 can be written. Under the rule before, by which a segment that is not dirty
+-- kept its state, main segments 0 to 3 stayed in state 2 through every checkpoint until they were written, and the write to main
+-- segment 4 was refused with 9 through all of them. Proved in proofs/Restored.antt.
+use Prim.Native.Nat.{ℕ, _+_}
+use mathlib.Core.Path.{_≡_}
+use mathlib.Core.List.{List, [], _∷_, _++_, map}
+use lib.ListN.{take, drop, replicate}
+use Rattle.model.specs.declared.Layout.{Layout}
+use Rattle.model.specs.Words.{Image, Bytes}
+use Rattle.model.specs.Layout.{lineSize, pairsAt, unpaired}
+use Rattle.model.specs.Container.{activeLine}
+use Rattle.model.specs.Ops.{Trace}
+use Rattle.model.specs.Outcome.{Outcome}
+use Rattle.model.specs.Format.{container, formatted}
+use Rattle.model.specs.Open.{openStatus}
+use Rattle.model.specs.Reads.{checkpointBlock}
+use Rattle.model.specs.Reference.{Page}
+use Rattle.model.specs.History.{Call, callWrite, State, start, run, AllPermitted}
+use Rattle.model.specs.CrashSafety.{between, Recovers}
+use Rattle.cases.specs.Table.{Row, Case, sizes, longTrace, writes, checkpoint, case, follow}
+use Rattle.cases.specs.Cut.{MayLeave, CutCheckpoint}
+
+abbrev pub l641 : Layout
+l641 = sizes 6 4 1
+
+-- a trace, long enough for every opening
+abbrev pub boardTrace : Trace
+boardTrace = replicate 651 0
+
+-- the byte x written to main segment i, at its start; backup segment j is taken where one is needed
+abbrev pub put : ℕ → ℕ → ℕ → Call
+put i x j = callWrite (writes i 0 (x ∷ [])) longTrace j
+
+-- ---- the first life
+
+abbrev pub formattedBoard : State
+formattedBoard = start l641 (formatted l641) boardTrace
+
+abbrev pub firstLife : List Call
+firstLife =
+    put 0 10 0 ∷ put 1 11 0 ∷ put 2 12 0 ∷ put 3 13 0 ∷ put 4 14 0 ∷ checkpoint
+    ∷ put 0 20 0 ∷ put 1 21 1 ∷ put 2 22 2 ∷ put 3 23 3 ∷ []
+
+-- segments of which only the first byte was written, from these bytes
+abbrev pub segments : List ℕ → List ℕ
+segments [] = []
+segments (x ∷ xs) = (x ∷ replicate 255 0) ++ segments xs
+
+-- what is left
+abbrev pub leftBoard : Image
+leftBoard =
+    container l641 1 (replicate lineSize 0) (2 ∷ 2 ∷ 2 ∷ 2 ∷ 1 ∷ 0 ∷ replicate 58 0) (0 ∷ 1 ∷ 2 ∷ 3 ∷ replicate 60 unpaired)
+    (segments (20 ∷ 21 ∷ 22 ∷ 23 ∷ 14 ∷ 0 ∷ []) ++ segments (10 ∷ 11 ∷ 12 ∷ 13 ∷ []))
+
+-- ---- the second life
+
+abbrev pub restoredBoard : State
+restoredBoard = start l641 leftBoard boardTrace
+
+-- the active states of the six main segments, and the pairs of the four backup segments
+abbrev pub board : State → List ℕ
+board s = take 6 (drop (activeLine (s .device .image)) (s .device .image)) ++ take 4 (drop pairsAt (s .device .image))
+
+abbrev pub onBoard : Outcome → State → List ℕ
+onBoard o s = board s
+
+-- its calls, in their order: status, number of operations, states, pairs
+unfoldable pub story : List Case
+story =
+    case 1 (put 4 34 0) onBoard ((9 ∷ 0 ∷ []) ++ (2 ∷ 2 ∷ 2 ∷ 2 ∷ 1 ∷ 0 ∷ []) ++ (0 ∷ 1 ∷ 2 ∷ 3 ∷ []))
+    ∷ case 2 (put 5 35 0) onBoard ((0 ∷ 1 ∷ []) ++ (2 ∷ 2 ∷ 2 ∷ 2 ∷ 1 ∷ 0 ∷ []) ++ (0 ∷ 1 ∷ 2 ∷ 3 ∷ []))
+    ∷ case 3 checkpoint onBoard ((0 ∷ 18 ∷ []) ++ (1 ∷ 1 ∷ 1 ∷ 1 ∷ 1 ∷ 1 ∷ []) ++ (0 ∷ 1 ∷ 2 ∷ 3 ∷ []))
+    ∷ case 4 (put 4 34 0) onBoard ((0 ∷ 43 ∷ []) ++ (1 ∷ 1 ∷ 1 ∷ 1 ∷ 2 ∷ 1 ∷ []) ++ (4 ∷ 1 ∷ 2 ∷ 3 ∷ []))
+    ∷ []
+
+-- the same without the write to main segment 5, which stays without a checkpoint
+unfoldable pub shorter : List Case
+shorter =
+    case 1 (put 4 34 0) onBoard ((9 ∷ 0 ∷ []) ++ (2 ∷ 2 ∷ 2 ∷ 2 ∷ 1 ∷ 0 ∷ []) ++ (0 ∷ 1 ∷ 2 ∷ 3 ∷ []))
+    ∷ case 2 checkpoint onBoard ((0 ∷ 14 ∷ []) ++ (1 ∷ 1 ∷ 1 ∷ 1 ∷ 1 ∷ 0 ∷ []) ++ (0 ∷ 1 ∷ 2 ∷ 3 ∷ []))
+    ∷ []
+
+-- the rows of the calls have what is expected
+abbrev pub AsExpected : List Case → Type 0
+AsExpected cs = map (λ (r : Row). r .given) (follow cs restoredBoard) ≡ map (λ (r : Row). r .expected) (follow cs restoredBoard)
+
+abbrev pub calls : List Case → List Call
+calls cs = map (λ (c : Case). c .call) cs
+
+-- where it stands before the checkpoint; and the page of the first life's checkpoint, and that of this one
+abbrev pub beforeCheckpoint : State
+beforeCheckpoint = run restoredBoard (put 4 34 0 ∷ put 5 35 0 ∷ [])
+
+abbrev pub oldPage : Page
+oldPage = segments (10 ∷ 11 ∷ 12 ∷ 13 ∷ 14 ∷ 0 ∷ [])
+
+abbrev pub newPage : Page
+newPage = segments (10 ∷ 11 ∷ 12 ∷ 13 ∷ 14 ∷ 35 ∷ [])
+
+-- ---- the story
+
+pub record RestoredStory : Type 0 where
+  -- the first life is a history that demand 3 speaks of, and a crash after it may leave this image
+  pub firstBytes : Bytes (formatted l641)
+  pub firstOpens : openStatus l641 (formatted l641) boardTrace ≡ 0
+  pub firstPermitted : AllPermitted formattedBoard firstLife
+  pub left : MayLeave (run formattedBoard firstLife) between leftBoard
+  -- so is the second; its opening shows the checkpoint of the first, and leaves these states and pairs
+  pub bytes : Bytes leftBoard
+  pub opens : Recovers l641 leftBoard boardTrace oldPage
+  pub restored : board restoredBoard ≡ (2 ∷ 2 ∷ 2 ∷ 2 ∷ 1 ∷ 0 ∷ []) ++ (0 ∷ 1 ∷ 2 ∷ 3 ∷ [])
+  -- its calls are permitted and answer so; the crash inside its checkpoint
+  pub permitted : AllPermitted restoredBoard (calls story)
+  pub answered : AsExpected story
+  pub cut : CutCheckpoint beforeCheckpoint oldPage newPage
+  -- without the write to main segment 5
+  pub untouched : AsExpected shorter
+  pub empty : checkpointBlock l641 (run restoredBoard (calls shorter) .device .image) 5 0 ≡ []
