@@ -1,6 +1,6 @@
 -- What came last may arrive alone, where no line that came before must have arrived.
 use Prim.Native.Nat.{ℕ}
-use mathlib.Core.Path.{_≡_, sym, ap, _∙_}
+use mathlib.Core.Path.{sym, ap, _∙_}
 use mathlib.Core.Logic.{_⊎_, inl, inr}
 use mathlib.Core.List.{_++_}
 use native.Mathlib.Omega.{arith}

@@ -18,7 +18,7 @@ use Rattle.model.specs.Crash.{KeepsDurable, CrashImage}
 use Rattle.model.specs.CrashExact.{hasFence, floorFrom, floor}
 use Rattle.model.specs.Reference.{Page}
 use Rattle.model.specs.History.{State, start, deviceStep, step, run, AllPermitted}
-use Rattle.model.specs.CrashSafety.{during, PermittedAt, playedAt, Recovers}
+use Rattle.model.specs.CrashSafety.{PermittedAt, playedAt, Recovers}
 use Rattle.model.specs.FlushDurable.{imageAt}
 use Rattle.model.proofs.Laws.Crash.Floor.{floor-durable}
 use Rattle.model.proofs.Laws.Crash.Images.{crash-after}
@@ -27,10 +27,10 @@ use Rattle.model.proofs.Argument.Settled.{Off}
 use Rattle.model.proofs.Argument.Runs.{each-cat, clwbs-none}
 use Rattle.cases.specs.Table.{l211, longTrace, checkpoint, aWord}
 use Rattle.cases.proofs.Compute.{model-rules, same, same-equal, small, small-bytes}
+use Rattle.cases.proofs.Shown.{shows}
 use Rattle.cases.proofs.Starts.{standing, started}
 use Rattle.faults.specs.Unflushed.{once, twoWrites, edited, ended, BrokenOff}
 use Rattle.faults.proofs.Alone.{arrives-alone}
-use Rattle.faults.proofs.Shown.{shows}
 
 abbrev old : Page
 old = replicate 256 40 ++ replicate 256 0
@@ -159,7 +159,7 @@ crash = subst (λ (X : Ops). CrashImage once X (board 1 (aWord ++ replicate 248 
 
 mixed : Recovers l211 (board 1 (aWord ++ replicate 248 40)) longTrace ((aWord ++ replicate 248 40) ++ replicate 256 0)
 unfolding model-rules same small
-mixed = shows (board 1 (aWord ++ replicate 248 40)) _ refl refl (same-equal _ _ refl)
+mixed = shows l211 (board 1 (aWord ++ replicate 248 40)) longTrace _ refl refl refl
 
 pub broken-off : BrokenOff
 broken-off = record {

@@ -11,7 +11,7 @@ use lib.ListN.{length, take, replicate}
 use Rattle.model.specs.Words.{Image, byteAt, wordOf, wordAt, littleEndian}
 use Rattle.model.specs.Layout.{mainsAt, unpaired, inRange, sizesOk, imageSize}
 use Rattle.model.specs.Status.{firstError}
-use Rattle.model.specs.Container.{activeLine, checkpointBytes, headerOk}
+use Rattle.model.specs.Container.{headerOk}
 use Rattle.model.specs.Ops.{Ops, store, clwb, sfence, replay, stores}
 use Rattle.model.specs.Format.{container, formatted, formatOutcome}
 use Rattle.model.specs.Open.{openStatus, openOutcome}
@@ -19,7 +19,6 @@ use Rattle.model.specs.Crash.{KeepsDurable, AgreeOn, CrashImage}
 use Rattle.model.specs.CrashExact.{hasFence, floorFrom, floor}
 use Rattle.model.specs.Reference.{Page}
 use Rattle.model.specs.History.{State, run, AllPermitted}
-use Rattle.model.specs.CrashSafety.{Recovers, none}
 use Rattle.model.specs.FlushDurable.{formatStores}
 use Rattle.cases.specs.Table.{l211, longTrace, aWord}
 use Rattle.faults.specs.Faults.{twoCalls}
@@ -30,11 +29,10 @@ use Rattle.model.proofs.Laws.Crash.Images.{durable-unfenced, every-combination}
 use Rattle.model.proofs.Argument.Persist.{Misses}
 use Rattle.model.proofs.Argument.Settled.{Off}
 use Rattle.model.proofs.Argument.Runs.{each-cat}
-use Rattle.model.proofs.Sisters.{opening-safety}
 use Rattle.model.proofs.FlushDurable.{format-by-stores}
 use Rattle.cases.proofs.Compute.{model-rules, same, same-equal, small, small-bytes}
+use Rattle.cases.proofs.Shown.{shows}
 use Rattle.cases.proofs.Starts.{standing, started}
-use Rattle.faults.proofs.Shown.{shows}
 use Rattle.faults.proofs.Alone.{arrives-alone}
 use Rattle.faults.proofs.BrokenOff.{broken-off}
 
@@ -154,10 +152,10 @@ half-old : HalfOld
 unfolding model-rules same small
 half-old = record {
   formats = format-by-stores l211 older refl;
-  before = shows older _ refl refl (same-equal _ _ refl);
+  before = shows l211 older longTrace _ refl refl refl;
   left = left;
   crash = subst (λ (X : Ops). CrashImage older X left) (sym parts) (subst (CrashImage older (metadata ++ block)) arrives (arrives-alone older metadata block apart));
-  shown = shows left _ refl refl (same-equal _ _ refl);
+  shown = shows l211 left longTrace _ refl refl refl;
 }
 
 pub unflushed : Unflushed
