@@ -1,8 +1,8 @@
 // The bench cases P1 to P10 of SPECIFICATION 17, run on the library, and R1 to R7, a restart with four levels restored from all
-// spares and the first save after it (SPECIFICATION 11.2, 11.5), which crate `cases` computes (`RestoredStory`). Each line has what
+// spares and the first save after it (SPECIFICATION 17.4), which crate `cases` computes (`RestoredStory`). Each line has what
 // was measured. The file `stdout` has the expected lines, worked out by hand from the specification; where it leaves the spare open
-// (10.7), a spare without a level is taken before others, and else the lowest. The cuts of P4 are tried by the second program
-// (rust/, `bench cases`), over every permitted image.
+// (10.7), a spare without a level is taken before others, and else the lowest. The cuts of these calls are tried by the second
+// program (rust/, `bench cases` and `restored levels`), over every permitted image.
 use libc::STDOUT_FILENO;
 use model::Answer;
 use model::Layout;

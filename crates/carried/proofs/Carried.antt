@@ -1,17 +1,15 @@
 -- A call of the C interface is one of the library's, since nothing is lost in the words of a session; so demands 2 and 3 hold of C
 -- programs that carry the operations out.
 use Prim.Native.Nat.{ℕ}
-use mathlib.Core.Path.{_≡_, sym, ap, _∙_, subst}
+use mathlib.Core.Path.{ap, _∙_, subst}
 use Rattle.model.specs.declared.Session.{Session}
-use Rattle.model.specs.Words.{Image}
 use Rattle.model.specs.Ops.{Trace}
 use Rattle.model.specs.Outcome.{Outcome}
-use Rattle.model.specs.History.{Call}
 use Rattle.interface.specs.Interface.{Words, sessionIn, returned, Returns}
 use Rattle.interface.proofs.WordsLaws.{session-words}
-use Rattle.driver.specs.Stepped.{Report, Reports, Called, OfLibrary}
-use Rattle.driver.proofs.Driven.{driven-safety, driven-opening-safety}
-use Rattle.carried.specs.Carried.{reportIn, Exported, opens, writes, checkpoints, CarriedSafety}
+use Rattle.driver.specs.Stepped.{Reports, Called, OfLibrary}
+use Rattle.driver.proofs.Driven.{driven-everywhere, driven-safety, driven-opening-safety}
+use Rattle.carried.specs.Carried.{reportIn, Exported, opens, writes, checkpoints, CarriedSafety, CarriedEverywhere}
 
 returned-reports : (o : Outcome) (T : Trace) (number : ℕ) (v : Words) (t : Trace) (ops : ℕ) → Returns (returned T o) number v t ops
     → Reports o T (reportIn number v ops) t
@@ -26,3 +24,6 @@ exported-called I s c q _ (checkpoints u e T number v t ops r) =
 
 pub carried-safety : CarriedSafety
 carried-safety = (driven-safety Exported exported-called, driven-opening-safety Exported exported-called)
+
+pub carried-everywhere : CarriedEverywhere
+carried-everywhere = driven-everywhere Exported exported-called

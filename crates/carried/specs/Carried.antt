@@ -13,7 +13,7 @@ use Rattle.model.specs.Write.{WriteArgs}
 use Rattle.model.specs.History.{Call, callOpen, callWrite, callCheckpoint}
 use Rattle.interface.specs.Interface.{Words, sessionIn, openReturned, checkpointReturned, Returns, WriteReturns}
 use Rattle.driver.specs.Stepped.{Report}
-use Rattle.driver.specs.Driven.{DrivenSafety, DrivenOpeningSafety}
+use Rattle.driver.specs.Driven.{DrivenEverywhere, DrivenSafety, DrivenOpeningSafety}
 
 -- what an exported call reports: the number that it returned, the session that stands in the words that it left, and the
 -- number of operations
@@ -34,3 +34,7 @@ pub data Exported (I : Image) (s : Session) : Call → Report → Trace → Type
 -- demands 2 and 3 of such programs; openings alone
 abbrev pub CarriedSafety : Type 0
 CarriedSafety = DrivenSafety Exported × DrivenOpeningSafety Exported
+
+-- and whatever holds wherever a history stands
+abbrev pub CarriedEverywhere : Type 1
+CarriedEverywhere = DrivenEverywhere Exported

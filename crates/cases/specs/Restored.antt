@@ -1,5 +1,5 @@
 -- A board that lost power and was opened again with four main segments restored from all its backup segments, and its first
--- checkpoint after that (SPECIFICATION 11.2, 11.5): 6 main segments, 4 backup segments, 1 block.
+-- checkpoint after that (SPECIFICATION 17.4): 6 main segments, 4 backup segments, 1 block.
 --
 -- The first life: a formatted image is opened; a byte is written to each of main segments 0 to 4; a checkpoint; another byte is
 -- written to each of main segments 0 to 3, which copies each of them to a backup segment first; power fails. The second life is an

@@ -1,5 +1,4 @@
 -- A program that makes call after call runs a permitted history, so demands 2 and 3 hold of the code, however the calls are made.
-use Prim.Native.Nat.{ℕ}
 use mathlib.Core.Path.{_≡_, refl, sym, ap, _∙_, subst}
 use mathlib.Core.Logic.{_≢_}
 use mathlib.Core.List.{List, [], _++_, append-nil}
@@ -14,13 +13,13 @@ use Rattle.model.specs.Outcome.{outcomeOf}
 use Rattle.model.specs.Open.{openStatus, openOutcome}
 use Rattle.model.specs.Crash.{CrashImage}
 use Rattle.model.specs.Reference.{Page, modelStep}
-use Rattle.model.specs.History.{Call, callOpen, Device, State, outcome, deviceStep, step, run, start, openedImage, replayedImage, AllPermitted}
+use Rattle.model.specs.History.{Call, callOpen, Device, State, outcome, deviceStep, step, run, start, openedImage, AllPermitted}
 use Rattle.model.specs.CrashSafety.{Moment, PermittedAt, playedAt, CutOpenings, Reads, Recovers}
 use Rattle.model.specs.CrashSafety as model
 use Rattle.model.proofs.CrashSafety.{crash-safety}
 use Rattle.model.proofs.Sisters.{reads-follow-model, opening-safety}
 use Rattle.driver.specs.Stepped.{Report, Calls, Called, OfLibrary, Stepped}
-use Rattle.driver.specs.Driven.{savedModel, opened, after, Driven, done, next, Made, rests, makes, CutDriven, none, again, ShowsAfter, DrivenSafety, DrivenOpeningSafety}
+use Rattle.driver.specs.Driven.{savedModel, opened, after, Driven, done, next, Made, rests, makes, CutDriven, none, again, DrivenEverywhere, ShowsAfter, DrivenSafety, DrivenOpeningSafety}
 use Rattle.driver.proofs.SteppedLaws.{called-carried, stepped-device}
 
 -- ---- the program's state is the history's
@@ -119,27 +118,28 @@ module _ (C : Calls) (made : OfLibrary C) where
       let g = made (s .device .image) (s .device .session) c r t k in
       ((g .0, omega (arith, h, g .1 .2)), ap (λ (X : Ops). s .device .played ++ X) (sym (called-carried (s .device) c r t g p (omega (arith, h)))))
 
-  -- DEMANDS 2 AND 3 OF THE CODE
-  pub driven-safety : DrivenSafety C
-  driven-safety l I T b x r t I₁ k ok cs s d =
+  -- where a program stands, a history does
+  pub driven-everywhere : DrivenEverywhere C
+  driven-everywhere P holds l I T b x r t I₁ k ok cs s d =
       let g = by-library k in
-      let first : openStatus l I T ≡ 0 = sym (opened-status l I x T r t (g .0)) ∙ ok in
       let e = opened-starts l I x T r t I₁ g in
       let w = driven-runs (opened l I r I₁) s cs d in
-      let permitted : AllPermitted (start l I T) cs = subst (λ (h : State). AllPermitted h cs) (sym e) (w .0) in
-      let stands : run (start l I T) cs ≡ s = ap (λ (h : State). run h cs) e ∙ w .1 in (
-        subst (λ (h : State). Reads (h .device .layout) (h .device .image) (h .model .working) (h .model .checkpoint)) stands
-            (reads-follow-model l I T b first cs permitted),
-        λ m M made H c.
-            let at = made-moment s m M made in
-            let safe = crash-safety l I T b first cs permitted m in
-            shows-after (s .device .layout) H (model.MayShow s m) (λ H′ o T′ ne.
-            subst (λ (h : State). PermittedAt (h .device) m → CrashImage (h .device .durable) (playedAt (h .device) m) H
-            → CutOpenings CrashImage (h .device .layout) H H′ → openStatus (h .device .layout) H′ T′ ≢ 11
-            → (Q : Page) × model.MayShow h m Q × Recovers (h .device .layout) H′ T′ Q × Bytes H′) stands
-            (λ pm c o ne. safe pm H c H′ o T′ ne)
-            (at .0) (subst (λ (X : Ops). CrashImage (s .device .durable) X H) (sym (at .1)) c) o ne),
-      )
+      subst P (ap (λ (h : State). run h cs) e ∙ w .1)
+      (holds l I T b (sym (opened-status l I x T r t (g .0)) ∙ ok) cs (subst (λ (h : State). AllPermitted h cs) (sym e) (w .0)))
+
+  -- DEMANDS 2 AND 3 OF THE CODE
+  pub driven-safety : DrivenSafety C
+  driven-safety l I T b x r t I₁ k ok cs s d = (
+    driven-everywhere (λ h. Reads (h .device .layout) (h .device .image) (h .model .working) (h .model .checkpoint)) reads-follow-model l I T b x r t I₁ k ok cs s d,
+    λ m M made H c.
+        let at = made-moment s m M made in
+        shows-after (s .device .layout) H (model.MayShow s m) (λ H′ o T′ ne.
+        driven-everywhere (λ h. PermittedAt (h .device) m → CrashImage (h .device .durable) (playedAt (h .device) m) H
+        → CutOpenings CrashImage (h .device .layout) H H′ → openStatus (h .device .layout) H′ T′ ≢ 11
+        → (Q : Page) × model.MayShow h m Q × Recovers (h .device .layout) H′ T′ Q × Bytes H′)
+        (λ l I t b h cs permitted pm c o ne. crash-safety l I t b h cs permitted m pm H c H′ o T′ ne) l I T b x r t I₁ k ok cs s d
+        (at .0) (subst (λ (X : Ops). CrashImage (s .device .durable) X H) (sym (at .1)) c) o ne),
+  )
 
   -- the same of openings alone
   pub driven-opening-safety : DrivenOpeningSafety C
@@ -149,5 +149,11 @@ module _ (C : Calls) (made : OfLibrary C) where
       (checkpointBytes l I (activeLine I), refl, y .0, y .1))
 
 -- calls of the library itself, as this crate's functions make them
+called : OfLibrary Called
+called I s c r t k = k
+
 pub called-safety : DrivenSafety Called × DrivenOpeningSafety Called
-called-safety = (driven-safety Called (λ I s c r t k. k), driven-opening-safety Called (λ I s c r t k. k))
+called-safety = (driven-safety Called called, driven-opening-safety Called called)
+
+pub called-everywhere : DrivenEverywhere Called
+called-everywhere = driven-everywhere Called called

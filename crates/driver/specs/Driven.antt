@@ -1,5 +1,5 @@
 -- Programs that open a container and then make call after call, each on the image and the session that the last one left;
--- and demands 2 and 3 said of them (`DrivenSafety`), for each way C of making the calls: by the library (`Called`), or by the
+-- and what holds of histories said of them (`DrivenEverywhere`), demands 2 and 3 whole (`DrivenSafety`), for each way C of making the calls: by the library (`Called`), or by the
 -- C interface (`Exported` of crate carried). Where such a program stands is said in terms of the code: the images that stood, the
 -- sessions that were answered, the operations read from the traces and carried out, and a reference model that is fed whether each
 -- call was served by its number. The call in which power failed, the openings that were cut and the last one are calls that the
@@ -19,7 +19,7 @@ use Rattle.model.specs.Ops.{Ops, Trace}
 use Rattle.model.specs.Crash.{CrashImage}
 use Rattle.model.specs.Reference.{Page, Model, modelStep}
 use Rattle.model.specs.History.{Call, callOpen, State}
-use Rattle.model.specs.CrashSafety.{Moment, between, during, MayShow, Reads}
+use Rattle.model.specs.CrashSafety.{Moment, between, during, MayShow, Reads, InEveryHistory}
 use Rattle.driver.specs.Stepped.{Report, Calls, carried, Stepped}
 
 -- both pages hold the checkpoint of the image I
@@ -65,6 +65,17 @@ pub data CutDriven (C : Calls) (l : Layout) : Image → Image → Type 0 where
   none : {H : Image} → CutDriven C l H H
   again : {H H′ H″ : Image} (s : Session) (T : Trace) (p : ℕ) (r : Report) (t : Trace) → C H s (callOpen l T) r t
       → r .number ≢ 11 → p ≤ r .ops → CrashImage H (carried t p) H′ → CutDriven C l H′ H″ → CutDriven C l H H″
+
+-- whatever holds wherever a history stands holds wherever such a program does: model's statements over histories (Sisters, States,
+-- FreeBackups) are so statements about the code
+abbrev pub DrivenEverywhere : Calls → Type 1
+DrivenEverywhere C =
+    (P : State → Type 0) → InEveryHistory P
+    -- an opening of any image, with any sizes and any trace, that is served and carried out
+    → (l : Layout) (I : Image) (T : Trace) → Bytes I
+    → (x : Session) (r : Report) (t : Trace) (I₁ : Image) → Stepped C I x (callOpen l T) r t I₁ → r .number ≡ 0
+    -- then any steps, which lead to the state s
+    → (cs : List Call) (s : State) → Driven C (opened l I r I₁) cs s → P s
 
 -- after the crash image H: any number of openings that are cut, which leave H′, and one that is not. It is served, and both
 -- reads of the image that it leaves give a page Q of which May holds; H′ are bytes, and the pages with which a program starts
