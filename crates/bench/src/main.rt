@@ -1,8 +1,8 @@
 // The bench cases P1 to P10 of SPECIFICATION 17, run on the library, and R1 to R7, a restart with four levels restored from all
 // spares and the first save after it (SPECIFICATION 17.4), which crate `cases` computes (`RestoredStory`). Each line has what
 // was measured. The file `stdout` has the expected lines, worked out by hand from the specification; where it leaves the spare open
-// (10.7), a spare without a level is taken before others, and else the lowest. The cuts of these calls are tried by the second
-// program (rust/, `bench cases` and `restored levels`), over every permitted image.
+// (10.7), a spare without a level is taken before others, and else the lowest. The cuts of P4, and those of a restart like this one, are
+// tried by the second program (rust/, `bench cases` and `restored levels`), over every permitted image.
 use libc::STDOUT_FILENO;
 use model::Answer;
 use model::Layout;
@@ -393,15 +393,15 @@ fn reopen(image: &mut [u8], layout: Layout, trace: &mut [u64]) -> Session {
     answer.session
 }
 
-// The save of R5 cut after n orders, of which every store has arrived, what stands opened, and a save at once. A cut after 16 or 17
-// may leave the epoch's line as it was too, which is what a cut after 15 leaves.
+// The save of R5 cut after n orders, every store of which has arrived. What stands is opened, then come a save (R6) and the write of
+// R7. A cut after 16 or 17 may leave the epoch's line as it was too, which is what a cut after 15 leaves.
 fn cut(before: [u8; BOARD], layout: Layout, saved: &[u64], n: u64) {
     let mut image = before;
     let mut trace = [0u64; TAPE];
     let played = replay::crpm_replay(&mut image, saved, n);
     print_number(b"R5 cut=", played.played);
     let session = reopen(&mut image, layout, &mut trace);
-    history(&mut image, &mut trace, session, 29, 30);
+    history(&mut image, &mut trace, session, 29, 31);
 }
 
 // R3 to R7: the calls after the restart, and the cuts of their save.

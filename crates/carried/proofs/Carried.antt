@@ -8,8 +8,8 @@ use Rattle.model.specs.Outcome.{Outcome}
 use Rattle.interface.specs.Interface.{Words, sessionIn, returned, Returns}
 use Rattle.interface.proofs.WordsLaws.{session-words}
 use Rattle.driver.specs.Stepped.{Reports, Called, OfLibrary}
-use Rattle.driver.proofs.Driven.{driven-everywhere, driven-safety, driven-opening-safety}
-use Rattle.carried.specs.Carried.{reportIn, Exported, opens, writes, checkpoints, CarriedSafety, CarriedEverywhere}
+use Rattle.driver.proofs.Driven.{driven-histories, driven-safety, driven-opening-safety}
+use Rattle.carried.specs.Carried.{reportIn, Exported, opens, writes, checkpoints, CarriedSafety, CarriedHistories}
 
 returned-reports : (o : Outcome) (T : Trace) (number : ℕ) (v : Words) (t : Trace) (ops : ℕ) → Returns (returned T o) number v t ops
     → Reports o T (reportIn number v ops) t
@@ -25,5 +25,5 @@ exported-called I s c q _ (checkpoints u e T number v t ops r) =
 pub carried-safety : CarriedSafety
 carried-safety = (driven-safety Exported exported-called, driven-opening-safety Exported exported-called)
 
-pub carried-everywhere : CarriedEverywhere
-carried-everywhere = driven-everywhere Exported exported-called
+pub carried-histories : CarriedHistories
+carried-histories = driven-histories Exported exported-called

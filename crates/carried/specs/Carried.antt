@@ -13,7 +13,7 @@ use Rattle.model.specs.Write.{WriteArgs}
 use Rattle.model.specs.History.{Call, callOpen, callWrite, callCheckpoint}
 use Rattle.interface.specs.Interface.{Words, sessionIn, openReturned, checkpointReturned, Returns, WriteReturns}
 use Rattle.driver.specs.Stepped.{Report}
-use Rattle.driver.specs.Driven.{DrivenEverywhere, DrivenSafety, DrivenOpeningSafety}
+use Rattle.driver.specs.Driven.{DrivenHistories, DrivenSafety, DrivenOpeningSafety}
 
 -- what an exported call reports: the number that it returned, the session that stands in the words that it left, and the
 -- number of operations
@@ -35,6 +35,6 @@ pub data Exported (I : Image) (s : Session) : Call → Report → Trace → Type
 abbrev pub CarriedSafety : Type 0
 CarriedSafety = DrivenSafety Exported × DrivenOpeningSafety Exported
 
--- and whatever holds wherever a history stands
-abbrev pub CarriedEverywhere : Type 1
-CarriedEverywhere = DrivenEverywhere Exported
+-- their calls are histories
+abbrev pub CarriedHistories : Type 0
+CarriedHistories = DrivenHistories Exported

@@ -106,6 +106,13 @@ all-permitted = (
   ),
 )
 
+shorter-permitted : AllPermitted (standing l641 restored oldPage) (calls shorter)
+unfolding model-rules shorter small
+shorter-permitted = (
+  (small-bytes (34 ∷ []) refl, λ served needs. absurd (nine served)),
+  (tt, ((small-bytes (34 ∷ []) refl, λ served needs. (lit< tt, inr (not-two _ refl))), tt)),
+)
+
 board-is : board (standing l641 restored oldPage) ≡ 2 ∷ 2 ∷ 2 ∷ 2 ∷ 1 ∷ 0 ∷ [] ++ 0 ∷ 1 ∷ 2 ∷ 3 ∷ []
 unfolding model-rules
 board-is = refl
@@ -218,6 +225,7 @@ restored-story = record {
     after17 = either-17;
     after18 = shows-after before holds newPage saved;
   });
+  untouchedPermitted = subst (λ (s : State). AllPermitted s (calls shorter)) (sym starts) shorter-permitted;
   untouched = answered shorter shorter-agrees;
   empty = ap (λ (s : State). checkpointBlock l641 (run s (calls shorter) .device .image) 5 0) starts ∙ no-part;
 }

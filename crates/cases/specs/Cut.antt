@@ -30,8 +30,8 @@ pub record EitherPage (s : State) (m : Moment) (old new : Page) : Type 0 where
   pub canOld : CanShow s m old
   pub canNew : CanShow s m new
 
--- a checkpoint made in state s: before the store of the epoch only the old page is shown, from there on up to the last fence
--- either can be, and once it is played whole only the new one
+-- a checkpoint of 18 operations made in state s: just before the store of the epoch only the old page is shown, from there on up to
+-- the last fence either can be, and once it is played whole only the new one
 pub record CutCheckpoint (s : State) (old new : Page) : Type 0 where
   pub count : length (outcome (s .device) checkpoint .ops) ≡ 18
   pub after15 : OnlyShows s (during checkpoint 15) old

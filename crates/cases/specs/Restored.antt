@@ -3,10 +3,8 @@
 --
 -- The first life: a formatted image is opened; a byte is written to each of main segments 0 to 4; a checkpoint; another byte is
 -- written to each of main segments 0 to 3, which copies each of them to a backup segment first; power fails. The second life is an
--- opening of what is left: a write to main segment 4 is refused with 9, one to main segment 5 is served, then comes a checkpoint,
--- which turns every state to 1, and now main segment 4 can be written. Under the rule before, by which a segment that is not dirty
--- kept its state, main segments 0 to 3 stayed in state 2 through every checkpoint until they were written, and the write to main
--- segment 4 was refused with 9 through all of them. Proved in proofs/Restored.antt.
+-- opening of what is left. A write to main segment 4 is refused with 9, and one to main segment 5 is served. Then comes a checkpoint,
+-- which turns every state to 1, and now main segment 4 can be written. Proved in proofs/Restored.antt.
 use Prim.Native.Nat.{ℕ, _+_}
 use mathlib.Core.Path.{_≡_}
 use mathlib.Core.List.{List, [], _∷_, _++_, map}
@@ -84,6 +82,7 @@ unfoldable pub shorter : List Case
 shorter =
     case 1 (put 4 34 0) onBoard ((9 ∷ 0 ∷ []) ++ (2 ∷ 2 ∷ 2 ∷ 2 ∷ 1 ∷ 0 ∷ []) ++ (0 ∷ 1 ∷ 2 ∷ 3 ∷ []))
     ∷ case 2 checkpoint onBoard ((0 ∷ 14 ∷ []) ++ (1 ∷ 1 ∷ 1 ∷ 1 ∷ 1 ∷ 0 ∷ []) ++ (0 ∷ 1 ∷ 2 ∷ 3 ∷ []))
+    ∷ case 3 (put 4 34 0) onBoard ((0 ∷ 43 ∷ []) ++ (1 ∷ 1 ∷ 1 ∷ 1 ∷ 2 ∷ 0 ∷ []) ++ (4 ∷ 1 ∷ 2 ∷ 3 ∷ []))
     ∷ []
 
 -- the rows of the calls have what is expected
@@ -120,5 +119,6 @@ pub record RestoredStory : Type 0 where
   pub answered : AsExpected story
   pub cut : CutCheckpoint beforeCheckpoint oldPage newPage
   -- without the write to main segment 5
+  pub untouchedPermitted : AllPermitted restoredBoard (calls shorter)
   pub untouched : AsExpected shorter
   pub empty : checkpointBlock l641 (run restoredBoard (calls shorter) .device .image) 5 0 ≡ []

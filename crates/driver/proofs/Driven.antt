@@ -14,12 +14,12 @@ use Rattle.model.specs.Open.{openStatus, openOutcome}
 use Rattle.model.specs.Crash.{CrashImage}
 use Rattle.model.specs.Reference.{Page, modelStep}
 use Rattle.model.specs.History.{Call, callOpen, Device, State, outcome, deviceStep, step, run, start, openedImage, AllPermitted}
-use Rattle.model.specs.CrashSafety.{Moment, PermittedAt, playedAt, CutOpenings, Reads, Recovers}
+use Rattle.model.specs.CrashSafety.{Moment, PermittedAt, playedAt, CutOpenings, Reads, Recovers, InEveryHistory}
 use Rattle.model.specs.CrashSafety as model
 use Rattle.model.proofs.CrashSafety.{crash-safety}
 use Rattle.model.proofs.Sisters.{reads-follow-model, opening-safety}
 use Rattle.driver.specs.Stepped.{Report, Calls, Called, OfLibrary, Stepped}
-use Rattle.driver.specs.Driven.{savedModel, opened, after, Driven, done, next, Made, rests, makes, CutDriven, none, again, DrivenEverywhere, ShowsAfter, DrivenSafety, DrivenOpeningSafety}
+use Rattle.driver.specs.Driven.{savedModel, opened, after, Driven, done, next, Made, rests, makes, CutDriven, none, again, DrivenHistories, ShowsAfter, DrivenSafety, DrivenOpeningSafety}
 use Rattle.driver.proofs.SteppedLaws.{called-carried, stepped-device}
 
 -- ---- the program's state is the history's
@@ -118,23 +118,31 @@ module _ (C : Calls) (made : OfLibrary C) where
       let g = made (s .device .image) (s .device .session) c r t k in
       ((g .0, omega (arith, h, g .1 .2)), ap (λ (X : Ops). s .device .played ++ X) (sym (called-carried (s .device) c r t g p (omega (arith, h)))))
 
-  -- where a program stands, a history does
-  pub driven-everywhere : DrivenEverywhere C
-  driven-everywhere P holds l I T b x r t I₁ k ok cs s d =
+  -- THE PROGRAM'S CALLS are a history
+  pub driven-histories : DrivenHistories C
+  driven-histories l I T x r t I₁ k ok cs s d =
       let g = by-library k in
       let e = opened-starts l I x T r t I₁ g in
-      let w = driven-runs (opened l I r I₁) s cs d in
-      subst P (ap (λ (h : State). run h cs) e ∙ w .1)
-      (holds l I T b (sym (opened-status l I x T r t (g .0)) ∙ ok) cs (subst (λ (h : State). AllPermitted h cs) (sym e) (w .0)))
+      let w = driven-runs (opened l I r I₁) s cs d in (
+        sym (opened-status l I x T r t (g .0)) ∙ ok,
+        subst (λ (h : State). AllPermitted h cs) (sym e) (w .0),
+        ap (λ (h : State). run h cs) e ∙ w .1,
+        λ c q u m. let y = made (s .device .image) (s .device .session) c q u m in (y .0, y .1 .0),
+      )
+
+  -- so what holds wherever a history stands holds wherever the program does
+  everywhere : (P : State → Type 0) → InEveryHistory P → (l : Layout) (I : Image) (T : Trace) → Bytes I → (x : Session) (r : Report) (t : Trace) (I₁ : Image)
+      → Stepped C I x (callOpen l T) r t I₁ → r .number ≡ 0 → (cs : List Call) (s : State) → Driven C (opened l I r I₁) cs s → P s
+  everywhere P holds l I T b x r t I₁ k ok cs s d = let w = driven-histories l I T x r t I₁ k ok cs s d in subst P (w .2) (holds l I T b (w .0) cs (w .1))
 
   -- DEMANDS 2 AND 3 OF THE CODE
   pub driven-safety : DrivenSafety C
   driven-safety l I T b x r t I₁ k ok cs s d = (
-    driven-everywhere (λ h. Reads (h .device .layout) (h .device .image) (h .model .working) (h .model .checkpoint)) reads-follow-model l I T b x r t I₁ k ok cs s d,
+    everywhere (λ h. Reads (h .device .layout) (h .device .image) (h .model .working) (h .model .checkpoint)) reads-follow-model l I T b x r t I₁ k ok cs s d,
     λ m M made H c.
         let at = made-moment s m M made in
         shows-after (s .device .layout) H (model.MayShow s m) (λ H′ o T′ ne.
-        driven-everywhere (λ h. PermittedAt (h .device) m → CrashImage (h .device .durable) (playedAt (h .device) m) H
+        everywhere (λ h. PermittedAt (h .device) m → CrashImage (h .device .durable) (playedAt (h .device) m) H
         → CutOpenings CrashImage (h .device .layout) H H′ → openStatus (h .device .layout) H′ T′ ≢ 11
         → (Q : Page) × model.MayShow h m Q × Recovers (h .device .layout) H′ T′ Q × Bytes H′)
         (λ l I t b h cs permitted pm c o ne. crash-safety l I t b h cs permitted m pm H c H′ o T′ ne) l I T b x r t I₁ k ok cs s d
@@ -155,5 +163,5 @@ called I s c r t k = k
 pub called-safety : DrivenSafety Called × DrivenOpeningSafety Called
 called-safety = (driven-safety Called called, driven-opening-safety Called called)
 
-pub called-everywhere : DrivenEverywhere Called
-called-everywhere = driven-everywhere Called called
+pub called-histories : DrivenHistories Called
+called-histories = driven-histories Called called

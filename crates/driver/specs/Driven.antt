@@ -1,5 +1,5 @@
--- Programs that open a container and then make call after call, each on the image and the session that the last one left;
--- and what holds of histories said of them (`DrivenEverywhere`), demands 2 and 3 whole (`DrivenSafety`), for each way C of making the calls: by the library (`Called`), or by the
+-- Programs that open a container and then make call after call, each on the image and the session that the last one left:
+-- their calls are histories (`DrivenHistories`), and demands 2 and 3 hold of them (`DrivenSafety`), for each way C of making the calls: by the library (`Called`), or by the
 -- C interface (`Exported` of crate carried). Where such a program stands is said in terms of the code: the images that stood, the
 -- sessions that were answered, the operations read from the traces and carried out, and a reference model that is fed whether each
 -- call was served by its number. The call in which power failed, the openings that were cut and the last one are calls that the
@@ -16,10 +16,11 @@ use Rattle.model.specs.Words.{Image, Bytes}
 use Rattle.model.specs.Status.{served}
 use Rattle.model.specs.Container.{activeLine, checkpointBytes}
 use Rattle.model.specs.Ops.{Ops, Trace}
+use Rattle.model.specs.Open.{openStatus}
 use Rattle.model.specs.Crash.{CrashImage}
 use Rattle.model.specs.Reference.{Page, Model, modelStep}
-use Rattle.model.specs.History.{Call, callOpen, State}
-use Rattle.model.specs.CrashSafety.{Moment, between, during, MayShow, Reads, InEveryHistory}
+use Rattle.model.specs.History.{Call, callOpen, State, outcome, run, start, Permitted, AllPermitted}
+use Rattle.model.specs.CrashSafety.{Moment, between, during, MayShow, Reads}
 use Rattle.driver.specs.Stepped.{Report, Calls, carried, Stepped}
 
 -- both pages hold the checkpoint of the image I
@@ -66,16 +67,19 @@ pub data CutDriven (C : Calls) (l : Layout) : Image → Image → Type 0 where
   again : {H H′ H″ : Image} (s : Session) (T : Trace) (p : ℕ) (r : Report) (t : Trace) → C H s (callOpen l T) r t
       → r .number ≢ 11 → p ≤ r .ops → CrashImage H (carried t p) H′ → CutDriven C l H′ H″ → CutDriven C l H H″
 
--- whatever holds wherever a history stands holds wherever such a program does: model's statements over histories (Sisters, States,
--- FreeBackups) are so statements about the code
-abbrev pub DrivenEverywhere : Calls → Type 1
-DrivenEverywhere C =
-    (P : State → Type 0) → InEveryHistory P
+-- the calls of such a program are a permitted history, where the program stands is where that history does, and a call that the code
+-- makes there is permitted and gives the number of its outcome: so model's statements over histories (Sisters, EpochCounts, States,
+-- FreeBackups) are statements about the code
+abbrev pub DrivenHistories : Calls → Type 0
+DrivenHistories C =
     -- an opening of any image, with any sizes and any trace, that is served and carried out
-    → (l : Layout) (I : Image) (T : Trace) → Bytes I
+    (l : Layout) (I : Image) (T : Trace)
     → (x : Session) (r : Report) (t : Trace) (I₁ : Image) → Stepped C I x (callOpen l T) r t I₁ → r .number ≡ 0
     -- then any steps, which lead to the state s
-    → (cs : List Call) (s : State) → Driven C (opened l I r I₁) cs s → P s
+    → (cs : List Call) (s : State) → Driven C (opened l I r I₁) cs s
+    → (openStatus l I T ≡ 0) × AllPermitted (start l I T) cs × (run (start l I T) cs ≡ s)
+    × ((c : Call) (q : Report) (u : Trace) → C (s .device .image) (s .device .session) c q u
+    → Permitted (s .device) c × (q .number ≡ outcome (s .device) c .status))
 
 -- after the crash image H: any number of openings that are cut, which leave H′, and one that is not. It is served, and both
 -- reads of the image that it leaves give a page Q of which May holds; H′ are bytes, and the pages with which a program starts
