@@ -1,11 +1,11 @@
 -- Programs that open a container and then make call after call, each on the image and the session that the last one left:
--- their calls are histories (`DrivenHistories`), and demands 2 and 3 hold of them (`DrivenSafety`), for each way C of making the calls: by the library (`Called`), or by the
--- C interface (`Exported` of crate carried). Where such a program stands is said in terms of the code: the images that stood, the
--- sessions that were answered, the operations read from the traces and carried out, and a reference model that is fed whether each
--- call was served by its number. The call in which power failed, the openings that were cut and the last one are calls that the
--- code made too. Proved in proofs/Driven.antt. Assumes what model's specs/Crash.antt does of the hardware, and that the image handed to
--- the first opening was durable: then so is what that opening leaves (`OpeningSettles`; after a format `FormatSettles`, when a program
--- starts again `FlushDurable`).
+-- their calls are histories (`DrivenHistories`), and demands 2 and 3 hold of them (`DrivenSafety`), for each way C of making
+-- the calls: by the library (`Called`), or by the C interface (`Exported` of crate carried). Where such a program stands is
+-- said in terms of the code: the images that stood, the sessions that were answered, the operations read from the traces and
+-- carried out, and a reference model that is fed whether each call was served by its number. The call in which power failed,
+-- the openings that were cut and the last one are calls that the code made too. Proved in proofs/Driven.antt. Assumes what
+-- model's specs/Crash.antt does of the hardware, and that the image handed to the first opening was durable: then so is what
+-- that opening leaves (`OpeningSettles`; after a format `FormatSettles`, when a program starts again `FlushDurable`).
 use Prim.Native.Nat.{ℕ, _≤_, _<_}
 use mathlib.Core.Path.{_≡_}
 use mathlib.Core.Logic.{_≢_}

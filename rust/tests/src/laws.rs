@@ -1,9 +1,9 @@
 //! The laws of section 11.5, counted over a history.
 //!
 //! A tally is fed each call's arguments, its number and the images before and
-//! after it, of which it reads states and pairs (section 2) and nothing else;
-//! no call is asked what they mean. The explorer feeds one in every history, so
-//! the laws are held against whatever histories are run over.
+//! after it, of which it reads states and pairs (section 2) by itself. The
+//! explorer feeds one in every history, so the laws are held against whatever
+//! histories are run over.
 
 use crate::book::{state_of, Deed};
 use crate::calls::*;
@@ -20,7 +20,8 @@ pub struct Tally {
     touched: u64,
 }
 
-/// How often each law was tried.
+/// How often each law was tried, and how often a save met an empty level that
+/// nobody had touched: that it stays empty (section 11.6) is the book's to say.
 #[derive(Clone, Copy, Default, Debug)]
 pub struct Tried {
     /// Served saves, after which no level is in state 2 and every spare is free.

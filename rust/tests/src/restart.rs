@@ -4,7 +4,8 @@
 //! before them. Opening restores up to as many levels as there are spares. The
 //! first save after it settles them, whether they are touched or not, and is
 //! cut at every order, as are the calls around it; where every spare restored a
-//! level, power also comes back after each of these cuts and the story goes on.
+//! level, power also comes back after each cut up to the end of that save, and
+//! the story goes on.
 //! Like the other groups it runs over any implementation of the calls.
 
 use crate::book::{Call, Deed};
