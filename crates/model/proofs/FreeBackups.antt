@@ -11,20 +11,19 @@ use borrow.Author.Tests.{eqb-true, eq-eqb, ne-eqb, leb-false}
 use Rattle.model.specs.declared.Layout.{Layout}
 use Rattle.model.specs.declared.Session.{Session}
 use Rattle.model.specs.Range.{oneIf}
-use Rattle.model.specs.Words.{Image, Bytes}
+use Rattle.model.specs.Words.{Image}
 use Rattle.model.specs.Status.{served}
 use Rattle.model.specs.Container.{activeState, backupToMain, Valid}
 use Rattle.model.specs.Session.{dirtySegment}
 use Rattle.model.specs.Ops.{Trace}
 use Rattle.model.specs.Outcome.{outcomeOf}
-use Rattle.model.specs.Open.{openStatus}
 use Rattle.model.specs.Write.{WriteArgs, needsCopy, writeErrors, writeStatus, writeOutcome}
 use Rattle.model.specs.Checkpoint.{nextState}
 use Rattle.model.specs.Reference.{CallArgs, openArgs, writeArgs, checkpointArgs}
 use Rattle.model.specs.History.{Call, callWrite, callCheckpoint, Device, State, answers, outcome, deviceStep, step, run, start, Permitted, AllPermitted}
 use Rattle.model.specs.EpochCounts.{isCheckpoint, checkpoints}
 use Rattle.model.specs.States.{servedState}
-use Rattle.model.specs.FreeBackups.{mainsInBackup, inBackup, inUse, NoNine, Frees, CheckpointFrees, NineOnlyFull, isCopying, copyingWrites, Counted, CopiesCounted, NotYet, NoneRefusedYet}
+use Rattle.model.specs.FreeBackups.{mainsInBackup, inBackup, inUse, NoNine, Frees, CheckpointFrees, NineOnlyFull, isCopying, copyingWrites, SinceOpening, SinceCheckpoint, Counted, CopiesCounted, NotYet, NoneRefusedYet}
 use Rattle.model.proofs.Laws.Range.{no-one}
 use Rattle.model.proofs.Laws.Status.{served-condition}
 use Rattle.model.proofs.Laws.Open.{zero-write}
@@ -153,37 +152,31 @@ checkpoint-frees l I t b h cs permitted u served = frees _ (history-stands l I t
 
 -- ---- counted along a history
 
--- from a state on, n being the main segments in state 2 there and the copying writes served since
-module _ (s : State) (st : Stands s) (cs : List Call) (n : ℕ) (is : inBackup (s .device) + copyingWrites s cs ≡ n) (permitted : AllPermitted s cs) (none : checkpoints s cs ≡ 0) where
-  later : Stands (run s cs)
-  later = run-stands s cs st permitted
+-- where a history stands with n main segments in state 2
+module _ (s : State) (st : Stands s) (n : ℕ) (is : inBackup (s .device) ≡ n) where
+  counted : Counted (s .device) n
+  counted = (is, in-use s st ∙ is)
 
-  count : inBackup (run s cs .device) ≡ n
-  count = run-copied s cs st permitted none ∙ is
+  not-yet : NotYet (s .device) n
+  not-yet few = no-nine s st (omega (arith, few, is))
 
-  counted : Counted (run s cs .device) n
-  counted = (count, in-use (run s cs) later ∙ count)
+-- what holds there holds with n counted from the opening, and from a served checkpoint, which leaves none
+module _ (P : Device → ℕ → Type 0) (holds : (s : State) → Stands s → (n : ℕ) → inBackup (s .device) ≡ n → P (s .device) n) where
+  from-state : (s : State) → Stands s → (cs : List Call) → AllPermitted s cs → checkpoints s cs ≡ 0 → (n : ℕ) → inBackup (s .device) + copyingWrites s cs ≡ n → P (run s cs .device) n
+  from-state s st cs permitted none n is = holds (run s cs) (run-stands s cs st permitted) n (run-copied s cs st permitted none ∙ is)
 
-  not-yet : NotYet (run s cs .device) n
-  not-yet few = no-nine (run s cs) later (omega (arith, few, count))
+  since-opening : SinceOpening P
+  unfolding start
+  since-opening l I t b h cs permitted none =
+      from-state (start l I t) (start-stands l I t b h) cs permitted none _ (omega (arith, in-backup-same l (activeState I) _ (opened-states l I t b h)))
 
--- at the start it is what the opening finds, after a served checkpoint nothing
-start-count : (l : Layout) (I : Image) (t : Trace) → Bytes I → openStatus l I t ≡ 0 → inBackup (start l I t .device) ≡ mainsInBackup l (activeState I)
-unfolding start
-start-count l I t b h = in-backup-same l (activeState I) _ (opened-states l I t b h)
+  since-checkpoint : SinceCheckpoint P
+  since-checkpoint l I t b h cs permitted u served ds rest none =
+      let st = history-stands l I t b h cs permitted in
+      from-state _ (stands-after _ st u served) ds rest none _ (omega (arith, none-in-backup _ st u served))
 
 pub copies-counted : CopiesCounted
-copies-counted = (
-  λ l I t b h cs. counted (start l I t) (start-stands l I t b h) cs _ (omega (arith, start-count l I t b h)),
-  λ l I t b h cs permitted u served ds.
-      let st = history-stands l I t b h cs permitted in
-      counted _ (stands-after _ st u served) ds _ (omega (arith, none-in-backup _ st u served)),
-)
+copies-counted = (since-opening Counted counted, since-checkpoint Counted counted)
 
 pub none-refused-yet : NoneRefusedYet
-none-refused-yet = (
-  λ l I t b h cs. not-yet (start l I t) (start-stands l I t b h) cs _ (omega (arith, start-count l I t b h)),
-  λ l I t b h cs permitted u served ds.
-      let st = history-stands l I t b h cs permitted in
-      not-yet _ (stands-after _ st u served) ds _ (omega (arith, none-in-backup _ st u served)),
-)
+none-refused-yet = (since-opening NotYet not-yet, since-checkpoint NotYet not-yet)

@@ -9,7 +9,6 @@ use lib.Dec.{eqb}
 use borrow.Author.Tests.{eqb-false, ne-eqb}
 use Rattle.model.specs.declared.Layout.{Layout}
 use Rattle.model.specs.declared.Session.{Session}
-use Rattle.model.specs.Range.{oneIf}
 use Rattle.model.specs.Words.{Image, Bytes}
 use Rattle.model.specs.Layout.{layoutOf}
 use Rattle.model.specs.Status.{served}

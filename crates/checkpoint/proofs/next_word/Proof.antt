@@ -1,5 +1,4 @@
 use Rattle.checkpoint.proofs.StateLaws.{no-carry, next-word}
-use native.Mathlib.Omega.{arith}
 use Prim.Native.Nat.{_*_}
 use borrow.Author.Needs.{needs}
 use Rattle.model.specs.Layout.{wordSize}
