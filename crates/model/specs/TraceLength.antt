@@ -26,9 +26,9 @@ fenceOps = 1
 abbrev pub mostOpenOps : Layout → ℕ
 mostOpenOps l = blockOps * l .blocks * l .mains + fenceOps
 
--- of a write: a pair, every block copied, a fence, a state, a fence; then the words of a block
+-- of a write: a pair, every block copied, a fence, a state, a fence; then the words of every block
 abbrev pub mostWriteOps : Layout → ℕ
-mostWriteOps l = blockOps * l .blocks + (wordOps + fenceOps + wordOps + fenceOps) + blockWords
+mostWriteOps l = blockOps * l .blocks + (wordOps + fenceOps + wordOps + fenceOps) + blockWords * l .blocks
 
 -- of a checkpoint: every block written back, a fence, the states, a fence, the epoch, a fence
 abbrev pub mostCheckpointOps : Layout → ℕ

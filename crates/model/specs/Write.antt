@@ -5,7 +5,7 @@ use Prim.Native.Nat.{ℕ, _+_, _-_, _*_, _/_}
 use mathlib.Core.Path.{_≡_}
 use mathlib.Core.Bool.{Bool, true, false, not, cond, _&&_, _||_}
 use mathlib.Core.List.{List, [], _∷_, _++_}
-use lib.Dec.{ltb, eqb}
+use lib.Dec.{leb, ltb, eqb}
 use lib.ListN.{length}
 use Rattle.model.specs.declared.Layout.{Layout}
 use Rattle.model.specs.declared.Session.{Session}
@@ -19,7 +19,8 @@ use Rattle.model.specs.Session.{dirtySegment, dirtyWord, withDirty, cont
 use Rattle.model.specs.Ops.{clwb, sfence, Ops, Trace, traceErrors, stores, persistCopy, copySegment, eachDirty, wordPlace, storeByte}
 use Rattle.model.specs.Outcome.{Outcome, outcomeOf}
 
--- what a write is given: main segment, block, offset in the block, and the bytes (the trade: level, frame, offset, bytes)
+-- what a write is given: main segment, block, offset in the block, and the bytes (the trade: level, frame, offset, bytes), which
+-- may run on through the following blocks of the main segment
 pub record WriteArgs : Type 0 where
   pub main : ℕ
   pub block : ℕ
@@ -85,7 +86,8 @@ stateOps I i = storeByte I (activeLine I + i) ssBackup ∷ clwb (activeLine I) �
 unfoldable pub copyOnWriteOps : Layout → Image → ℕ → ℕ → Plan → Ops
 copyOnWriteOps l I word i p = cond (copies p) (backupOps l I word i p ++ sfence ∷ stateOps I i ++ sfence ∷ []) []
 
--- where a span starts, how many words it meets (SPECIFICATION 10.4: w), and how many blocks
+-- where a span starts, how many words it meets (SPECIFICATION 10.4: w), and how many blocks, from its own on; Span.antt says
+-- in plain words that it is these words and blocks
 abbrev pub spanAt : Layout → WriteArgs → ℕ
 spanAt l w = mainAt l (w .main) + (blockSize * w .block + w .offset)
 
@@ -113,9 +115,11 @@ writeSession s I w =
 
 -- ---- refusals and outcome
 
--- an empty span, or one that leaves its block; the layout is given and not looked at
+-- an empty span, one whose offset is not in its block, or one that leaves its main segment (SPECIFICATION 10.9)
 unfoldable pub spanBad : Layout → WriteArgs → Bool
-spanBad l w = eqb (length (w .bytes)) 0 || ltb blockSize (w .offset + length (w .bytes))
+spanBad l w =
+    eqb (length (w .bytes)) 0 || leb blockSize (w .offset)
+    || ltb (blockSize * (l .blocks - w .block)) (w .offset + length (w .bytes))
 
 abbrev pub spanErrors : Layout → WriteArgs → Errors
 spanErrors l w = (8, spanBad l w) ∷ []

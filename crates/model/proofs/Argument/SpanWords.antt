@@ -27,7 +27,7 @@ pub record SpanOk (l : Layout) (w : WriteArgs) : Type 0 where
 pub span-within : (l : Layout) (w : WriteArgs) → w .main < l .mains → w .block < l .blocks → spanBad l w ≡ false → Bytes (w .bytes) → SpanOk l w
 span-within l w m n h small =
     let g = span-good l w h in
-    record { main = m; block = n; some = g .0; fits = omega (arith, g .0, g .1); small = small }
+    record { main = m; block = n; some = g .0; fits = g .2; small = small }
 
 -- the blocks that it meets are blocks of the segment
 pub span-inside : (l : Layout) (w : WriteArgs) → SpanOk l w → w .block + spanBlocks w ≤ l .blocks

@@ -49,7 +49,7 @@ write-outcome-ok s I w t j chosen = served-ok (length I / lineSize) (writeStatus
         let g = span-good (s .layout) w (r 8) in
         subst (λ (n : ℕ). AllOk (n / lineSize) (writeOps s I w j)) (sym (c .0 .long))
         (write-ok s I w j (c .0 .sizes .0 .1) (c .0 .sizes .1 .1) (leb-false _ _ (r 6)) (leb-false _ _ (r 7)) (g .0)
-        (let b : w .block < s .layout .blocks = leb-false _ _ (r 7) in omega (arith, g .1)) (λ e. chosen h e .0))
+        (g .2) (λ e. chosen h e .0))
 
 pub checkpoint-outcome-ok : (s : Session) (I : Image) (t : Trace) → AllOk (length I / lineSize) (checkpointOutcome s I t .ops)
 unfolding checkpointOutcome outcomeOf checkpointStatus

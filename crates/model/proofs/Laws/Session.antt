@@ -145,7 +145,7 @@ module _ (s : Session) (i b n m : ℕ) where
   dirty-block-other u ne f = ap (λ (w : ℕ). eqb (bit w f) 1) (dirty-word-other u ne)
 
 -- a word without bits
-no-bit : (f : ℕ) → eqb (bit 0 f) 1 ≡ false
+pub no-bit : (f : ℕ) → eqb (bit 0 f) 1 ≡ false
 no-bit f = ap (λ (x : ℕ). eqb x 1) (bit-zero f)
 
 pub checkpoint-segment : (s : Session) (u : ℕ) → dirtySegment (withCheckpoint s) u ≡ false

@@ -44,9 +44,9 @@ pub dirty-most : (word n : ℕ) → dirtyCount word n ≤ n
 unfolding dirtyCount
 dirty-most word n = omega (arith, sum-most n 1 (λ b. oneIf (isDirty word b)) (λ b h. one-most (isDirty word b)))
 
--- a span within a block meets at most its words: a block starts at a word
-span-most : (l : Layout) (w : WriteArgs) → spanBad l w ≡ false → spanCount l w ≤ blockWords
-span-most l w h = let g = span-good l w h in omega (arith, g .0, g .1)
+-- a span within a main segment meets at most its words: a segment starts at a word
+span-most : (l : Layout) (w : WriteArgs) → spanBad l w ≡ false → spanCount l w ≤ blockWords * l .blocks
+span-most l w h = let g = span-good l w h in omega (arith, g)
 
 copy-most : (l : Layout) (word : ℕ) (p : Plan) → copyCount l word p ≤ 36 * l .blocks + 6
 copy-most l word NoCopy = omega arith
@@ -55,7 +55,7 @@ copy-most l word (NewBackup j) = omega arith
 copy-most l word NoneFree = omega arith
 
 write-most : (s : Session) (I : Image) (w : WriteArgs) (j : ℕ) → spanBad (s .layout) w ≡ false
-    → length (writeOps s I w j) ≤ 36 * s .layout .blocks + 6 + blockWords
+    → length (writeOps s I w j) ≤ 36 * s .layout .blocks + 6 + blockWords * s .layout .blocks
 write-most s I w j h = omega (arith, span-most (s .layout) w h, length-write s I w j, copy-most (s .layout) (dirtyWord s (w .main)) (copyPlan s I (w .main) j))
 
 pub write-trace-suffices : WriteTraceSuffices

@@ -1,12 +1,12 @@
 -- Every write has a permitted choice of the backup segment that it takes, so that `Permitted` leaves out no write; what the plan
 -- says of refusal 9, and what a span says that 8 does not refuse.
-use Prim.Native.Nat.{ℕ, _+_, _≤_, _<_}
+use Prim.Native.Nat.{ℕ, _+_, _-_, _*_, _≤_, _<_}
 use mathlib.Core.Path.{_≡_, refl, sym, _∙_}
 use mathlib.Core.Bool.{Bool, true, false, not, cond, _&&_, true≢false, _||_}
 use native.Mathlib.Omega.{arith}
-use borrow.Author.Tests.{ltb-false, eqb-false, eqb-true, not-true}
+use borrow.Author.Tests.{leb-false, ltb-false, eqb-false, eqb-true, not-true}
 use lib.ListN.{length}
-use lib.Dec.{ltb, eqb}
+use lib.Dec.{leb, eqb}
 use Rattle.model.specs.declared.Session.{Session}
 use Rattle.model.specs.declared.Plan.the-variants.{NoCopy, OwnBackup, NewBackup, NoneFree}
 use Rattle.model.specs.Words.{Image}
@@ -72,11 +72,17 @@ choice-exists s I w t = go (anyFree (s .layout) (activeState I) (backupToMain I)
 
 -- ---- the span
 
-pub span-good : (l : Layout) (w : WriteArgs) → spanBad l w ≡ false → (0 < length (w .bytes)) × (w .offset + length (w .bytes) ≤ blockSize)
+-- three tests, none of which holds
+none-of : (a b c : Bool) → (a || b || c) ≡ false → (a ≡ false) × (b ≡ false) × (c ≡ false)
+none-of false false false h = (refl, refl, refl)
+none-of false false true h = absurd (true≢false h)
+none-of false true c h = absurd (true≢false h)
+none-of true b c h = absurd (true≢false h)
+
+-- what a span says that 8 does not refuse
+pub span-good : (l : Layout) (w : WriteArgs) → spanBad l w ≡ false
+    → (0 < length (w .bytes)) × (w .offset < blockSize) × (w .offset + length (w .bytes) ≤ blockSize * (l .blocks - w .block))
 unfolding spanBad
-span-good l w h = go (eqb (length (w .bytes)) 0) refl h
-  where
-    go : (b : Bool) → eqb (length (w .bytes)) 0 ≡ b → (b || ltb blockSize (w .offset + length (w .bytes))) ≡ false
-        → (0 < length (w .bytes)) × (w .offset + length (w .bytes) ≤ blockSize)
-    go true e q = absurd (true≢false q)
-    go false e q = (let n = eqb-false (length (w .bytes)) 0 e in omega arith, ltb-false _ _ q)
+span-good l w h =
+    let n = none-of (eqb (length (w .bytes)) 0) (leb blockSize (w .offset)) _ h in
+    (let e = eqb-false (length (w .bytes)) 0 (n .0) in omega arith, leb-false _ _ (n .1), ltb-false _ _ (n .2))

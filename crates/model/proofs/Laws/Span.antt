@@ -1,0 +1,68 @@
+-- Laws of a span: which spans 8 passes, and the words and blocks that hold a byte of one.
+use Prim.Native.Nat.{ℕ, _+_, _-_, _*_, _≤_, _<_}
+use mathlib.Core.Path.{_≡_, refl, sym, _∙_, ap}
+use mathlib.Core.Logic.{_↔_, _⊎_, inl, inr, ⊎-elim}
+use mathlib.Core.Bool.{Bool, true, false, cond, true≢false}
+use native.Mathlib.Omega.{arith}
+use native.Mathlib.Decide.{decLt}
+use lib.ListN.{length}
+use borrow.Author.Tests.{ne-eqb, lt-leb, le-ltb}
+use Rattle.model.specs.declared.Layout.{Layout}
+use Rattle.model.specs.declared.Session.{Session}
+use Rattle.model.specs.Words.{Image}
+use Rattle.model.specs.Session.{isDirty, dirtyWord, dirtyBlock}
+use Rattle.model.specs.Write.{WriteArgs, needsCopy, spanBlocks, writeSession, spanBad}
+use Rattle.model.specs.Span.{OneFrom, MeetsBlock, SpanPasses, WordsMet, BlocksMet, MarksMet}
+use Rattle.model.proofs.Laws.Session.{dirty-block-same, dirty-block-rest, no-bit}
+use Rattle.model.proofs.Laws.Write.{span-good}
+
+pub span-passes : SpanPasses
+unfolding spanBad
+span-passes l w = (
+  λ h. let g = span-good l w h in (g .0, omega (arith, g .1), g .2),
+  λ g. rw (ne-eqb (length (w .bytes)) 0 (λ e. omega (arith, g .0)), lt-leb 256 (w .offset) (omega (arith, g .1)), le-ltb (256 * (l .blocks - w .block)) (w .offset + length (w .bytes)) (g .2)),
+)
+
+-- the word u holds the byte that stands where it starts, or the first one
+pub words-met : WordsMet
+words-met a n u some = (λ h. (omega (arith, h), omega (arith, h)), λ h. (8 * u - a, omega (arith, h), omega (arith, h)))
+
+pub blocks-met : BlocksMet
+blocks-met l w h = (
+  λ b. (λ m. (omega (arith, g, m), omega (arith, g, m)), λ m. (256 * b - (256 * w .block + w .offset), omega (arith, g, m), omega (arith, g, m))),
+  λ b m. omega (arith, g, m),
+)
+  where
+    g : (0 < length (w .bytes)) × (w .offset < 256) × (w .offset + length (w .bytes) ≤ 256 * (l .blocks - w .block))
+    g = span-good l w h
+
+pub marks-met : MarksMet
+unfolding writeSession dirtyBlock
+marks-met s I w room h b = go (decLt b (w .block)) (decLt b (w .block + spanBlocks w))
+  where
+    met : MeetsBlock w b ↔ OneFrom (w .block) (spanBlocks w) b
+    met = blocks-met (s .layout) w h .0 b
+
+    word : Bool → ℕ
+    word c = cond c 0 (dirtyWord s (w .main))
+
+    kept : (c : Bool) → (isDirty (word c) b ≡ true) ↔ ((c ≡ false) × (isDirty (dirtyWord s (w .main)) b ≡ true))
+    kept true = (λ e. absurd (true≢false (sym e ∙ no-bit b)), λ e. absurd (true≢false (e .0)))
+    kept false = (λ e. (refl, e), λ e. e .1)
+
+    -- a block that the span does not meet
+    out : (b < w .block) ⊎ (w .block + spanBlocks w ≤ b)
+        → (dirtyBlock (writeSession s I w) (w .main) b ≡ true) ↔ (MeetsBlock w b ⊎ ((needsCopy s I (w .main) ≡ false) × (dirtyBlock s (w .main) b ≡ true)))
+    out x =
+        let same = dirty-block-rest s (w .main) (w .block) (spanBlocks w) (word (needsCopy s I (w .main))) room b x in
+        (λ e. inr (kept _ .0 (sym same ∙ e)), ⊎-elim (λ m. absurd (⊎-elim (λ y. omega (arith, met .0 m)) (λ y. omega (arith, met .0 m)) x)) (λ e. same ∙ kept _ .1 e))
+
+    go : Dec (b < w .block) → Dec (b < w .block + spanBlocks w)
+        → (dirtyBlock (writeSession s I w) (w .main) b ≡ true) ↔ (MeetsBlock w b ⊎ ((needsCopy s I (w .main) ≡ false) × (dirtyBlock s (w .main) b ≡ true)))
+    go x y = elim x [
+      | yes a ↦ out (inl a)
+      | no a ↦ elim y [
+        | yes c ↦ ((λ e. inl (met .1 (omega arith, c))), λ e. dirty-block-same s (w .main) (w .block) (spanBlocks w) _ room b (omega arith) c)
+        | no c ↦ out (inr (omega arith))
+      ]
+    ]
