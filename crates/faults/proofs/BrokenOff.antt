@@ -1,36 +1,30 @@
 -- A program that ended inside a checkpoint while the power stayed on, opened again without a flush: the opening renews the backup
 -- segment by the new epoch, and a crash may bring the old epoch back.
-use Prim.Native.Nat.{ℕ, _+_, _*_}
+use Prim.Native.Nat.{ℕ}
 use mathlib.Core.Path.{_≡_, refl, sym, ap, ap₂, subst, _∙_}
-use mathlib.Core.Logic.{_⊎_, inl, inr}
 use mathlib.Core.Bool.{false≢true}
 use mathlib.Core.List.{[], _∷_, _++_, append-assoc}
-use native.Mathlib.Omega.{arith}
-use native.Mathlib.Decide.{ℕ-discrete}
 use lib.Dec.{lit<}
 use lib.ListN.{replicate}
-use Rattle.model.specs.Words.{Image, wordAt}
+use Rattle.model.specs.Words.{Image}
 use Rattle.model.specs.Layout.{unpaired}
-use Rattle.model.specs.Ops.{Ops, store, clwb, sfence, replay, stores, clwbs, putBlock, persistCopy}
+use Rattle.model.specs.Ops.{Ops, store, clwb, sfence, replay, persistCopy}
 use Rattle.model.specs.Format.{container}
 use Rattle.model.specs.Open.{openStatus, openOutcome}
-use Rattle.model.specs.Crash.{KeepsDurable, CrashImage}
-use Rattle.model.specs.CrashExact.{hasFence, floorFrom, floor}
+use Rattle.model.specs.Crash.{CrashImage}
+use Rattle.model.specs.CrashExact.{hasFence, floorFrom}
 use Rattle.model.specs.Reference.{Page}
 use Rattle.model.specs.History.{State, start, deviceStep, step, run, AllPermitted}
 use Rattle.model.specs.CrashSafety.{PermittedAt, playedAt, Recovers}
 use Rattle.model.specs.FlushDurable.{imageAt}
-use Rattle.model.proofs.Laws.Crash.Floor.{floor-durable}
 use Rattle.model.proofs.Laws.Crash.Images.{crash-after}
-use Rattle.model.proofs.Argument.Persist.{Misses, each-append, replay-append}
-use Rattle.model.proofs.Argument.Settled.{Off}
-use Rattle.model.proofs.Argument.Runs.{each-cat, clwbs-none}
+use Rattle.model.proofs.Argument.Persist.{replay-append}
 use Rattle.cases.specs.Table.{l211, longTrace, checkpoint, aWord}
 use Rattle.cases.proofs.Compute.{model-rules, same, same-equal, small, small-bytes}
 use Rattle.cases.proofs.Shown.{shows}
 use Rattle.cases.proofs.Starts.{standing, started}
 use Rattle.faults.specs.Unflushed.{once, twoWrites, edited, ended, BrokenOff}
-use Rattle.faults.proofs.Alone.{arrives-alone}
+use Rattle.faults.proofs.Alone.{elsewhere, avoids, first-lost}
 
 abbrev old : Page
 old = replicate 256 40 ++ replicate 256 0
@@ -97,34 +91,16 @@ renews : replay renewed (board 1 (replicate 256 40)) ≡ board 1 (aWord ++ repli
 unfolding model-rules same
 renews = same-equal _ _ refl
 
-renewed-off : Off 0 renewed
-unfolding persistCopy putBlock stores
-renewed-off i e =
-    each-append (Misses i) (persistCopy (board 2 (replicate 256 40)) 512 1024) (sfence ∷ [])
-    (each-append (Misses i) (stores 32 1024 (λ k. wordAt (board 2 (replicate 256 40)) (512 + 8 * k))) (clwbs 4 1024)
-    (each-cat (Misses i) 32 (λ k. store (1024 + 8 * k) (wordAt (board 2 (replicate 256 40)) (512 + 8 * k)) ∷ []) (λ k x. ((λ low high. omega arith), tt)))
-    (clwbs-none (Misses i) 4 1024)) tt
-
-epoch-floor : floor 0 (store 0 2 ∷ renewed) ≡ 0
-unfolding model-rules floorFrom hasFence
-epoch-floor = refl
-
 -- the epoch need not arrive: no call wrote its line back and fenced
-apart : (ℓ : ℕ) → Off ℓ (store 0 2 ∷ []) ⊎ (Off ℓ renewed × KeepsDurable ℓ (store 0 2 ∷ renewed) 0)
-apart ℓ = go (ℕ-discrete ℓ 0)
-  where
-    go : Dec (ℓ ≡ 0) → Off ℓ (store 0 2 ∷ []) ⊎ (Off ℓ renewed × KeepsDurable ℓ (store 0 2 ∷ renewed) 0)
-    go (yes here) = inr (
-      λ i e. renewed-off i (e ∙ here),
-      floor-durable ℓ (store 0 2 ∷ renewed) 0 (omega (arith, epoch-floor, ap (λ (k : ℕ). floor k (store 0 2 ∷ renewed)) here)),
-    )
-    go (no there) = inl (λ i e. ((λ low high. there (omega arith)), tt))
+epoch-lost : CrashImage (board 1 (replicate 256 40)) (store 0 2 ∷ renewed) (replay renewed (board 1 (replicate 256 40)))
+unfolding model-rules floorFrom hasFence avoids elsewhere
+epoch-lost = first-lost (board 1 (replicate 256 40)) 0 2 renewed refl refl refl
 
 lost : CrashImage once (first ++ store 0 2 ∷ renewed) (board 1 (aWord ++ replicate 248 40))
 lost =
     crash-after once _ first (store 0 2 ∷ renewed)
     (subst (λ (T : Image). CrashImage T (store 0 2 ∷ renewed) (board 1 (aWord ++ replicate 248 40))) (sym leaves)
-    (subst (CrashImage (board 1 (replicate 256 40)) (store 0 2 ∷ renewed)) renews (arrives-alone (board 1 (replicate 256 40)) (store 0 2 ∷ []) renewed apart)))
+    (subst (CrashImage (board 1 (replicate 256 40)) (store 0 2 ∷ renewed)) renews epoch-lost))
 
 -- ---- what the calls are
 

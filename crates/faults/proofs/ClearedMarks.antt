@@ -14,6 +14,7 @@ use Rattle.model.specs.Session.{freshSession}
 use Rattle.model.specs.Reference.{Page}
 use Rattle.model.specs.History.{State, start, run, calledOps, openedImage}
 use Rattle.model.specs.Crash.{CrashImage}
+use Rattle.model.specs.CrashSafety.{during}
 use Rattle.cases.specs.Table.{longTrace, write, aWord}
 use Rattle.faults.specs.Faults.{l111, one, CalledShowsOther, twoCalls, marksCleared, ClearedMarks}
 use Rattle.model.proofs.Laws.Crash.Images.{newest}
@@ -31,7 +32,7 @@ clears = ap marksCleared stands
 abbrev played : Ops
 played = before ++ calledOps (cleared .device) (write 0 8 aWord) 2
 
-wrong : CalledShowsOther (λ H. openedImage l111 H longTrace) cleared (write 0 8 aWord) 2
+wrong : CalledShowsOther (λ H. openedImage l111 H longTrace) cleared (during (write 0 8 aWord) 2)
 unfolding model-rules same small
 wrong = record {
   permitted = ((small-bytes aWord refl, λ served needs. absurd (false≢true needs)), lit< tt);
@@ -44,4 +45,4 @@ wrong = record {
 }
 
 pub cleared-marks : ClearedMarks (start l111 (one 0) longTrace)
-cleared-marks = (calls-permitted, subst (λ (s : State). CalledShowsOther (λ H. openedImage l111 H longTrace) s (write 0 8 aWord) 2) (sym clears) wrong)
+cleared-marks = (calls-permitted, subst (λ (s : State). CalledShowsOther (λ H. openedImage l111 H longTrace) s (during (write 0 8 aWord) 2)) (sym clears) wrong)

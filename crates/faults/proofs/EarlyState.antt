@@ -1,17 +1,16 @@
 -- Fault 1: the state's line may arrive before the pair's and before the copied bytes, since no fence stands between them.
 use Prim.Native.Nat.{ℕ, _/_, _%_}
 use mathlib.Core.Path.{_≡_, refl, sym, ap, subst, _∙_}
-use mathlib.Core.Logic.{_≢_, _⊎_, inl, inr, ⊎-elim}
-use mathlib.Core.Bool.{Bool, true, false, not, _&&_, false≢true}
+use mathlib.Core.Logic.{_⊎_, inl, inr, ⊎-elim}
+use mathlib.Core.Bool.{true, false, false≢true}
 use mathlib.Core.List.{[], _∷_, _++_}
 use native.Mathlib.Omega.{arith}
 use native.Mathlib.Decide.{ℕ-discrete}
-use lib.Dec.{eqb, lit<}
+use lib.Dec.{lit<}
 use lib.ListN.{take, getD, replicate}
-use borrow.Author.Tests.{eqb-true, eqb-false, not-true}
 use Rattle.model.specs.Words.{Image}
 use Rattle.model.specs.Layout.{wordSize, lineSize, unpaired}
-use Rattle.model.specs.Ops.{Ops, store, clwb, sfence, apply, replay}
+use Rattle.model.specs.Ops.{Ops, store, apply, replay}
 use Rattle.model.specs.Session.{freshSession}
 use Rattle.model.specs.Reference.{Page}
 use Rattle.model.specs.History.{State, start}
@@ -19,40 +18,13 @@ use Rattle.model.specs.Crash.{KeepsDurable, CrashImage}
 use Rattle.model.specs.CrashExact.{hasFence}
 use Rattle.cases.specs.Table.{longTrace, writes, aWord}
 use Rattle.faults.specs.Faults.{l111, one, earlyStateOps, earlyWriteOps, EarlyState, ShowsBackup, EarlyStateUnseen}
-use Rattle.model.proofs.Laws.Range.{and-left, and-right}
-use Rattle.model.proofs.Argument.Persist.{Misses}
 use Rattle.model.proofs.Argument.Settled.{Off}
 use Rattle.model.proofs.Laws.Crash.Images.{durable-unfenced, crash-after}
 use Rattle.cases.proofs.Compute.{model-rules, same, same-equal, small, small-bytes}
 use Rattle.cases.proofs.Starts.{standing, started}
 use Rattle.faults.proofs.Shown.{no-checkpoint}
-use Rattle.faults.proofs.Alone.{arrives-alone}
+use Rattle.faults.proofs.Alone.{arrives-alone, elsewhere, avoids, avoids-off}
 use Rattle.faults.proofs.TwoCalls.{image, old, new, marked, before, saved, stands, replayed, calls-permitted, old-shown}
-
--- every store of O is of a word in another line than ℓ
-elsewhere : ℕ → ℕ → Bool
-elsewhere ℓ p = not (eqb (p / lineSize) ℓ) && eqb (p % wordSize) 0
-
-avoids : ℕ → Ops → Bool
-avoids ℓ [] = true
-avoids ℓ (store p w ∷ O) = elsewhere ℓ p && avoids ℓ O
-avoids ℓ (clwb p ∷ O) = avoids ℓ O
-avoids ℓ (sfence ∷ O) = avoids ℓ O
-
-elsewhere-misses : (ℓ p i : ℕ) → elsewhere ℓ p ≡ true → i / lineSize ≡ ℓ → Misses i p
-unfolding elsewhere
-elsewhere-misses ℓ p i h e =
-    let other : p / lineSize ≢ ℓ = eqb-false _ _ (not-true _ (and-left (not (eqb (p / lineSize) ℓ)) (eqb (p % wordSize) 0) h)) in
-    let whole : p % wordSize ≡ 0 = eqb-true _ _ (and-right (not (eqb (p / lineSize) ℓ)) (eqb (p % wordSize) 0) h) in
-    omega arith
-
-avoids-off : (ℓ : ℕ) (O : Ops) → avoids ℓ O ≡ true → Off ℓ O
-unfolding avoids
-avoids-off ℓ [] h i e = tt
-avoids-off ℓ (store p w ∷ O) h i e =
-    (elsewhere-misses ℓ p i (and-left (elsewhere ℓ p) (avoids ℓ O) h) e, avoids-off ℓ O (and-right (elsewhere ℓ p) (avoids ℓ O) h) i e)
-avoids-off ℓ (clwb p ∷ O) h i e = avoids-off ℓ O h i e
-avoids-off ℓ (sfence ∷ O) h i e = avoids-off ℓ O h i e
 
 -- where no fence was played, the last store may arrive alone
 last-alone : (I : Image) (A : Ops) (p w : ℕ) → hasFence (A ++ store p w ∷ []) ≡ false → avoids (p / lineSize) A ≡ true → p % wordSize ≡ 0

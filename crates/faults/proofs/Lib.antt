@@ -6,6 +6,7 @@ pub mod EarlyState
 pub mod ClearedMarks
 pub mod SkippedCopy
 pub mod InactiveLine
+pub mod FirstMarked
 pub mod Faults
 pub mod BrokenOff
 pub mod Unflushed

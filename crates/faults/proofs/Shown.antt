@@ -1,7 +1,7 @@
 -- Reads of an image with one block, and the window, for the faults that show a wrong page.
 use Prim.Native.Nat.{zero, suc}
 use mathlib.Core.Path.{_≡_, ap}
-use mathlib.Core.Bool.{true, false≢true}
+use mathlib.Core.Bool.{false≢true}
 use native.Mathlib.Omega.{arith}
 use Rattle.model.specs.Words.{Image}
 use Rattle.model.specs.Write.{WriteArgs}

@@ -5,7 +5,7 @@ use Prim.Native.Nat.{ℕ, _+_}
 use mathlib.Core.Path.{_≡_}
 use mathlib.Core.Bool.{Bool, true, false, cond}
 use mathlib.Core.List.{List, [], _∷_, _++_}
-use lib.ListN.{take, replicate}
+use lib.ListN.{length, take, replicate}
 use Rattle.model.specs.declared.Layout.{Layout}
 use Rattle.model.specs.declared.Session.{Session}
 use Rattle.model.specs.declared.Action.{Action}
@@ -17,16 +17,17 @@ use Rattle.model.specs.Words.{Image}
 use Rattle.model.specs.Layout.{lineSize, unpaired, ssBackup}
 use Rattle.model.specs.Status.{served}
 use Rattle.model.specs.Container.{activeLine, inactiveLine, segState, backupToMain, isPaired, pairedBackup, isFree, byState, checkpointBytes}
-use Rattle.model.specs.Session.{dirtyWord, freshSession}
+use Rattle.model.specs.Session.{dirtyWord, freshSession, withDirty}
 use Rattle.model.specs.Ops.{clwb, sfence, Ops, replay, storeByte}
-use Rattle.model.specs.Format.{container}
+use Rattle.model.specs.Format.{container, formatted}
 use Rattle.model.specs.Open.{actionOps, openStatus}
 use Rattle.model.specs.Write.{WriteArgs, needsCopy, copyPlan, copies, noneFree, backupOps, copyOnWriteOps, spanOps, writeStatus}
 use Rattle.model.specs.Crash.{CrashImage}
 use Rattle.model.specs.Reference.{Page}
-use Rattle.model.specs.History.{Call, Device, State, calledOps, start, run, openedImage, Permitted, AllPermitted}
-use Rattle.model.specs.CrashSafety.{Reads, during, PermittedAt, MayShow}
+use Rattle.model.specs.History.{Call, Device, State, outcome, start, step, run, openedImage, Permitted, AllPermitted}
+use Rattle.model.specs.CrashSafety.{Reads, Moment, between, during, PermittedAt, playedAt, MayShow}
 use Rattle.cases.specs.Table.{sizes, l211, longTrace, writes, write, checkpoint, aWord}
+use Rattle.cases.specs.Cut.{OnlyShows}
 
 -- ---- how demand 3 fails
 
@@ -37,20 +38,33 @@ pub record Refuses (d : Device) (O : Ops) : Type 0 where
   pub crash : CrashImage (d .durable) (d .played ++ O) left
   pub refused : openStatus (d .layout) left longTrace ≡ 4
 
--- a crash after O, the first p operations of the call c made in state s, may leave an image that opening accepts and
+-- a crash at this moment of the state s, where O was played since all was durable, may leave an image that opening accepts and
 -- `recover` takes to one whose reads show a page, and it is none of those that demand 3 permits
-pub record ShowsOther (recover : Image → Image) (s : State) (c : Call) (p : ℕ) (O : Ops) : Type 0 where
-  pub permitted : PermittedAt (s .device) (during c p)
+pub record ShowsOther (recover : Image → Image) (s : State) (m : Moment) (O : Ops) : Type 0 where
+  pub permitted : PermittedAt (s .device) m
   pub left : Image
-  pub crash : CrashImage (s .device .durable) (s .device .played ++ O) left
+  pub crash : CrashImage (s .device .durable) O left
   pub accepted : openStatus (s .device .layout) left longTrace ≡ 0
   pub page : Page
   pub shown : Reads (s .device .layout) (recover left) page page
-  pub wrong : MayShow s (during c p) page → ⊥
+  pub wrong : MayShow s m page → ⊥
 
--- the same where the operations of the call are right
-abbrev pub CalledShowsOther : (Image → Image) → State → Call → ℕ → Type 0
-CalledShowsOther recover s c p = ShowsOther recover s c p (calledOps (s .device) c p)
+-- the same where what was played is what the calls report
+abbrev pub CalledShowsOther : (Image → Image) → State → Moment → Type 0
+CalledShowsOther recover s m = ShowsOther recover s m (playedAt (s .device) m)
+
+-- a state with another session
+abbrev pub withSession : State → Session → State
+withSession s x = record {
+  device = record {
+    layout = s .device .layout;
+    durable = s .device .durable;
+    played = s .device .played;
+    image = s .device .image;
+    session = x;
+  };
+  model = s .model;
+}
 
 -- ---- start images: main segments hold 40 and 41, the backup segment 90
 
@@ -87,7 +101,8 @@ twoCalls = write 0 0 aWord ∷ checkpoint ∷ []
 -- after 37 of its 41 operations: opening accepts what is left and shows the backup's old bytes
 abbrev pub ShowsBackup : State → Type 0
 ShowsBackup s =
-    ShowsOther (λ H. openedImage l111 H longTrace) s (write 0 8 aWord) 37 (take 37 (earlyWriteOps (s .device .session) (s .device .image) (writes 0 8 aWord) 0))
+    ShowsOther (λ H. openedImage l111 H longTrace) s (during (write 0 8 aWord) 37)
+    (s .device .played ++ take 37 (earlyWriteOps (s .device .session) (s .device .image) (writes 0 8 aWord) 0))
 
 abbrev pub EarlyStateUnseen : State → Type 0
 EarlyStateUnseen s = AllPermitted s twoCalls × ShowsBackup (run s twoCalls)
@@ -95,21 +110,12 @@ EarlyStateUnseen s = AllPermitted s twoCalls × ShowsBackup (run s twoCalls)
 -- ---- 2. marks cleared at a checkpoint
 
 unfoldable pub marksCleared : State → State
-marksCleared s = record {
-  device = record {
-    layout = s .device .layout;
-    durable = s .device .durable;
-    played = s .device .played;
-    image = s .device .image;
-    session = freshSession (s .device .session .layout);
-  };
-  model = s .model;
-}
+marksCleared s = withSession s (freshSession (s .device .session .layout))
 
 -- from a paired main segment: the two calls, another word written, this cut after 2 of its 5 operations
 abbrev pub ClearedMarks : State → Type 0
 ClearedMarks s =
-    AllPermitted s twoCalls × CalledShowsOther (λ H. openedImage l111 H longTrace) (marksCleared (run s twoCalls)) (write 0 8 aWord) 2
+    AllPermitted s twoCalls × CalledShowsOther (λ H. openedImage l111 H longTrace) (marksCleared (run s twoCalls)) (during (write 0 8 aWord) 2)
 
 -- ---- 3. opening skips the copy to the backup segment
 
@@ -133,7 +139,7 @@ skippingStart l I = record {
 
 -- from a paired main segment whose backup is stale: a word written, cut after 2 of its 5 operations
 abbrev pub SkippedCopy : State → Type 0
-SkippedCopy s = CalledShowsOther (skippingOpened l111) s (write 0 0 aWord) 2
+SkippedCopy s = CalledShowsOther (skippingOpened l111) s (during (write 0 0 aWord) 2)
 
 -- ---- 4. a free backup segment judged by the inactive line
 
@@ -165,10 +171,45 @@ InactiveLine d =
     (writeStatus (d .session) (d .image) (writes 1 0 aWord) 0 longTrace ≡ 9)
     × Refuses d (take 1 (inactiveWriteOps (d .session) (d .image) (writes 1 0 aWord)))
 
--- THE FOUR FAULTS, the first both ways
+-- ---- 5. only the first block of a span becomes dirty
+
+abbrev pub l112 : Layout
+l112 = sizes 1 1 2
+
+-- two words, the first at the end of block 0 and the second at the start of block 1
+abbrev pub twoWords : WriteArgs
+twoWords = writes 0 248 (aWord ++ aWord)
+
+abbrev pub writeTwo : Call
+writeTwo = write 0 248 (aWord ++ aWord)
+
+-- the session after a write with this fault
+unfoldable pub firstSession : Session → Image → WriteArgs → Session
+firstSession s I w = withDirty s (w .main) (w .block) 1 (cond (needsCopy s I (w .main)) 0 (dirtyWord s (w .main)))
+
+unfoldable pub firstMarked : State → State
+firstMarked s = withSession (step s writeTwo) (firstSession (s .device .session) (s .device .image) twoWords)
+
+-- the two words written, and a checkpoint, played whole, which writes back block 0 alone: opening then shows a page that is neither
+-- this checkpoint nor the one before
+pub record FirstMarked (s : State) : Type 0 where
+  pub permitted : Permitted (s .device) writeTwo
+  pub count : length (outcome (firstMarked s .device) checkpoint .ops) ≡ 18
+  pub shows : CalledShowsOther (λ H. openedImage l112 H longTrace) (step (firstMarked s) checkpoint) between
+  pub mixed : shows .page ≡ s .model .checkpoint → ⊥
+
+-- with both blocks dirty the same calls leave what shows this checkpoint alone
+abbrev pub BothMarked : State → Type 0
+BothMarked s =
+    AllPermitted s (writeTwo ∷ checkpoint ∷ [])
+    × OnlyShows (run s (writeTwo ∷ checkpoint ∷ [])) between (replicate 248 0 ++ aWord ++ aWord ++ replicate 248 0)
+
+-- THE FIVE FAULTS, the first both ways, and the last beside what is right
 pub record Faults : Type 0 where
   pub earlyState : EarlyState (start l111 (one unpaired) longTrace .device)
   pub earlyStateUnseen : EarlyStateUnseen (start l111 (one 0) longTrace)
   pub clearedMarks : ClearedMarks (start l111 (one 0) longTrace)
   pub skippedCopy : SkippedCopy (skippingStart l111 (one 0))
   pub inactiveLine : InactiveLine (start l211 two longTrace .device)
+  pub firstMarked : FirstMarked (start l112 (formatted l112) longTrace)
+  pub bothMarked : BothMarked (start l112 (formatted l112) longTrace)
