@@ -1,8 +1,8 @@
--- A run of stores to one stretch, and a segment copied or filled with zeros, as one list laid into the image, which the checker
--- computes in one pass instead of one for each byte; and a recovery by such passes, one main segment after the other.
+-- A run of stores to one stretch, a segment copied or filled with zeros, and the bytes of a write, as one list laid into the image,
+-- which the checker computes in one pass instead of one for each byte; and a recovery by such passes, one main segment after the other.
 use Prim.Native.Nat.{ℕ, suc, _+_, _-_, _≤_, _<_}
 use mathlib.Core.Path.{_≡_, refl, sym, ap, subst, _∙_}
-use mathlib.Core.Logic.{inl, inr}
+use mathlib.Core.Logic.{_⊎_, inl, inr}
 use mathlib.Core.Bool.{true}
 use mathlib.Core.List.{List, [], _∷_, _++_}
 use native.Mathlib.Decide.{decLt}
@@ -12,15 +12,17 @@ use lib.ListN.{length, take, drop, getD, replicate, length-take, length-drop, le
 use lib.Seq.{sets, length-sets, sets-eq, ext-getD, getD-take, getD-drop}
 use Rattle.model.specs.declared.Layout.{Layout}
 use Rattle.model.specs.Range.{cat}
-use Rattle.model.specs.Words.{Image, Bytes, byteAt}
+use Rattle.model.specs.Words.{Image, Bytes, byteAt, overlay}
 use Rattle.model.specs.Layout.{segmentSize, mainAt, backupAt}
 use Rattle.model.specs.Container.{activeLine, segmentBytes}
 use Rattle.model.specs.Ops.{Ops, Trace, sfence, apply, replay, persistZero, copySegment, zeroSegment}
 use Rattle.model.specs.Open.{recoverSegment, recoveryOps, openStatus}
+use Rattle.model.specs.Write.{WriteArgs, spanAt, spanOps}
 use Rattle.model.specs.History.{openedImage}
-use Rattle.model.proofs.Laws.Words.{sets-at, sets-other, byte-of-zero}
+use Rattle.model.proofs.Laws.Words.{sets-at, sets-other, byte-of-zero, overlay-cong, overlay-sets}
 use Rattle.model.proofs.Argument.Persist.{length-replay, replay-clear, replay-append}
 use Rattle.model.proofs.Argument.Runs.{Puts, puts-clear, puts-blocks}
+use Rattle.model.proofs.Argument.SpanWords.{SpanOk, span-inside, spanFirst, spanWide, span-bounds, span-puts, laid-outside}
 use Rattle.model.proofs.Argument.Recovery.Segment.{puts-copy}
 use Rattle.model.proofs.Argument.Openings.{opened-is}
 use Rattle.cases.proofs.Compute.{same, same-equal}
@@ -58,6 +60,44 @@ unfolding zeroSegment persistZero
 zeroed l J to room =
     lays (puts-blocks (l .blocks) to (λ m k. 0) (λ i. 0) (λ m k b x y z. byte-of-zero b)) J (replicate (segmentSize l) 0)
     (length-replicate (segmentSize l) 0) room (λ k x. getD-replicate (segmentSize l) k 0 0 x)
+
+-- ---- a span
+
+-- the bytes of a write are laid into an image whose main segment is that of the image which the write was given
+pub spanned : (l : Layout) (I J : Image) (w : WriteArgs) → SpanOk l w → Bytes I → mainAt l (w .main) + segmentSize l ≤ length J
+    → segmentBytes l J (mainAt l (w .main)) ≡ segmentBytes l I (mainAt l (w .main))
+    → replay (spanOps l I w) J ≡ laid J (spanAt l w) (w .bytes)
+spanned l I J w ok bytes room alike =
+    ext-getD 0 (replay (spanOps l I w) J) (sets J (spanAt l w) (w .bytes))
+    (length-replay (spanOps l I w) J ∙ sym (length-sets J (spanAt l w) (w .bytes)))
+    (λ i x. go i (decLt i (spanFirst l w)) (decLt i (spanFirst l w + spanWide l w)))
+    ∙ sets-eq (w .bytes) J (spanAt l w) (omega (arith, span-bounds l w ok, span-inside l w ok))
+  where
+    puts : Puts (spanOps l I w) (spanFirst l w) (spanWide l w) (overlay (byteAt I) (spanAt l w) (w .bytes))
+    puts = span-puts l I w ok bytes
+
+    over : (i : ℕ) → byteAt (sets J (spanAt l w) (w .bytes)) i ≡ overlay (byteAt J) (spanAt l w) (w .bytes) i
+    over i = overlay-sets J (spanAt l w) (w .bytes) i (omega (arith, span-bounds l w ok, span-inside l w ok))
+
+    byte : (K : Image) (i : ℕ) → mainAt l (w .main) ≤ i → i < mainAt l (w .main) + segmentSize l
+        → byteAt K i ≡ byteAt (segmentBytes l K (mainAt l (w .main))) (i - mainAt l (w .main))
+    byte K i low high =
+        let e : mainAt l (w .main) + (i - mainAt l (w .main)) ≡ i = omega arith in
+        ap (byteAt K) (sym e)
+        ∙ sym (getD-take (segmentSize l) (drop (mainAt l (w .main)) K) (i - mainAt l (w .main)) 0 (omega arith) ∙ getD-drop (mainAt l (w .main)) K (i - mainAt l (w .main)) 0)
+
+    given : (i : ℕ) → mainAt l (w .main) ≤ i → i < mainAt l (w .main) + segmentSize l → byteAt I i ≡ byteAt J i
+    given i low high = byte I i low high ∙ ap (λ (K : Image). byteAt K (i - mainAt l (w .main))) (sym alike) ∙ sym (byte J i low high)
+
+    outside : (i : ℕ) → (i < spanFirst l w) ⊎ (spanFirst l w + spanWide l w ≤ i) → byteAt (replay (spanOps l I w) J) i ≡ byteAt (sets J (spanAt l w) (w .bytes)) i
+    outside i h = replay-clear (spanOps l I w) J i (puts-clear puts i h) ∙ sym (over i ∙ laid-outside l J w ok i h)
+
+    go : (i : ℕ) → Dec (i < spanFirst l w) → Dec (i < spanFirst l w + spanWide l w) → byteAt (replay (spanOps l I w) J) i ≡ byteAt (sets J (spanAt l w) (w .bytes)) i
+    go i (yes h) d = outside i (inl h)
+    go i (no h) (no d) = outside i (inr (omega arith))
+    go i (no h) (yes d) =
+        puts .leaves J i (omega (arith, span-bounds l w ok, span-inside l w ok)) (omega arith) d
+        ∙ overlay-cong (byteAt I) (byteAt J) (spanAt l w) (w .bytes) i (given i (omega (arith, span-bounds l w ok)) (omega (arith, span-bounds l w ok, span-inside l w ok))) ∙ sym (over i)
 
 -- ---- a recovery
 

@@ -1,6 +1,6 @@
 -- The first life of the restored board: the image that its calls leave, and that a crash after it may leave.
 use Prim.Native.Nat.{ℕ, suc, _+_, _-_, _%_}
-use mathlib.Core.Path.{_≡_, refl, sym, subst, _∙_}
+use mathlib.Core.Path.{_≡_, refl, sym, ap, subst, _∙_}
 use mathlib.Core.Logic.{inl}
 use mathlib.Core.Bool.{true, false, false≢true}
 use mathlib.Core.List.{List, [], _∷_, _++_}
@@ -13,6 +13,7 @@ use Rattle.model.specs.Layout.{mainAt, backupAt, unpaired}
 use Rattle.model.specs.Container.{backupToMain, segmentBytes}
 use Rattle.model.specs.Session.{freshSession}
 use Rattle.model.specs.Ops.{replay, zeroSegment}
+use Rattle.model.specs.Outcome.{Outcome}
 use Rattle.model.specs.Format.{container, formatted}
 use Rattle.model.specs.Open.{recoverSegment, openStatus}
 use Rattle.model.specs.Write.{needsBackup, copyPlan, pairOps, stateOps, spanOps, writeStatus, writeOutcome}
@@ -27,7 +28,7 @@ use Rattle.model.proofs.CrashSafety.{history-stands}
 use Rattle.cases.proofs.Compute.{model-rules, same, same-equal, small, small-bytes}
 use Rattle.cases.proofs.Starts.{standing, started}
 use Rattle.cases.proofs.Blocks.{laid, Recovered, recovered-none, recovered-zero, recovered-all}
-use Rattle.cases.proofs.Leads.{At, Leads, arrived, leads, copying}
+use Rattle.cases.proofs.Leads.{At, Leads, arrived, leads, copying, write-served}
 
 -- ---- its opening
 
@@ -91,7 +92,8 @@ takes : {I J K : Image} {y : Session} (word i v j : ℕ) (cs : List Call) → le
     → ((s : State) → At s J y → Leads s cs K) → (s : State) → At s I (session word 5) → Leads s (put i v j ∷ cs) K
 takes {I} word i v j cs long bytes byte served plan below free has room answer image next =
     leads (put i v j) cs (rw long refl) (small-bytes (v ∷ []) byte, λ served needs. (lit< below, inl free)) answer
-    (copying (session word 5) I (writes i 0 (v ∷ [])) j longTrace served plan (small-bytes I bytes) (rw long (lit≤ has)) (rw long (lit≤ room)) ∙ same-equal _ _ image)
+    (ap (λ (o : Outcome). replay (o .ops) I) (write-served (session word 5) I (writes i 0 (v ∷ [])) j longTrace served)
+    ∙ copying (session word 5) I (writes i 0 (v ∷ [])) j plan (small-bytes I bytes) (rw long (lit≤ has)) (rw long (lit≤ room)) ∙ same-equal _ _ image)
     next
 
 -- with this image and this session, what is left of it after k calls leads to the image that is left

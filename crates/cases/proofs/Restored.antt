@@ -5,28 +5,28 @@ use mathlib.Core.Logic.{_≢_, inr}
 use mathlib.Core.Bool.{true, false, false≢true}
 use mathlib.Core.List.{List, [], _∷_, _++_}
 use native.Mathlib.Omega.{arith}
-use lib.Dec.{T, leb, eqb, lit<}
-use lib.ListN.{length, take, replicate}
+use lib.Dec.{T, leb, eqb, lit<, lit≤}
+use lib.ListN.{length, replicate}
 use Rattle.model.specs.Range.{anyB, orNext, firstB}
 use Rattle.model.specs.Words.{Image, Bytes, bytesOf}
 use Rattle.model.specs.Layout.{mainAt, backupAt, unpaired}
 use Rattle.model.specs.Container.{activeLine, segmentBytes, isPaired, pairedBackup, byState}
-use Rattle.model.specs.Ops.{Ops, store, clwb, sfence, replay, copySegment}
+use Rattle.model.specs.Ops.{store, replay, copySegment}
 use Rattle.model.specs.Format.{container}
 use Rattle.model.specs.Open.{recoveryAction, actionOps, recoverSegment, openStatus}
 use Rattle.model.specs.Reads.{checkpointBlock}
-use Rattle.model.specs.History.{State, outcome, calledOps, step, run, openedImage, AllPermitted}
-use Rattle.model.specs.CrashSafety.{Recovers, during}
-use Rattle.cases.specs.Table.{Case, checkpoint, follow}
-use Rattle.cases.specs.Cut.{EitherPage, CutCheckpoint}
-use Rattle.cases.specs.Restored.{l641, boardTrace, put, segments, leftBoard, restoredBoard, board, story, shorter, AsExpected, calls, beforeCheckpoint, oldPage, newPage, RestoredStory}
+use Rattle.model.specs.History.{State, step, run, openedImage, AllPermitted}
+use Rattle.model.specs.CrashSafety.{Recovers}
+use Rattle.cases.specs.Table.{Case, follow, AsExpected, calls}
+use Rattle.cases.specs.Cut.{CutCheckpoint}
+use Rattle.cases.specs.Restored.{l641, boardTrace, put, segments, leftBoard, restoredBoard, board, story, shorter, beforeCheckpoint, oldPage, newPage, RestoredStory}
 use Rattle.model.proofs.Argument.Stands.{Stands}
 use Rattle.model.proofs.CrashSafety.{history-stands}
 use Rattle.cases.proofs.Compute.{model-rules, same, same-equal, small, small-bytes}
 use Rattle.cases.proofs.Table.{agree, agree-equal}
 use Rattle.cases.proofs.Starts.{standing, started}
 use Rattle.cases.proofs.Blocks.{laid, Recovered, recovered-none, recovered-copy, recovered-zero, recovered-idle, recovered-all}
-use Rattle.cases.proofs.Shown.{left, shows, storesEpoch, shows-before, shows-after}
+use Rattle.cases.proofs.Shown.{shows, storesEpoch, cut-checkpoint}
 use Rattle.cases.proofs.FirstLife.{later}
 use Rattle.cases.proofs.FirstLife as first
 
@@ -83,7 +83,7 @@ shorter-agrees : agree (follow shorter (standing l641 restored oldPage)) ≡ tru
 unfolding model-rules shorter follow same agree
 shorter-agrees = refl
 
-answered : (cs : List Case) → agree (follow cs (standing l641 restored oldPage)) ≡ true → AsExpected cs
+answered : (cs : List Case) → agree (follow cs (standing l641 restored oldPage)) ≡ true → AsExpected restoredBoard cs
 answered cs test = agree-equal (follow cs restoredBoard) (subst (λ (s : State). agree (follow cs s) ≡ true) (sym starts) test)
 
 -- what the tests of the two refusals mean: the first write is not served, and the last takes a backup segment whose main segment is in state 1
@@ -161,13 +161,6 @@ cutImage epoch =
     container l641 epoch (replicate 6 1 ++ replicate 58 0) (2 ∷ 2 ∷ 2 ∷ 2 ∷ 1 ∷ 0 ∷ replicate 58 0) (0 ∷ 1 ∷ 2 ∷ 3 ∷ replicate 60 unpaired)
     (segments (10 ∷ 11 ∷ 12 ∷ 13 ∷ 14 ∷ 35 ∷ []) ++ segments (10 ∷ 11 ∷ 12 ∷ 13 ∷ []))
 
-abbrev played : ℕ → Ops
-played p =
-    store 1792 35
-    ∷ take p (clwb 1792 ∷ clwb 1856 ∷ clwb 1920 ∷ clwb 1984 ∷ sfence
-    ∷ store 128 0x010101010101 ∷ store 136 0 ∷ store 144 0 ∷ store 152 0 ∷ store 160 0 ∷ store 168 0 ∷ store 176 0 ∷ store 184 0 ∷ clwb 128 ∷ sfence
-    ∷ store 0 2 ∷ clwb 0 ∷ sfence ∷ [])
-
 shows-old : Recovers l641 (cutImage 1) boardTrace oldPage
 unfolding model-rules same small
 shows-old = shows l641 (cutImage 1) boardTrace oldPage refl refl refl
@@ -176,31 +169,11 @@ shows-new : Recovers l641 (cutImage 2) boardTrace newPage
 unfolding model-rules same small
 shows-new = shows l641 (cutImage 2) boardTrace newPage refl refl refl
 
-either-16 : EitherPage before (during checkpoint 16) oldPage newPage
-unfolding model-rules same
-either-16 = record {
-  canOld = (cutImage 1, left before 16 16 (played 16) (cutImage 1) refl tt tt refl, boardTrace, shows-old);
-  canNew = (cutImage 2, left before 16 17 (played 16) (cutImage 2) refl tt tt refl, boardTrace, shows-new);
-}
-
-either-17 : EitherPage before (during checkpoint 17) oldPage newPage
-unfolding model-rules same
-either-17 = record {
-  canOld = (cutImage 1, left before 17 16 (played 17) (cutImage 1) refl tt tt refl, boardTrace, shows-old);
-  canNew = (cutImage 2, left before 17 17 (played 17) (cutImage 2) refl tt tt refl, boardTrace, shows-new);
-}
-
-count : length (outcome (before .device) checkpoint .ops) ≡ 18
-unfolding model-rules
-count = refl
-
-no-epoch : storesEpoch (calledOps (before .device) checkpoint 15) ≡ false
-unfolding model-rules storesEpoch
-no-epoch = refl
-
-saved : step before checkpoint .model .checkpoint ≡ newPage
-unfolding model-rules
-saved = refl
+shown : CutCheckpoint 18 before oldPage newPage
+unfolding model-rules same storesEpoch
+shown =
+    cut-checkpoint before holds (before .device .image) (before .device .session) 18 refl refl refl (lit≤ tt)
+    oldPage newPage (cutImage 1) (cutImage 2) refl refl refl refl refl boardTrace shows-old shows-new refl refl
 
 shows-left : Recovers l641 leftBoard boardTrace oldPage
 unfolding model-rules same small
@@ -218,13 +191,7 @@ restored-story = record {
   restored = ap board starts ∙ board-is;
   permitted = subst (λ (s : State). AllPermitted s (calls story)) (sym starts) all-permitted;
   answered = answered story story-agrees;
-  cut = subst (λ (s : State). CutCheckpoint s oldPage newPage) (sym stands) (record {
-    count = count;
-    after15 = shows-before before holds 15 oldPage (omega (arith, count)) no-epoch refl;
-    after16 = either-16;
-    after17 = either-17;
-    after18 = shows-after before holds newPage saved;
-  });
+  cut = subst (λ (s : State). CutCheckpoint 18 s oldPage newPage) (sym stands) shown;
   untouchedPermitted = subst (λ (s : State). AllPermitted s (calls shorter)) (sym starts) shorter-permitted;
   untouched = answered shorter shorter-agrees;
   empty = ap (λ (s : State). checkpointBlock l641 (run s (calls shorter) .device .image) 5 0) starts ∙ no-part;

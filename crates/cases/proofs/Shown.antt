@@ -1,26 +1,35 @@
 -- What a crash inside a checkpoint can leave, and what opening shows of it: by demand 3 before the window and after it, and by two
 -- images inside.
-use Prim.Native.Nat.{ℕ, _+_, _≤_, _<_}
-use mathlib.Core.Path.{_≡_, refl, sym, ap, subst, _∙_}
+use Prim.Native.Nat.{ℕ, _+_, _-_, _%_, _≤_, _<_}
+use mathlib.Core.Path.{_≡_, refl, sym, ap, ap₂, subst, _∙_}
 use mathlib.Core.Logic.{⊎-elim}
 use mathlib.Core.Bool.{Bool, true, false, _||_, false≢true}
 use mathlib.Core.List.{[], _∷_, _++_}
 use native.Mathlib.Omega.{arith}
-use lib.Dec.{T, leb, eqb, lit≤}
-use lib.ListN.{length, take, length-append}
+use lib.Dec.{eqb}
+use lib.ListN.{length, take, length-append, length-take}
+use lib.Seq.{take-take}
 use Rattle.model.specs.declared.Layout.{Layout}
+use Rattle.model.specs.declared.Session.{Session}
 use Rattle.model.specs.Words.{Image, byteAt}
-use Rattle.model.specs.Layout.{epochAt}
+use Rattle.model.specs.Layout.{lineSize, epochAt}
 use Rattle.model.specs.Container.{activeLine, checkpointBytes}
 use Rattle.model.specs.Ops.{Ops, Trace, store, clwb, sfence, replay}
+use Rattle.model.specs.Outcome.{outcomeOf}
 use Rattle.model.specs.Open.{openStatus}
+use Rattle.model.specs.Write.{WriteArgs}
+use Rattle.model.specs.Checkpoint.{checkpointStatus, checkpointOutcome}
 use Rattle.model.specs.Crash.{CrashImage}
-use Rattle.model.specs.Reference.{Page}
-use Rattle.model.specs.History.{State, outcome, calledOps, step}
-use Rattle.model.specs.CrashSafety.{Recovers, between, during, EpochStored, none}
-use Rattle.cases.specs.Table.{checkpoint}
-use Rattle.cases.specs.Cut.{MayLeave, OnlyShows}
+use Rattle.model.specs.Reference.{Page, writeArgs, checkpointArgs, modelStep}
+use Rattle.model.specs.History.{Call, State, outcome, playedOps, calledOps, step, Permitted}
+use Rattle.model.specs.CrashSafety.{Recovers, between, during, EpochStored, Window, none}
+use Rattle.model.specs.EpochCounts.{isCheckpoint}
+use Rattle.cases.specs.Table.{longTrace, checkpoint}
+use Rattle.cases.specs.Cut.{MayLeave, OnlyShows, EitherPage, CutCheckpoint}
 use Rattle.model.proofs.Laws.Range.{or-right}
+use Rattle.model.proofs.Laws.Ops.{played-ops}
+use Rattle.model.proofs.Laws.Replay.{checkpoint-outcome-ok}
+use Rattle.model.proofs.Laws.Crash.Images.{crash-after}
 use Rattle.model.proofs.Argument.Persist.{length-replay}
 use Rattle.model.proofs.Argument.Stands.{Stands, rest-crash}
 use Rattle.model.proofs.Argument.Openings.{recovers}
@@ -42,12 +51,6 @@ late I O k H k≤ ≤k e = record {
     agree = λ i line. ap (λ (J : Image). byteAt J i) (sym e);
   };
 }
-
--- what stood after k of the operations O, the last of which were p of the checkpoint
-pub left : (s : State) (p k : ℕ) (O : Ops) (H : Image) → O ≡ s .device .played ++ calledOps (s .device) checkpoint p
-    → T (leb k (length O)) → T (leb (length O) (k + 2)) → same (replay (take k O) (s .device .durable)) H ≡ true → MayLeave s (during checkpoint p) H
-left s p k O H e k≤ ≤k test =
-    subst (λ (X : Ops). CrashImage (s .device .durable) X H) e (late (s .device .durable) O k H (lit≤ k≤) (lit≤ ≤k) (same-equal _ _ test))
 
 pub shows : (l : Layout) (H : Image) (t : Trace) (Q : Page) → openStatus l H t ≡ 0 → small H ≡ true → same (checkpointBytes l H (activeLine H)) Q ≡ true
     → Recovers l H t Q
@@ -72,15 +75,70 @@ epoch-stored (sfence ∷ A) D w = epoch-stored A D w
 not-yet : (O : Ops) → storesEpoch O ≡ false → EpochStored O → ⊥
 not-yet O none-yet w = false≢true (sym none-yet ∙ ap storesEpoch (w .3) ∙ epoch-stored (w .0) (w .1) (w .2))
 
-pub shows-before : (s : State) → Stands s → (p : ℕ) (Q : Page) → p < length (outcome (s .device) checkpoint .ops)
-    → storesEpoch (calledOps (s .device) checkpoint p) ≡ false → s .model .checkpoint ≡ Q → OnlyShows s (during checkpoint p) Q
-shows-before s st p Q more none-yet is H crash t long =
-    let x = argument s st checkpoint tt .crash p H more crash in
-    subst (Recovers (s .device .layout) H t) (⊎-elim (λ e. e ∙ is) (λ w. absurd (not-yet _ none-yet (w .0 .1))) (x .1))
+-- a write is no checkpoint, so that it has no window
+pub no-checkpoint : {w : WriteArgs} → writeArgs w ≡ checkpointArgs → ⊥
+no-checkpoint e = false≢true (ap isCheckpoint e)
+
+-- in a call that is made in state s, outside the window
+pub shows-during : (s : State) → Stands s → (c : Call) → Permitted (s .device) c → (p : ℕ) (Q : Page) → p < length (outcome (s .device) c .ops)
+    → (Window (s .device) c p → ⊥) → s .model .checkpoint ≡ Q → OnlyShows s (during c p) Q
+shows-during s st c permitted p Q more outside is H crash t long =
+    let x = argument s st c permitted .crash p H more crash in
+    subst (Recovers (s .device .layout) H t) (⊎-elim (λ e. e ∙ is) (λ w. absurd (outside (w .0))) (x .1))
     (recovers (s .device .layout) H t (x .0) (x .2) (x .3) long)
 
-pub shows-after : (s : State) → Stands s → (Q : Page) → step s checkpoint .model .checkpoint ≡ Q → OnlyShows (step s checkpoint) between Q
-shows-after s st Q is H crash t long =
-    let after = argument s st checkpoint tt .stands in
-    subst (Recovers (step s checkpoint .device .layout) H t) is
-    (recovers (step s checkpoint .device .layout) H t (step s checkpoint .model .checkpoint) (after .wholeCheckpoint) (rest-crash (step s checkpoint) after H crash) long)
+-- at rest
+pub shows-between : (s : State) → Stands s → (Q : Page) → s .model .checkpoint ≡ Q → OnlyShows s between Q
+shows-between s st Q is H crash t long =
+    subst (Recovers (s .device .layout) H t) is
+    (recovers (s .device .layout) H t (s .model .checkpoint) (st .wholeCheckpoint) (rest-crash s st H crash) long)
+
+-- ---- the cut of a checkpoint
+
+-- it is made in a state with the image I and the session x, and has n operations
+module _ (s : State) (st : Stands s) (I : Image) (x : Session) (n : ℕ) (image : s .device .image ≡ I) (session : s .device .session ≡ x)
+    (whole : length I % lineSize ≡ 0) (enough : 3 ≤ n) where
+  abbrev ops : Ops
+  ops = checkpointOutcome x I longTrace .ops
+
+  called : (p : ℕ) → calledOps (s .device) checkpoint p ≡ take p ops
+  called p =
+      ap₂ (λ (y : Session) (J : Image). playedOps J (checkpointOutcome y J longTrace .ops) longTrace p) session image
+      ∙ played-ops I ops longTrace p whole (checkpoint-outcome-ok x I longTrace)
+
+  made : length (outcome (s .device) checkpoint .ops) ≡ length ops
+  made = ap₂ (λ (y : Session) (J : Image). length (checkpointOutcome y J longTrace .ops)) session image
+
+  -- what stood after k of the p operations that were played
+  leaves : (p k : ℕ) (H : Image) → k ≤ p → p ≤ length ops → p ≤ k + 2 → replay (take k ops) I ≡ H → MayLeave s (during checkpoint p) H
+  leaves p k H low high near e =
+      subst (λ (X : Ops). CrashImage (s .device .durable) (s .device .played ++ X) H) (sym (called p))
+      (crash-after (s .device .durable) H (s .device .played) (take p ops)
+      (subst (λ (J : Image). CrashImage J (take p ops) H) (sym image ∙ st .image)
+      (late I (take p ops) k H (omega (arith, length-take p ops)) (omega (arith, length-take p ops))
+      (ap (λ (X : Ops). replay X I) (take-take k p ops low) ∙ e))))
+
+  -- before the epoch's store the image old stands, which shows the page P; after it the image new, which shows the page W
+  pub cut-checkpoint : (P W : Page) (old new : Image) → checkpointStatus x I longTrace ≡ 0 → length ops ≡ n → storesEpoch (take (n - 3) ops) ≡ false
+      → same (replay (take (n - 3) ops) I) old ≡ true → same (replay (take (n - 2) ops) I) new ≡ true
+      → (t : Trace) → Recovers (s .device .layout) old t P → Recovers (s .device .layout) new t W
+      → s .model .checkpoint ≡ P → s .model .working ≡ W → CutCheckpoint n s P W
+  unfolding step modelStep checkpointOutcome outcomeOf
+  cut-checkpoint P W old new served count none-yet before after t shows-old shows-new saved working =
+      record {
+        count = made ∙ count;
+        before =
+            shows-during s st checkpoint tt (n - 3) P (omega (arith, made, count))
+            (λ w. not-yet (take (n - 3) ops) none-yet (subst EpochStored (called (n - 3)) (w .1))) saved;
+        stored = either (n - 2) (omega arith) (omega (arith, count)) (omega arith);
+        flushed = either (n - 1) (omega arith) (omega (arith, count)) (omega arith);
+        after =
+            shows-between (step s checkpoint) (argument s st checkpoint tt .stands) W
+            (rw (ap₂ (λ (y : Session) (J : Image). checkpointStatus y J longTrace) session image ∙ served) working);
+      }
+    where
+      either : (p : ℕ) → n - 2 ≤ p → p ≤ length ops → p ≤ n - 3 + 2 → EitherPage s (during checkpoint p) P W
+      either p low high near = record {
+        canOld = (old, leaves p (n - 3) old (omega arith) high near (same-equal _ _ before), t, shows-old);
+        canNew = (new, leaves p (n - 2) new low high (omega arith) (same-equal _ _ after), t, shows-new);
+      }

@@ -1,5 +1,6 @@
--- A crash inside a checkpoint of 18 operations: what opening can show afterwards, by the number of operations played; and that of
--- P4 (SPECIFICATION 17.3). Proved in proofs/Cut.antt.
+-- A crash inside a checkpoint: what opening can show afterwards, by the number of operations played; and that of P4
+-- (SPECIFICATION 17.3). Proved in proofs/Cut.antt.
+use Prim.Native.Nat.{ℕ, _-_}
 use mathlib.Core.Path.{_≡_}
 use mathlib.Core.Logic.{_≢_}
 use mathlib.Core.List.{[], _∷_, _++_}
@@ -30,14 +31,14 @@ pub record EitherPage (s : State) (m : Moment) (old new : Page) : Type 0 where
   pub canOld : CanShow s m old
   pub canNew : CanShow s m new
 
--- a checkpoint of 18 operations made in state s: just before the store of the epoch only the old page is shown, from there on up to
--- the last fence either can be, and once it is played whole only the new one
-pub record CutCheckpoint (s : State) (old new : Page) : Type 0 where
-  pub count : length (outcome (s .device) checkpoint .ops) ≡ 18
-  pub after15 : OnlyShows s (during checkpoint 15) old
-  pub after16 : EitherPage s (during checkpoint 16) old new
-  pub after17 : EitherPage s (during checkpoint 17) old new
-  pub after18 : OnlyShows (step s checkpoint) between new
+-- a checkpoint of n operations made in state s: just before the store of the epoch, which is the last but two, only the old page is
+-- shown, from there on up to the last fence either can be, and once it is played whole only the new one
+pub record CutCheckpoint (n : ℕ) (s : State) (old new : Page) : Type 0 where
+  pub count : length (outcome (s .device) checkpoint .ops) ≡ n
+  pub before : OnlyShows s (during checkpoint (n - 3)) old
+  pub stored : EitherPage s (during checkpoint (n - 2)) old new
+  pub flushed : EitherPage s (during checkpoint (n - 1)) old new
+  pub after : OnlyShows (step s checkpoint) between new
 
 -- ---- P4
 
@@ -53,4 +54,4 @@ abbrev pub newBytes : Page
 newBytes = replicate 6 0 ++ fourBytes ++ replicate 502 0
 
 abbrev pub CutP4 : Type 0
-CutP4 = CutCheckpoint beforeP4 zeros newBytes
+CutP4 = CutCheckpoint 18 beforeP4 zeros newBytes

@@ -5,9 +5,9 @@
 -- written to each of main segments 0 to 3, which copies each of them to a backup segment first; power fails. The second life is an
 -- opening of what is left. A write to main segment 4 is refused with 9, and one to main segment 5 is served. Then comes a checkpoint,
 -- which turns every state to 1, and now main segment 4 can be written. Proved in proofs/Restored.antt.
-use Prim.Native.Nat.{ℕ, _+_}
+use Prim.Native.Nat.{ℕ}
 use mathlib.Core.Path.{_≡_}
-use mathlib.Core.List.{List, [], _∷_, _++_, map}
+use mathlib.Core.List.{List, [], _∷_, _++_}
 use lib.ListN.{take, drop, replicate}
 use Rattle.model.specs.declared.Layout.{Layout}
 use Rattle.model.specs.Words.{Image, Bytes}
@@ -21,7 +21,7 @@ use Rattle.model.specs.Reads.{checkpointBlock}
 use Rattle.model.specs.Reference.{Page}
 use Rattle.model.specs.History.{Call, callWrite, State, start, run, AllPermitted}
 use Rattle.model.specs.CrashSafety.{between, Recovers}
-use Rattle.cases.specs.Table.{Row, Case, sizes, longTrace, writes, checkpoint, case, follow}
+use Rattle.cases.specs.Table.{Case, sizes, longTrace, writes, checkpoint, case, AsExpected, calls}
 use Rattle.cases.specs.Cut.{MayLeave, CutCheckpoint}
 
 abbrev pub l641 : Layout
@@ -85,13 +85,6 @@ shorter =
     ∷ case 3 (put 4 34 0) onBoard ((0 ∷ 43 ∷ []) ++ (1 ∷ 1 ∷ 1 ∷ 1 ∷ 2 ∷ 0 ∷ []) ++ (4 ∷ 1 ∷ 2 ∷ 3 ∷ []))
     ∷ []
 
--- the rows of the calls have what is expected
-abbrev pub AsExpected : List Case → Type 0
-AsExpected cs = map (λ (r : Row). r .given) (follow cs restoredBoard) ≡ map (λ (r : Row). r .expected) (follow cs restoredBoard)
-
-abbrev pub calls : List Case → List Call
-calls cs = map (λ (c : Case). c .call) cs
-
 -- where it stands before the checkpoint; and the page of the first life's checkpoint, and that of this one
 abbrev pub beforeCheckpoint : State
 beforeCheckpoint = run restoredBoard (put 4 34 0 ∷ put 5 35 0 ∷ [])
@@ -116,9 +109,9 @@ pub record RestoredStory : Type 0 where
   pub restored : board restoredBoard ≡ (2 ∷ 2 ∷ 2 ∷ 2 ∷ 1 ∷ 0 ∷ []) ++ (0 ∷ 1 ∷ 2 ∷ 3 ∷ [])
   -- its calls are permitted and answer so; the crash inside its checkpoint
   pub permitted : AllPermitted restoredBoard (calls story)
-  pub answered : AsExpected story
-  pub cut : CutCheckpoint beforeCheckpoint oldPage newPage
+  pub answered : AsExpected restoredBoard story
+  pub cut : CutCheckpoint 18 beforeCheckpoint oldPage newPage
   -- without the write to main segment 5
   pub untouchedPermitted : AllPermitted restoredBoard (calls shorter)
-  pub untouched : AsExpected shorter
+  pub untouched : AsExpected restoredBoard shorter
   pub empty : checkpointBlock l641 (run restoredBoard (calls shorter) .device .image) 5 0 ≡ []

@@ -116,6 +116,13 @@ unfoldable pub follow : List Case → State → List Row
 follow [] s = []
 follow (c ∷ cs) s = rowOf s c (step s (c .call)) ∷ follow cs (step s (c .call))
 
+-- their rows, from the state s on, have what is expected
+abbrev pub AsExpected : State → List Case → Type 0
+AsExpected s cs = map (λ (r : Row). r .given) (follow cs s) ≡ map (λ (r : Row). r .expected) (follow cs s)
+
+abbrev pub calls : List Case → List Call
+calls cs = map (λ (c : Case). c .call) cs
+
 -- ---- the cases that stand alone
 
 unfoldable pub sizeCases : List Row

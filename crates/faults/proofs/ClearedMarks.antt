@@ -19,7 +19,7 @@ use Rattle.cases.specs.Table.{longTrace, write, aWord}
 use Rattle.faults.specs.Faults.{l111, one, CalledShowsOther, twoCalls, marksCleared, ClearedMarks}
 use Rattle.model.proofs.Laws.Crash.Images.{newest}
 use Rattle.cases.proofs.Compute.{model-rules, same, same-equal, small, small-bytes}
-use Rattle.faults.proofs.Shown.{no-checkpoint}
+use Rattle.cases.proofs.Shown.{no-checkpoint}
 use Rattle.faults.proofs.TwoCalls.{image, old, new, before, saved, stands, calls-permitted, old-shown}
 
 abbrev cleared : State

@@ -21,8 +21,8 @@ use Rattle.faults.specs.Faults.{l111, one, earlyStateOps, earlyWriteOps,
 use Rattle.model.proofs.Argument.Settled.{Off}
 use Rattle.model.proofs.Laws.Crash.Images.{durable-unfenced, crash-after}
 use Rattle.cases.proofs.Compute.{model-rules, same, same-equal, small, small-bytes}
+use Rattle.cases.proofs.Shown.{no-checkpoint}
 use Rattle.cases.proofs.Starts.{standing, started}
-use Rattle.faults.proofs.Shown.{no-checkpoint}
 use Rattle.faults.proofs.Alone.{arrives-alone, elsewhere, avoids, avoids-off}
 use Rattle.faults.proofs.TwoCalls.{image, old, new, marked, before, saved, stands, replayed, calls-permitted, old-shown}
 

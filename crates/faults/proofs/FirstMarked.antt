@@ -20,7 +20,7 @@ use Rattle.faults.specs.Faults.{l112, writeTwo, firstSession, firstMarke
 use Rattle.model.proofs.Laws.Crash.Images.{crash-after}
 use Rattle.model.proofs.CrashSafety.{history-stands}
 use Rattle.cases.proofs.Compute.{model-rules, same, same-equal, small, small-bytes}
-use Rattle.cases.proofs.Shown.{shows, shows-after}
+use Rattle.cases.proofs.Shown.{shows, shows-between}
 use Rattle.cases.proofs.Starts.{standing, started}
 use Rattle.faults.proofs.Alone.{elsewhere, avoids, first-lost}
 
@@ -130,10 +130,10 @@ page = refl
 pub both-marked : BothMarked (start l112 F longTrace)
 unfolding run
 both-marked =
-    let first : AllPermitted (start l112 F longTrace) (writeTwo ∷ []) =
-    subst (λ (s : State). AllPermitted s (writeTwo ∷ [])) (sym starts) (permitted, tt) in (
-      (first .0, (tt, tt)),
-      shows-after (step (start l112 F longTrace) writeTwo)
-          (history-stands l112 F longTrace (small-bytes F bytes) opens (writeTwo ∷ []) first) new
+    let may : AllPermitted (start l112 F longTrace) (writeTwo ∷ checkpoint ∷ []) =
+    (subst (λ (s : State). Permitted (s .device) writeTwo) (sym starts) permitted, (tt, tt)) in (
+      may,
+      shows-between (run (start l112 F longTrace) (writeTwo ∷ checkpoint ∷ []))
+          (history-stands l112 F longTrace (small-bytes F bytes) opens (writeTwo ∷ checkpoint ∷ []) may) new
           (ap (λ (s : State). run s (writeTwo ∷ checkpoint ∷ []) .model .checkpoint) starts ∙ page),
     )

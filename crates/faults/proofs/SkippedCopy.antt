@@ -18,8 +18,9 @@ use Rattle.cases.specs.Table.{write, aWord}
 use Rattle.faults.specs.Faults.{l111, one, skippingAction, skippingOps, skippingOpened, skippingStart, SkippedCopy}
 use Rattle.model.proofs.Laws.Crash.Images.{newest}
 use Rattle.cases.proofs.Compute.{model-rules, same, same-equal, small, small-bytes}
+use Rattle.cases.proofs.Shown.{no-checkpoint}
 use Rattle.cases.proofs.Starts.{standing}
-use Rattle.faults.proofs.Shown.{only-block, no-checkpoint}
+use Rattle.faults.proofs.Shown.{only-block}
 
 abbrev stale : State
 stale = standing l111 (one 0) (replicate 256 40)

@@ -1,0 +1,459 @@
+-- The long registrations, call by call: image, session and pages before each of them and after it. What a checkpoint answers and
+-- leaves is computed. Of a write its words are not: its status and its number of operations follow from the law that counts them
+-- (`length-write`), what it leaves from the laws of copies and of spans, and only the numbers and the lists that these speak of are computed.
+-- The crashes follow from demand 3, and in the window from two computed images.
+use Prim.Native.Nat.{ℕ, _+_, _*_, _%_, _<_, _≤_}
+use mathlib.Core.Path.{_≡_, refl, sym, ap, ap₂, subst, subst₂, _∙_}
+use mathlib.Core.Logic.{inl}
+use mathlib.Core.Bool.{true, false, false≢true}
+use mathlib.Core.List.{List, [], _∷_, _++_}
+use native.Mathlib.Omega.{arith}
+use lib.Dec.{ltb, lit<, lit≤}
+use lib.ListN.{length, take, drop, replicate}
+use lib.Seq.{sets, sets-eq}
+use Rattle.model.specs.declared.Layout.{Layout}
+use Rattle.model.specs.declared.Session.{Session}
+use Rattle.model.specs.declared.Plan.the-variants.{NoCopy, OwnBackup, NewBackup}
+use Rattle.model.specs.Range.{cat, sumTo}
+use Rattle.model.specs.Words.{Image, Bytes, byteAt, wordOf, bytesOf, overlay}
+use Rattle.model.specs.Layout.{lineSize, unpaired}
+use Rattle.model.specs.Container.{activeState, backupToMain, Free, segmentBytes}
+use Rattle.model.specs.Status.{firstError}
+use Rattle.model.specs.Session.{bit, dirtyWord, freshSession, withCheckpoint}
+use Rattle.model.specs.Ops.{opNumbers, Ops, encode, replay, stores, copySegment}
+use Rattle.model.specs.Outcome.{Outcome}
+use Rattle.model.specs.Format.{container, formatted}
+use Rattle.model.specs.Open.{openStatus, openOutcome}
+use Rattle.model.specs.Write.{WriteArgs, needsBackup, copyPlan, noneFree, earlyErrors, spanOps, stateOps, pairOps, copyDirty, backupOps, writeOps, writeSession, writeStatus, writeOutcome}
+use Rattle.model.specs.Counts.{dirtyCount}
+use Rattle.model.specs.Checkpoint.{checkpointOps, checkpointStatus, checkpointOutcome}
+use Rattle.model.specs.Reference.{Page, pageAt, modelStep}
+use Rattle.model.specs.History.{Call, callWrite, State, outcome, deviceStep, step, run, openedImage, Permitted, AllPermitted}
+use Rattle.model.specs.CrashSafety.{Reads, Recovers, during}
+use Rattle.cases.specs.Table.{answer, sizes, longTrace, checkpoint, follow, AsExpected, calls}
+use Rattle.cases.specs.Cut.{OnlyShows, CutCheckpoint}
+use Rattle.cases.specs.Long.{l114, longestTrace, filling, fill, marks, operation, marksAndEnds, story, opened, afterL2, afterL3, afterL4, afterL5, noBytes, firstBytes, secondBytes, LongStory}
+use Rattle.model.proofs.Laws.Counts.Write.{copyCount, spanCount, length-write}
+use Rattle.model.proofs.Argument.Stands.{Stands}
+use Rattle.model.proofs.Argument.SpanWords.{SpanOk}
+use Rattle.model.proofs.Argument.Write.{span-ok}
+use Rattle.model.proofs.CrashSafety.{history-stands}
+use Rattle.model.proofs.Sisters.{reads-follow-model}
+use Rattle.cases.proofs.Compute.{model-rules, same, same-equal, small, small-bytes}
+use Rattle.cases.proofs.Starts.{standing, started}
+use Rattle.cases.proofs.Blocks.{laid, copied, spanned, recovered-none, recovered-zero, recovered-all}
+use Rattle.cases.proofs.Leads.{At, goes, uncopied, backed, copying, write-status, write-served, write-refused, checkpoint-served}
+use Rattle.cases.proofs.Shown.{shows, storesEpoch, no-checkpoint, shows-during, shows-between, cut-checkpoint}
+
+-- ---- where a state of the story stands
+
+pub record Has (s : State) (I : Image) (x : Session) (W P : Page) : Type 0 where
+  pub here : At s I x
+  pub sized : s .device .layout ≡ l114
+  pub working : s .model .working ≡ W
+  pub checkpoint : s .model .checkpoint ≡ P
+
+-- a call is permitted, answers this with n operations, and leaves this
+abbrev Goes : State → Call → Outcome → ℕ → Image → Session → Page → Page → Type 0
+Goes s c o n J y W P = Permitted (s .device) c × (outcome (s .device) c ≡ o) × (length (o .ops) ≡ n) × Has (step s c) J y W P
+
+abbrev wrote : Session → Session → Image → WriteArgs → Outcome
+wrote y x I w = record { status = 0; session = y; ops = writeOps x I w 0 }
+
+abbrev refused : Session → Outcome
+refused x = record { status = 8; session = x; ops = [] }
+
+abbrev saved : Session → Session → Image → Outcome
+saved y x I = record { status = 0; session = y; ops = checkpointOps x I }
+
+-- where a write stands in a page
+abbrev placeOf : WriteArgs → ℕ
+placeOf w = pageAt l114 (w .main) (w .block) + w .offset
+
+-- how many operations a write has, and its status if it has n
+abbrev countOf : Session → Image → WriteArgs → ℕ
+countOf x I w = copyCount (x .layout) (dirtyWord x (w .main)) (copyPlan x I (w .main) 0) + spanCount (x .layout) w
+
+abbrev statusOf : Session → Image → WriteArgs → ℕ → ℕ
+statusOf x I w n = firstError (earlyErrors x I w ++ (9, noneFree (copyPlan x I (w .main) 0)) ∷ (11, ltb (length longestTrace) (opNumbers * n)) ∷ [])
+
+-- a served write
+writes-on : (I : Image) (x : Session) (W P : Page) (w : WriteArgs) (n : ℕ) (J : Image) (y : Session) (X : Page)
+    → length I % lineSize ≡ 0 → small I ≡ true → small (w .bytes) ≡ true
+    → (needsBackup x I (w .main) ≡ true → Free (x .layout) (activeState I) (backupToMain I) 0)
+    → countOf x I w ≡ n → statusOf x I w n ≡ 0 → writeSession x I w ≡ y
+    → (Bytes I → SpanOk (x .layout) w → replay (writeOps x I w 0) I ≡ J)
+    → placeOf w + length (w .bytes) ≤ length W → same (laid W (placeOf w) (w .bytes)) X ≡ true
+    → (s : State) → Has s I x W P → Goes s (callWrite w longestTrace 0) (wrote y x I w) n J y X P
+unfolding step deviceStep modelStep
+writes-on I x W P w n J y X whole bytes given free count status answered leaves room page s h =
+    let served : writeStatus x I w 0 longestTrace ≡ 0 = write-status x I w 0 longestTrace n 0 count status in
+    let o : writeOutcome x I w 0 longestTrace ≡ wrote y x I w = write-served x I w 0 longestTrace served ∙ ap (λ (z : Session). wrote z x I w) answered in
+    let g = goes (callWrite w longestTrace 0) whole (small-bytes (w .bytes) given, λ e. free) (ap (λ (a : Outcome). a .session) o)
+    (ap (λ (a : Outcome). replay (a .ops) I) o ∙ leaves (small-bytes I bytes) (span-ok x I w 0 longestTrace (small-bytes (w .bytes) given) served)) s (h .here) in
+    let e : outcome (s .device) (callWrite w longestTrace 0) ≡ wrote y x I w =
+    ap₂ (λ (z : Session) (K : Image). writeOutcome z K w 0 longestTrace) (h .here .session) (h .here .image) ∙ o in (
+      g .0,
+      e,
+      length-write x I w 0 ∙ count,
+      record {
+        here = g .1;
+        sized = h .sized;
+        working = rw (e, h .sized) (ap (λ (Q : Page). sets Q (placeOf w) (w .bytes)) (h .working) ∙ sets-eq (w .bytes) W (placeOf w) room ∙ same-equal _ _ page);
+        checkpoint = rw e (h .checkpoint);
+      },
+    )
+
+-- one that is refused with 8
+refuses : (I : Image) (x : Session) (W P : Page) (w : WriteArgs) (n : ℕ) → length I % lineSize ≡ 0 → small (w .bytes) ≡ true
+    → countOf x I w ≡ n → statusOf x I w n ≡ 8
+    → (s : State) → Has s I x W P → Goes s (callWrite w longestTrace 0) (refused x) 0 I x W P
+unfolding step deviceStep modelStep replay
+refuses I x W P w n whole given count status s h =
+    let not-served : writeStatus x I w 0 longestTrace ≡ 8 = write-status x I w 0 longestTrace n 8 count status in
+    let o = write-refused x I w 0 longestTrace 8 refl not-served in
+    let g = goes (callWrite w longestTrace 0) whole (small-bytes (w .bytes) given, λ e. absurd (eight (sym not-served ∙ e)))
+    (ap (λ (a : Outcome). a .session) o) (ap (λ (a : Outcome). replay (a .ops) I) o) s (h .here) in
+    let e : outcome (s .device) (callWrite w longestTrace 0) ≡ refused x =
+    ap₂ (λ (z : Session) (K : Image). writeOutcome z K w 0 longestTrace) (h .here .session) (h .here .image) ∙ o in
+    (g .0, e, refl, record { here = g .1; sized = h .sized; working = rw e (h .working); checkpoint = rw e (h .checkpoint) })
+  where
+    eight : _≡_ {A = ℕ} 8 0 → ⊥
+    eight e = omega arith
+
+-- a checkpoint
+saves : (I : Image) (x : Session) (W P : Page) (n : ℕ) (J : Image) (y : Session) → length I % lineSize ≡ 0 → checkpointStatus x I longTrace ≡ 0
+    → length (checkpointOps x I) ≡ n → withCheckpoint x ≡ y → same (replay (checkpointOps x I) I) J ≡ true
+    → (s : State) → Has s I x W P → Goes s checkpoint (saved y x I) n J y W W
+unfolding step deviceStep modelStep
+saves I x W P n J y whole served count answered leaves s h =
+    let o : checkpointOutcome x I longTrace ≡ saved y x I =
+    checkpoint-served x I longTrace served ∙ ap (λ (z : Session). saved z x I) answered in
+    let g = goes checkpoint whole tt (ap (λ (a : Outcome). a .session) o) (ap (λ (a : Outcome). replay (a .ops) I) o ∙ same-equal _ _ leaves) s (h .here) in
+    let e : outcome (s .device) checkpoint ≡ saved y x I =
+    ap₂ (λ (z : Session) (K : Image). checkpointOutcome z K longTrace) (h .here .session) (h .here .image) ∙ o in
+    (g .0, e, count, record { here = g .1; sized = h .sized; working = rw e (h .working); checkpoint = rw e (h .working) })
+
+-- ---- images and sessions
+
+-- the pages after L6, and after the write of L7 that is served
+abbrev thirdBytes : Page
+thirdBytes = replicate 30 0 ++ replicate 700 7 ++ replicate 256 6 ++ replicate 38 0
+
+abbrev lastBytes : Page
+lastBytes = replicate 30 0 ++ replicate 994 8
+
+-- an image of the story: epoch, the two states, the pair, the main segment and the backup segment; and a session
+abbrev image : ℕ → ℕ → ℕ → ℕ → Page → Page → Image
+image epoch even odd pair main backup =
+    container l114 epoch (even ∷ replicate 63 0) (odd ∷ replicate 63 0) (pair ∷ replicate 63 unpaired) (main ++ backup)
+
+abbrev session : ℕ → ℕ → Session
+session segments blocks = record { layout = l114; «dirty_segments» = segments; «dirty_blocks» = blocks ∷ replicate 63 0 }
+
+-- what stands after L1, L2, ..
+abbrev I1 : Image
+I1 = image 0 0 0 255 noBytes noBytes
+
+abbrev I2 : Image
+I2 = image 0 0 0 255 firstBytes noBytes
+
+abbrev I3 : Image
+I3 = image 1 0 1 255 firstBytes noBytes
+
+abbrev I4 : Image
+I4 = image 1 0 2 0 secondBytes firstBytes
+
+abbrev I5 : Image
+I5 = image 2 1 2 0 secondBytes firstBytes
+
+abbrev I6 : Image
+I6 = image 2 2 2 0 thirdBytes secondBytes
+
+abbrev I7 : Image
+I7 = image 2 2 2 0 lastBytes secondBytes
+
+-- ---- L1
+
+abbrev F : Image
+F = formatted l114
+
+opens : openStatus l114 F longestTrace ≡ 0
+unfolding model-rules
+opens = refl
+
+bytes : Bytes F
+unfolding model-rules small
+bytes = small-bytes F refl
+
+-- the zeros that the opening writes stand there already
+reopened : openedImage l114 F longestTrace ≡ I1
+unfolding model-rules same
+reopened =
+    recovered-all l114 F longestTrace 128 I1 refl refl
+    (recovered-zero l114 F 128 0 F I1 refl tt refl (recovered-none l114 F 128))
+
+starts : opened ≡ standing l114 I1 noBytes
+unfolding model-rules same
+starts = started l114 F I1 longestTrace noBytes opens reopened (same-equal _ _ refl)
+
+has-1 : Has opened I1 (session 0 0) noBytes noBytes
+unfolding freshSession
+has-1 = subst (λ (s : State). Has s I1 (session 0 0) noBytes noBytes) (sym starts) (record {
+  here = record { image = refl; session = refl };
+  sized = refl;
+  working = refl;
+  checkpoint = refl;
+})
+
+answered-1 : answer (openOutcome l114 F longestTrace) ≡ 0 ∷ 145 ∷ []
+unfolding model-rules
+answered-1 = refl
+
+-- ---- L2 to L7
+
+-- a session that knows the segment dirty, or no checkpoint yet, needs no backup segment
+none-needed : {A : Type 0} → _≡_ false true → A
+none-needed e = absurd (false≢true e)
+
+-- L2: nothing is copied
+abbrev first : WriteArgs
+first = filling 0 30 700 5
+
+plan-2 : copyPlan (session 0 0) I1 0 0 ≡ NoCopy
+unfolding model-rules
+plan-2 = refl
+
+leaves-2 : Bytes I1 → SpanOk l114 first → replay (writeOps (session 0 0) I1 first 0) I1 ≡ I2
+unfolding container bytesOf same
+leaves-2 bytes ok =
+    ap (λ (O : Ops). replay O I1) (uncopied (session 0 0) I1 first 0 plan-2)
+    ∙ spanned l114 I1 I1 first ok bytes (lit≤ tt) refl ∙ same-equal (laid I1 542 (first .bytes)) I2 refl
+
+goes-2 : Goes opened (fill 0 30 700 5) (wrote (session 1 7) (session 0 0) I1 first) 89 I2 (session 1 7) firstBytes noBytes
+unfolding model-rules same small
+goes-2 =
+    writes-on I1 (session 0 0) noBytes noBytes first 89 I2 (session 1 7) firstBytes refl refl refl none-needed refl refl refl leaves-2
+    (lit≤ tt) refl opened has-1
+
+goes-3 : Goes afterL2 checkpoint (saved (session 0 7) (session 1 7) I2) 26 I3 (session 0 7) firstBytes firstBytes
+unfolding model-rules same
+goes-3 = saves I2 (session 1 7) firstBytes noBytes 26 I3 (session 0 7) refl refl refl refl refl afterL2 (goes-2 .3)
+
+-- L4: all blocks are copied, to a new backup segment
+abbrev second : WriteArgs
+second = filling 1 30 700 6
+
+plan-4 : copyPlan (session 0 7) I3 0 0 ≡ NewBackup 0
+unfolding model-rules
+plan-4 = refl
+
+-- the image once the copy is made and the state is 2
+abbrev K4 : Image
+K4 = image 1 0 2 0 firstBytes firstBytes
+
+backed-4 : replay (stateOps I3 0) (laid (replay (pairOps I3 0 0) I3) 1536 (segmentBytes l114 I3 512)) ≡ K4
+unfolding model-rules same
+backed-4 = same-equal _ K4 refl
+
+leaves-4 : Bytes I3 → SpanOk l114 second → replay (writeOps (session 0 7) I3 second 0) I3 ≡ I4
+unfolding container bytesOf same
+leaves-4 bytes ok =
+    copying (session 0 7) I3 second 0 plan-4 bytes (lit≤ tt) (lit≤ tt) ∙ ap (replay (spanOps l114 I3 second)) backed-4
+    ∙ spanned l114 I3 K4 second ok bytes (lit≤ tt) (same-equal (segmentBytes l114 K4 512) (segmentBytes l114 I3 512) refl)
+    ∙ same-equal (laid K4 798 (second .bytes)) I4 refl
+
+goes-4 : Goes afterL3 (fill 1 30 700 6) (wrote (session 1 14) (session 0 7) I3 second) 239 I4 (session 1 14) secondBytes firstBytes
+unfolding model-rules same small
+goes-4 =
+    writes-on I3 (session 0 7) firstBytes firstBytes second 239 I4 (session 1 14) secondBytes refl refl refl (λ e. (lit< tt, inl refl)) refl refl refl leaves-4
+    (lit≤ tt) refl afterL3 (goes-3 .3)
+
+goes-5 : Goes afterL4 checkpoint (saved (session 0 14) (session 1 14) I4) 26 I5 (session 0 14) secondBytes secondBytes
+unfolding model-rules same
+goes-5 = saves I4 (session 1 14) secondBytes firstBytes 26 I5 (session 0 14) refl refl refl refl refl afterL4 (goes-4 .3)
+
+-- L6: the three blocks that are dirty are copied, to the backup segment that it has
+abbrev third : WriteArgs
+third = filling 0 30 700 7
+
+plan-6 : copyPlan (session 0 14) I5 0 0 ≡ OwnBackup 0
+unfolding model-rules
+plan-6 = refl
+
+three-blocks : (I : Image) → backupOps l114 I 14 0 (OwnBackup 0) ≡ copySegment (sizes 1 1 3) I 768 1792
+unfolding backupOps copyDirty copySegment cat bit
+three-blocks I = refl
+
+abbrev K6 : Image
+K6 = image 2 2 2 0 secondBytes secondBytes
+
+backed-6 : replay (stateOps I5 0) (laid I5 1792 (segmentBytes (sizes 1 1 3) I5 768)) ≡ K6
+unfolding model-rules same
+backed-6 = same-equal _ K6 refl
+
+leaves-6 : Bytes I5 → SpanOk l114 third → replay (writeOps (session 0 14) I5 third 0) I5 ≡ I6
+unfolding container bytesOf same
+leaves-6 bytes ok =
+    backed (session 0 14) I5 (laid I5 1792 (segmentBytes (sizes 1 1 3) I5 768)) third 0 (OwnBackup 0) plan-6 refl
+    (ap (λ (O : Ops). replay O I5) (three-blocks I5) ∙ copied (sizes 1 1 3) I5 I5 768 1792 bytes (lit≤ tt) (lit≤ tt))
+    ∙ ap (replay (spanOps l114 I5 third)) backed-6
+    ∙ spanned l114 I5 K6 third ok bytes (lit≤ tt) (same-equal (segmentBytes l114 K6 512) (segmentBytes l114 I5 512) refl)
+    ∙ same-equal (laid K6 542 (third .bytes)) I6 refl
+
+abbrev afterL6 : State
+afterL6 = step afterL5 (fill 0 30 700 7)
+
+goes-6 : Goes afterL5 (fill 0 30 700 7) (wrote (session 1 7) (session 0 14) I5 third) 201 I6 (session 1 7) thirdBytes secondBytes
+unfolding model-rules dirtyCount sumTo same small
+goes-6 =
+    writes-on I5 (session 0 14) secondBytes secondBytes third 201 I6 (session 1 7) thirdBytes refl refl refl none-needed refl refl refl leaves-6
+    (lit≤ tt) refl afterL5 (goes-5 .3)
+
+-- L7
+goes-71 : Goes afterL6 (fill 2 30 700 8) (refused (session 1 7)) 0 I6 (session 1 7) thirdBytes secondBytes
+unfolding model-rules small
+goes-71 = refuses I6 (session 1 7) thirdBytes secondBytes (filling 2 30 700 8) 89 refl refl refl refl afterL6 (goes-6 .3)
+
+abbrev after71 : State
+after71 = step afterL6 (fill 2 30 700 8)
+
+goes-72 : Goes after71 (fill 0 256 1 8) (refused (session 1 7)) 0 I6 (session 1 7) thirdBytes secondBytes
+unfolding model-rules small
+goes-72 = refuses I6 (session 1 7) thirdBytes secondBytes (filling 0 256 1 8) 1 refl refl refl refl after71 (goes-71 .3)
+
+abbrev after72 : State
+after72 = step after71 (fill 0 256 1 8)
+
+abbrev last : WriteArgs
+last = filling 0 30 994 8
+
+plan-73 : copyPlan (session 1 7) I6 0 0 ≡ NoCopy
+unfolding model-rules
+plan-73 = refl
+
+leaves-73 : Bytes I6 → SpanOk l114 last → replay (writeOps (session 1 7) I6 last 0) I6 ≡ I7
+unfolding container bytesOf same
+leaves-73 bytes ok =
+    ap (λ (O : Ops). replay O I6) (uncopied (session 1 7) I6 last 0 plan-73)
+    ∙ spanned l114 I6 I6 last ok bytes (lit≤ tt) refl ∙ same-equal (laid I6 542 (last .bytes)) I7 refl
+
+goes-73 : Goes after72 (fill 0 30 994 8) (wrote (session 1 15) (session 1 7) I6 last) 125 I7 (session 1 15) lastBytes secondBytes
+unfolding model-rules same small
+goes-73 =
+    writes-on I6 (session 1 7) thirdBytes secondBytes last 125 I7 (session 1 15) lastBytes refl refl refl none-needed refl refl refl leaves-73
+    (lit≤ tt) refl after72 (goes-72 .3)
+
+abbrev after73 : State
+after73 = step after72 (fill 0 30 994 8)
+
+goes-74 : Goes after73 (fill 0 30 995 8) (refused (session 1 15)) 0 I7 (session 1 15) lastBytes secondBytes
+unfolding model-rules small
+goes-74 = refuses I7 (session 1 15) lastBytes secondBytes (filling 0 30 995 8) 126 refl refl refl refl after73 (goes-73 .3)
+
+-- ---- the rows
+
+-- status, number of operations, dirty blocks
+row-is : (s after : State) (c : Call) (o : Outcome) (n : ℕ) → outcome (s .device) c ≡ o → length (o .ops) ≡ n
+    → answer (outcome (s .device) c) ++ marks (outcome (s .device) c) after ≡ o .status ∷ n ∷ dirtyWord (o .session) 0 ∷ []
+row-is s after c o n e count =
+    ap (λ (a : Outcome). answer a ++ marks a after) e ∙ ap (λ (k : ℕ). o .status ∷ k ∷ dirtyWord (o .session) 0 ∷ []) count
+
+-- the first and the last of 89 stores, whatever their words
+ends : (f : ℕ → ℕ) → take 2 (encode (stores 89 536 f)) ++ take 2 (drop 264 (encode (stores 89 536 f))) ≡ 1 ∷ 536 ∷ 1 ∷ 1240 ∷ []
+unfolding encode stores cat
+ends f = refl
+
+-- L2's has these too
+row-2 : answer (outcome (opened .device) (fill 0 30 700 5)) ++ marksAndEnds (outcome (opened .device) (fill 0 30 700 5)) afterL2
+    ≡ 0 ∷ 89 ∷ 7 ∷ 1 ∷ 536 ∷ 1 ∷ 1240 ∷ []
+unfolding spanOps
+row-2 =
+    ap (λ (a : Outcome). answer a ++ marksAndEnds a afterL2) (goes-2 .1)
+    ∙ ap (λ (k : ℕ). 0 ∷ k ∷ 7 ∷ operation 0 (wrote (session 1 7) (session 0 0) I1 first) ++ operation 88 (wrote (session 1 7) (session 0 0) I1 first)) (goes-2 .2)
+    ∙ ap (λ (O : Ops). 0 ∷ 89 ∷ 7 ∷ take 2 (encode O) ++ take 2 (drop 264 (encode O))) (uncopied (session 0 0) I1 first 0 plan-2)
+    ∙ ap (λ (ns : List ℕ). 0 ∷ 89 ∷ 7 ∷ ns) (ends (λ k. wordOf (overlay (byteAt I1) 542 (first .bytes)) (536 + 8 * k)))
+
+answered : AsExpected opened story
+unfolding story follow
+answered =
+    ap₂ _∷_ row-2
+    (ap₂ _∷_ (row-is afterL2 afterL3 checkpoint _ 26 (goes-3 .1) (goes-3 .2))
+    (ap₂ _∷_ (row-is afterL3 afterL4 (fill 1 30 700 6) _ 239 (goes-4 .1) (goes-4 .2))
+    (ap₂ _∷_ (row-is afterL4 afterL5 checkpoint _ 26 (goes-5 .1) (goes-5 .2))
+    (ap₂ _∷_ (row-is afterL5 afterL6 (fill 0 30 700 7) _ 201 (goes-6 .1) (goes-6 .2))
+    (ap₂ _∷_ (row-is afterL6 after71 (fill 2 30 700 8) _ 0 (goes-71 .1) (goes-71 .2))
+    (ap₂ _∷_ (row-is after71 after72 (fill 0 256 1 8) _ 0 (goes-72 .1) (goes-72 .2))
+    (ap₂ _∷_ (row-is after72 after73 (fill 0 30 994 8) _ 125 (goes-73 .1) (goes-73 .2))
+    (ap₂ _∷_ (row-is after73 (step after73 (fill 0 30 995 8)) (fill 0 30 995 8) _ 0 (goes-74 .1) (goes-74 .2)) refl))))))))
+
+permitted : AllPermitted opened (calls story)
+unfolding story
+permitted =
+    (goes-2 .0, (goes-3 .0, (goes-4 .0, (goes-5 .0, (goes-6 .0, (goes-71 .0, (goes-72 .0, (goes-73 .0, (goes-74 .0, tt)))))))))
+
+-- ---- the crashes
+
+stands-2 : Stands afterL2
+unfolding run
+stands-2 = history-stands l114 F longestTrace bytes opens (fill 0 30 700 5 ∷ []) (goes-2 .0, tt)
+
+stands-3 : Stands afterL3
+unfolding run
+stands-3 = history-stands l114 F longestTrace bytes opens (fill 0 30 700 5 ∷ checkpoint ∷ []) (goes-2 .0, (goes-3 .0, tt))
+
+stands-4 : Stands afterL4
+unfolding run
+stands-4 =
+    history-stands l114 F longestTrace bytes opens (fill 0 30 700 5 ∷ checkpoint ∷ fill 1 30 700 6 ∷ []) (goes-2 .0, (goes-3 .0, (goes-4 .0, tt)))
+
+-- what the checkpoint of L3 leaves before the epoch's store, and after it
+abbrev cutImage : ℕ → Image
+cutImage epoch = image epoch 0 1 255 firstBytes noBytes
+
+shows-old : Recovers l114 (cutImage 0) longestTrace noBytes
+unfolding model-rules same small
+shows-old = shows l114 (cutImage 0) longestTrace noBytes refl refl refl
+
+shows-new : Recovers l114 (cutImage 1) longestTrace firstBytes
+unfolding model-rules same small
+shows-new = shows l114 (cutImage 1) longestTrace firstBytes refl refl refl
+
+cut : CutCheckpoint 26 afterL2 noBytes firstBytes
+unfolding model-rules same storesEpoch
+cut =
+    let h = goes-2 .3 in
+    cut-checkpoint afterL2 stands-2 I2 (session 1 7) 26 (h .here .image) (h .here .session) refl (lit≤ tt)
+    noBytes firstBytes (cutImage 0) (cutImage 1) refl refl refl refl refl longestTrace
+    (subst (λ (l : Layout). Recovers l (cutImage 0) longestTrace noBytes) (sym (h .sized)) shows-old)
+    (subst (λ (l : Layout). Recovers l (cutImage 1) longestTrace firstBytes) (sym (h .sized)) shows-new) (h .checkpoint) (h .working)
+
+copies-safely : (p : ℕ) → p < 239 → OnlyShows afterL3 (during (fill 1 30 700 6) p) firstBytes
+copies-safely p more =
+    shows-during afterL3 stands-3 (fill 1 30 700 6) (goes-4 .0) p firstBytes
+    (omega (arith, more, ap (λ (o : Outcome). length (o .ops)) (goes-4 .1) ∙ goes-4 .2)) (λ w. no-checkpoint (w .0)) (goes-3 .3 .checkpoint)
+
+-- ---- the reads after L5
+
+reads : Reads l114 (afterL5 .device .image) secondBytes secondBytes
+unfolding run
+reads =
+    let h = goes-5 .3 in
+    let r : Reads (afterL5 .device .layout) (afterL5 .device .image) (afterL5 .model .working) (afterL5 .model .checkpoint) =
+    reads-follow-model l114 F longestTrace bytes opens (fill 0 30 700 5 ∷ checkpoint ∷ fill 1 30 700 6 ∷ checkpoint ∷ [])
+    (goes-2 .0, (goes-3 .0, (goes-4 .0, (goes-5 .0, tt)))) in
+    subst (λ (l : Layout). Reads l (afterL5 .device .image) secondBytes secondBytes) (h .sized)
+    (subst₂ (λ (W P : Page). Reads (afterL5 .device .layout) (afterL5 .device .image) W P) (h .working) (h .checkpoint) r)
+
+-- THE STORY
+pub long-story : LongStory
+long-story = record {
+  bytes = bytes;
+  opens = answered-1;
+  permitted = permitted;
+  answered = answered;
+  cut = cut;
+  copying = copies-safely;
+  copied = shows-between afterL4 stands-4 firstBytes (goes-4 .3 .checkpoint);
+  reads = reads;
+}
