@@ -1,5 +1,6 @@
-// The bench cases P1 to P10 of SPECIFICATION 17, run on the library, and R1 to R7, a restart with four levels restored from all
-// spares and the first save after it (SPECIFICATION 17.4), which crate `cases` computes (`RestoredStory`). Each line has what
+// The bench cases P1 to P10 of SPECIFICATION 17, run on the library; R1 to R7, a restart with four levels restored from all spares and
+// the first save after it (SPECIFICATION 17.4), which crate `cases` computes (`RestoredStory`); and L1 to L7, registrations of 700
+// bytes (SPECIFICATION 17.5), which it computes too (`LongStory`) and which are read back here, byte by byte. Each line has what
 // was measured. The file `stdout` has the expected lines, worked out by hand from the specification; where it leaves the spare open
 // (10.7), a spare without a level is taken before others, and else the lowest. The cuts of P4, and those of a restart like this one, are
 // tried by the second program (rust/, `bench cases` and `restored levels`), over every permitted image.
@@ -16,10 +17,10 @@ const BACKUPS: u64 = 1;
 
 const BLOCKS: u64 = 1;
 
-// The bytes of its image, and of P10's (one level, one spare, four frames).
+// The bytes of its image, and of the image of P10 and of the long registrations (one level, one spare, four frames).
 const IMAGE: usize = 1280;
 
-const IMAGE_P10: usize = 2560;
+const IMAGE_LONG: usize = 2560;
 
 // The levels and spares of the restart's board, one frame each, and the bytes of its image.
 const BOARD_MAINS: u64 = 6;
@@ -36,8 +37,13 @@ const TAPE: usize = 1200;
 // The numbers of an order on the tape.
 const ORDER: u64 = 3;
 
-// The bytes that writes take theirs from.
+// The bytes that the writes of P1 to P10 and R1 to R7 take theirs from, and the most bytes of a write.
 const BYTES: [u8; 8] = [0xa1, 0xb2, 0xc3, 0xd4, 0xe5, 0xf6, 0x07, 0x18];
+
+const MOST_BYTES: usize = 995;
+
+// The number of the last case of a restart, R7; those behind it are of the long registrations.
+const LAST_RESTART: u64 = 17;
 
 // ---- printed lines
 
@@ -113,8 +119,9 @@ fn print_metadata(image: &[u8]) {
     print_number(b" at256=", byte_at(image, 256));
 }
 
-// Prints the metadata and the saved reads of levels 0 and 1; of the restart's image, the board.
-fn print_image(image: &[u8], layout: Layout) {
+// Prints the metadata and the saved reads of levels 0 and 1, and for a long registration what is read back; of the restart's image, the
+// board.
+fn print_image(image: &[u8], layout: Layout, case: u64) {
     if layout.mains == BOARD_MAINS {
         print_board(image, layout);
         return;
@@ -122,7 +129,21 @@ fn print_image(image: &[u8], layout: Layout) {
     print_metadata(image);
     print_saved(b" saved=", image, layout, 0);
     print_saved(b",", image, layout, 1);
+    if LAST_RESTART < case {
+        print_back(b" working=", image, layout, false);
+        print_back(b" kept=", image, layout, true);
+    }
     print(b"\n");
+}
+
+// Prints how many bytes a read gives back: zeros, and of the long registrations those of L2, of L4, of L6 and of the one of L7 that is
+// served.
+fn print_back(name: &[u8], image: &[u8], layout: Layout, saved: bool) {
+    print_number(name, back(image, layout, saved, call_of(ZEROS)));
+    print_number(b",", back(image, layout, saved, call_of(CALLS[31])));
+    print_number(b",", back(image, layout, saved, call_of(CALLS[33])));
+    print_number(b",", back(image, layout, saved, call_of(CALLS[35])));
+    print_number(b",", back(image, layout, saved, call_of(CALLS[38])));
 }
 
 // Prints a level of the board: its saved read, and the first two bytes of its working read in hexadecimal.
@@ -160,12 +181,14 @@ fn print_board(image: &[u8], layout: Layout) {
     print(b"\n");
 }
 
-// Prints the name of a case: P1 to P10 and, from 11 on, R1 to R7.
+// Prints the name of a case: P1 to P10, from 11 on R1 to R7, and from 18 on L1 to L7.
 fn print_case(case: u64) {
     if case <= 10 {
         print_number(b"P", case);
-    } else {
+    } else if case <= LAST_RESTART {
         print_number(b"R", case - 10);
+    } else {
+        print_number(b"L", case - LAST_RESTART);
     }
 }
 
@@ -207,6 +230,95 @@ fn first_of(bytes: &[u8], n: u64) -> &[u8] {
     }
 }
 
+// ---- the bytes of writes, and what is read back of them
+
+// Byte i of a case's writes. Of a long registration it is 1 to 251, and where two of them stand in the same place their bytes differ;
+// L1 has zeros.
+fn byte_of(case: u64, i: u64) -> u8 {
+    if case <= LAST_RESTART {
+        return BYTES[(i % 8) as usize];
+    }
+    if case == LAST_RESTART + 1 {
+        return 0;
+    }
+    ((i % 251 + 60 * (case % 8)) % 251 + 1) as u8
+}
+
+// The bytes of a case's writes.
+fn fill(bytes: &mut [u8], case: u64) {
+    let mut i = 0;
+    while i < bytes.len() {
+        bytes[i] = byte_of(case, i as u64);
+        i += 1;
+    }
+}
+
+// One more.
+fn more(n: u64) -> u64 {
+    if n < 4096 { n + 1 } else { n }
+}
+
+// Where a byte of a frame stands in its level.
+fn place_of(block: u64, offset: u64) -> u64 {
+    256 * (block % 4) + offset % 256
+}
+
+// A byte of a frame of level 0, which stands at an offset, is the one that a call wrote there.
+fn is_back(byte: u8, block: u64, offset: u64, call: Call) -> bool {
+    let at = place_of(block, offset);
+    let start = place_of(call.block, call.offset);
+    if at < start {
+        return false;
+    }
+    let i = at - start;
+    i < call.length && byte == byte_of(call.case, i)
+}
+
+// The bytes of a part, which is a frame, that a call wrote there, and those counted before.
+fn back_in(part: &[u8], block: u64, call: Call, before: u64) -> u64 {
+    let mut count = before;
+    let mut i = 0;
+    while i < part.len() {
+        if is_back(part[i], block, i as u64, call) {
+            count = more(count);
+        }
+        i += 1;
+    }
+    count
+}
+
+// The same of a frame of level 0, by the saved read or by the working read.
+fn back_of(image: &[u8], layout: Layout, saved: bool, block: u64, call: Call, before: u64) -> u64 {
+    if saved {
+        let kept = reads::crpm_read_checkpoint(
+            image,
+            layout.mains,
+            layout.backups,
+            layout.blocks,
+            0,
+            block,
+        );
+        return back_in(kept, block, call, before);
+    }
+    let part = reads::crpm_read_working(
+        image,
+        layout.mains,
+        layout.backups,
+        layout.blocks,
+        0,
+        block,
+    );
+    back_in(part, block, call, before)
+}
+
+// How many bytes of a call's write a read of level 0 gives back.
+fn back(image: &[u8], layout: Layout, saved: bool, call: Call) -> u64 {
+    let one = back_of(image, layout, saved, 0, call, 0);
+    let two = back_of(image, layout, saved, 1, call, one);
+    let three = back_of(image, layout, saved, 2, call, two);
+    back_of(image, layout, saved, 3, call, three)
+}
+
 // ---- histories
 
 // A call: a save, or a write of so many bytes.
@@ -219,9 +331,9 @@ struct Call {
     length: u64,
 }
 
-// The calls of P3 to P9, which are one history, of P10, which are another, and of the restart: those before it (case 11) and those
-// after it. Case, 1 for a save, level, frame, offset, length.
-const CALLS: [[u64; 6]; 31] = [
+// The calls of P3 to P9, which are one history, of P10, which are another, of the restart: those before it (case 11) and those
+// after it, and of the long registrations. Case, 1 for a save, level, frame, offset, length.
+const CALLS: [[u64; 6]; 40] = [
     [3, 0, 0, 0, 6, 4],
     [4, 1, 0, 0, 0, 0],
     [5, 0, 0, 0, 0, 8],
@@ -253,7 +365,19 @@ const CALLS: [[u64; 6]; 31] = [
     [15, 1, 0, 0, 0, 0],
     [16, 1, 0, 0, 0, 0],
     [17, 0, 4, 0, 0, 2],
+    [19, 0, 0, 0, 30, 700],
+    [20, 1, 0, 0, 0, 0],
+    [21, 0, 0, 1, 30, 700],
+    [22, 1, 0, 0, 0, 0],
+    [23, 0, 0, 0, 30, 700],
+    [24, 0, 0, 2, 30, 700],
+    [24, 0, 0, 0, 256, 1],
+    [24, 0, 0, 0, 30, 994],
+    [24, 0, 0, 0, 30, 995],
 ];
+
+// The zeros of L1, as if they had been written.
+const ZEROS: [u64; 6] = [18, 0, 0, 0, 0, 1024];
 
 // The call of a row.
 fn call_of(row: [u64; 6]) -> Call {
@@ -294,17 +418,18 @@ fn make(image: &mut [u8], trace: &mut [u64], session: Session, call: Call, bytes
 
 // A call of a history, made and looked at.
 fn step(image: &mut [u8], trace: &mut [u64], session: Session, call: Call) -> Session {
-    let bytes = BYTES;
+    let mut bytes = [0u8; MOST_BYTES];
+    fill(&mut bytes, call.case);
     let given = first_of(&bytes, call.length);
     let answer = make(image, trace, session, call, given);
     print_ops(trace, answer.ops);
-    print_image(image, session.layout);
+    print_image(image, session.layout, call.case);
     answer.session
 }
 
 // The calls of the table from one on and below another, with a session; the session afterwards.
 fn history(image: &mut [u8], trace: &mut [u64], given: Session, from: usize, to: usize) -> Session
-    requires { ⌜ to ≤ 31 ⌝ }
+    requires { ⌜ to ≤ 40 ⌝ }
 {
     let mut session = given;
     let mut i = from;
@@ -375,7 +500,7 @@ fn p2(image: &mut [u8]) -> Session {
 
 // P10: before the last call of its history the level is paired, in state 1 and untouched, with one mark.
 fn p10() {
-    let mut image = [7u8; IMAGE_P10];
+    let mut image = [7u8; IMAGE_LONG];
     let mut trace = [0u64; TAPE];
     print(b"P10");
     let session = open(&mut image, Layout::new(1, 1, 4), &mut trace);
@@ -386,10 +511,10 @@ fn p10() {
 // ---- the restart
 
 // What stands is opened.
-fn reopen(image: &mut [u8], layout: Layout, trace: &mut [u64]) -> Session {
+fn reopen(image: &mut [u8], layout: Layout, trace: &mut [u64], case: u64) -> Session {
     let answer = driver::step_open(image, layout.mains, layout.backups, layout.blocks, trace);
     print_answer(b" open=", answer);
-    print_board(image, layout);
+    print_image(image, layout, case);
     answer.session
 }
 
@@ -400,7 +525,7 @@ fn cut(before: [u8; BOARD], layout: Layout, saved: &[u64], n: u64) {
     let mut trace = [0u64; TAPE];
     let played = replay::crpm_replay(&mut image, saved, n);
     print_number(b"R5 cut=", played.played);
-    let session = reopen(&mut image, layout, &mut trace);
+    let session = reopen(&mut image, layout, &mut trace, 15);
     history(&mut image, &mut trace, session, 29, 31);
 }
 
@@ -426,8 +551,85 @@ fn restart() {
     print(b"\n");
     history(&mut image, &mut trace, session, 16, 26);
     print(b"R2");
-    let restored = reopen(&mut image, layout, &mut trace);
+    let restored = reopen(&mut image, layout, &mut trace, 12);
     restarted(image, layout, restored);
+}
+
+// ---- the long registrations
+
+// The save of L3 cut after n orders, every store of which has arrived; what stands is opened and read. A cut after 24 or 25 may leave the
+// epoch's line as it was too, which is what a cut after 23 leaves.
+fn cut_long(before: [u8; IMAGE_LONG], layout: Layout, saved: &[u64], n: u64) {
+    let mut image = before;
+    let mut trace = [0u64; TAPE];
+    let played = replay::crpm_replay(&mut image, saved, n);
+    print_number(b"L3 cut=", played.played);
+    reopen(&mut image, layout, &mut trace, 20);
+}
+
+// Both reads give L2's bytes back where the write of L4 was cut after n orders, every store of which has arrived, and what stood was
+// opened.
+fn keeps(before: [u8; IMAGE_LONG], layout: Layout, written: &[u64], n: u64) -> bool {
+    let mut image = before;
+    let mut trace = [0u64; TAPE];
+    replay::crpm_replay(&mut image, written, n);
+    driver::step_open(
+        &mut image,
+        layout.mains,
+        layout.backups,
+        layout.blocks,
+        &mut trace,
+    );
+    let working = back(&image, layout, false, call_of(CALLS[31]));
+    let kept = back(&image, layout, true, call_of(CALLS[31]));
+    working == 700 && kept == 700
+}
+
+// After how many of the numbers of orders from 0 to 239 it is so.
+fn cuts_kept(before: [u8; IMAGE_LONG], layout: Layout, written: &[u64]) -> u64 {
+    let mut count = 0;
+    let mut n = 0;
+    while n <= 239 {
+        if keeps(before, layout, written, n) {
+            count = more(count);
+        }
+        n += 1;
+    }
+    count
+}
+
+// L4 to L7: the calls after the save of L3, and the cuts of their first write.
+fn long_again(saved: [u8; IMAGE_LONG], layout: Layout, session: Session) {
+    let mut image = saved;
+    let mut trace = [0u64; TAPE];
+    let touched = history(&mut image, &mut trace, session, 33, 34);
+    print_number(b"L4 cuts=240 shown=", cuts_kept(saved, layout, &trace));
+    print(b"\n");
+    history(&mut image, &mut trace, touched, 34, 40);
+}
+
+// L3: the save and its cuts; and what follows.
+fn long_saved(written: [u8; IMAGE_LONG], layout: Layout, session: Session) {
+    let mut image = written;
+    let mut trace = [0u64; TAPE];
+    let saved = history(&mut image, &mut trace, session, 32, 33);
+    cut_long(written, layout, &trace, 23);
+    cut_long(written, layout, &trace, 24);
+    cut_long(written, layout, &trace, 25);
+    cut_long(written, layout, &trace, 26);
+    long_again(image, layout, saved);
+}
+
+// L1 and L2; and what follows.
+fn long() {
+    let layout = Layout::new(1, 1, 4);
+    let mut image = [7u8; IMAGE_LONG];
+    let mut trace = [0u64; TAPE];
+    print(b"L1");
+    let session = open(&mut image, layout, &mut trace);
+    print(b"\n");
+    let touched = history(&mut image, &mut trace, session, 31, 32);
+    long_saved(image, layout, touched);
 }
 
 fn main() {
@@ -438,4 +640,5 @@ fn main() {
     history(&mut image, &mut trace, session, 0, 11);
     p10();
     restart();
+    long();
 }
