@@ -139,11 +139,11 @@ fn print_image(image: &[u8], layout: Layout, case: u64) {
 // Prints how many bytes a read gives back: zeros, and of the long registrations those of L2, of L4, of L6 and of the one of L7 that is
 // served.
 fn print_back(name: &[u8], image: &[u8], layout: Layout, saved: bool) {
-    print_number(name, back(image, layout, saved, call_of(ZEROS)));
-    print_number(b",", back(image, layout, saved, call_of(CALLS[31])));
-    print_number(b",", back(image, layout, saved, call_of(CALLS[33])));
-    print_number(b",", back(image, layout, saved, call_of(CALLS[35])));
-    print_number(b",", back(image, layout, saved, call_of(CALLS[38])));
+    print_number(name, back(image, layout, saved, row(40)));
+    print_number(b",", back(image, layout, saved, row(31)));
+    print_number(b",", back(image, layout, saved, row(33)));
+    print_number(b",", back(image, layout, saved, row(35)));
+    print_number(b",", back(image, layout, saved, row(38)));
 }
 
 // Prints a level of the board: its saved read, and the first two bytes of its working read in hexadecimal.
@@ -379,7 +379,7 @@ const CALLS: [[u64; 6]; 40] = [
 // The zeros of L1, as if they had been written.
 const ZEROS: [u64; 6] = [18, 0, 0, 0, 0, 1024];
 
-// The call of a row.
+// The call of a row of numbers.
 fn call_of(row: [u64; 6]) -> Call {
     Call {
         case: row[0],
@@ -388,6 +388,15 @@ fn call_of(row: [u64; 6]) -> Call {
         block: row[3],
         offset: row[4],
         length: row[5],
+    }
+}
+
+// The call of row i of the table, or of the zeros past its end.
+fn row(i: usize) -> Call {
+    if i < 40 {
+        call_of(CALLS[i])
+    } else {
+        call_of(ZEROS)
     }
 }
 
@@ -428,13 +437,11 @@ fn step(image: &mut [u8], trace: &mut [u64], session: Session, call: Call) -> Se
 }
 
 // The calls of the table from one on and below another, with a session; the session afterwards.
-fn history(image: &mut [u8], trace: &mut [u64], given: Session, from: usize, to: usize) -> Session
-    requires { ⌜ to ≤ 40 ⌝ }
-{
+fn history(image: &mut [u8], trace: &mut [u64], given: Session, from: usize, to: usize) -> Session {
     let mut session = given;
     let mut i = from;
     while i < to {
-        session = step(image, trace, session, call_of(CALLS[i]));
+        session = step(image, trace, session, row(i));
         i += 1;
     }
     session
@@ -580,8 +587,8 @@ fn keeps(before: [u8; IMAGE_LONG], layout: Layout, written: &[u64], n: u64) -> b
         layout.blocks,
         &mut trace,
     );
-    let working = back(&image, layout, false, call_of(CALLS[31]));
-    let kept = back(&image, layout, true, call_of(CALLS[31]));
+    let working = back(&image, layout, false, row(31));
+    let kept = back(&image, layout, true, row(31));
     working == 700 && kept == 700
 }
 

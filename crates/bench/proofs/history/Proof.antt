@@ -14,14 +14,8 @@ abbrev μ-loop : tie.MeasureT-loop
 loop-holds : tie.Need-loop-holds Inv-loop μ-loop
 loop-holds c = search needs
 
-mul-call-of : tie.Need-mul-call-of Inv-loop μ-loop
-mul-call-of c = search needs
-
-array-copy-out-call-of : tie.Need-array-copy-out-call-of Inv-loop μ-loop
-array-copy-out-call-of c = search needs
-
-call-of-requires : tie.Need-call-of-requires Inv-loop μ-loop
-call-of-requires c κs = search needs
+row-requires : tie.Need-row-requires Inv-loop μ-loop
+row-requires c κs = search needs
 
 step-requires : tie.Need-step-requires Inv-loop μ-loop
 step-requires c κs = search needs
@@ -51,9 +45,7 @@ history-spec =
     Inv-loop
     μ-loop
     loop-holds
-    mul-call-of
-    array-copy-out-call-of
-    call-of-requires
+    row-requires
     step-requires
     add-i
     loop-less
