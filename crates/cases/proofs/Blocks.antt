@@ -84,20 +84,24 @@ spanned l I J w ok bytes room alike =
     byte K i low high =
         let e : mainAt l (w .main) + (i - mainAt l (w .main)) ≡ i = omega arith in
         ap (byteAt K) (sym e)
-        ∙ sym (getD-take (segmentSize l) (drop (mainAt l (w .main)) K) (i - mainAt l (w .main)) 0 (omega arith) ∙ getD-drop (mainAt l (w .main)) K (i - mainAt l (w .main)) 0)
+        ∙ sym (getD-take (segmentSize l) (drop (mainAt l (w .main)) K) (i - mainAt l (w .main)) 0 (omega arith)
+        ∙ getD-drop (mainAt l (w .main)) K (i - mainAt l (w .main)) 0)
 
     given : (i : ℕ) → mainAt l (w .main) ≤ i → i < mainAt l (w .main) + segmentSize l → byteAt I i ≡ byteAt J i
     given i low high = byte I i low high ∙ ap (λ (K : Image). byteAt K (i - mainAt l (w .main))) (sym alike) ∙ sym (byte J i low high)
 
-    outside : (i : ℕ) → (i < spanFirst l w) ⊎ (spanFirst l w + spanWide l w ≤ i) → byteAt (replay (spanOps l I w) J) i ≡ byteAt (sets J (spanAt l w) (w .bytes)) i
+    outside : (i : ℕ) → (i < spanFirst l w) ⊎ (spanFirst l w + spanWide l w ≤ i)
+        → byteAt (replay (spanOps l I w) J) i ≡ byteAt (sets J (spanAt l w) (w .bytes)) i
     outside i h = replay-clear (spanOps l I w) J i (puts-clear puts i h) ∙ sym (over i ∙ laid-outside l J w ok i h)
 
-    go : (i : ℕ) → Dec (i < spanFirst l w) → Dec (i < spanFirst l w + spanWide l w) → byteAt (replay (spanOps l I w) J) i ≡ byteAt (sets J (spanAt l w) (w .bytes)) i
+    go : (i : ℕ) → Dec (i < spanFirst l w) → Dec (i < spanFirst l w + spanWide l w)
+        → byteAt (replay (spanOps l I w) J) i ≡ byteAt (sets J (spanAt l w) (w .bytes)) i
     go i (yes h) d = outside i (inl h)
     go i (no h) (no d) = outside i (inr (omega arith))
     go i (no h) (yes d) =
         puts .leaves J i (omega (arith, span-bounds l w ok, span-inside l w ok)) (omega arith) d
-        ∙ overlay-cong (byteAt I) (byteAt J) (spanAt l w) (w .bytes) i (given i (omega (arith, span-bounds l w ok)) (omega (arith, span-bounds l w ok, span-inside l w ok))) ∙ sym (over i)
+        ∙ overlay-cong (byteAt I) (byteAt J) (spanAt l w) (w .bytes) i
+        (given i (omega (arith, span-bounds l w ok)) (omega (arith, span-bounds l w ok, span-inside l w ok))) ∙ sym (over i)
 
 -- ---- a recovery
 

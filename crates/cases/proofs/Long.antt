@@ -47,16 +47,18 @@ use Rattle.cases.proofs.Shown.{shows, storesEpoch, no-checkpoint, shows
 
 -- ---- where a state of the story stands
 
-pub record Has (s : State) (I : Image) (x : Session) (W P : Page) : Type 0 where
-  pub here : At s I x
-  pub sized : s .device .layout ≡ l114
-  pub working : s .model .working ≡ W
-  pub checkpoint : s .model .checkpoint ≡ P
+-- its image, its session and both pages
+record Has (s : State) (I : Image) (x : Session) (W P : Page) : Type 0 where
+  here : At s I x
+  sized : s .device .layout ≡ l114
+  working : s .model .working ≡ W
+  checkpoint : s .model .checkpoint ≡ P
 
 -- a call is permitted, answers this with n operations, and leaves this
 abbrev Goes : State → Call → Outcome → ℕ → Image → Session → Page → Page → Type 0
 Goes s c o n J y W P = Permitted (s .device) c × (outcome (s .device) c ≡ o) × (length (o .ops) ≡ n) × Has (step s c) J y W P
 
+-- what a served write answers, a refused one, and a checkpoint
 abbrev wrote : Session → Session → Image → WriteArgs → Outcome
 wrote y x I w = record { status = 0; session = y; ops = writeOps x I w 0 }
 
@@ -75,7 +77,8 @@ abbrev countOf : Session → Image → WriteArgs → ℕ
 countOf x I w = copyCount (x .layout) (dirtyWord x (w .main)) (copyPlan x I (w .main) 0) + spanCount (x .layout) w
 
 abbrev statusOf : Session → Image → WriteArgs → ℕ → ℕ
-statusOf x I w n = firstError (earlyErrors x I w ++ (9, noneFree (copyPlan x I (w .main) 0)) ∷ (11, ltb (length longestTrace) (opNumbers * n)) ∷ [])
+statusOf x I w n =
+    firstError (earlyErrors x I w ++ (9, noneFree (copyPlan x I (w .main) 0)) ∷ (11, ltb (length longestTrace) (opNumbers * n)) ∷ [])
 
 -- a served write
 writes-on : (I : Image) (x : Session) (W P : Page) (w : WriteArgs) (n : ℕ) (J : Image) (y : Session) (X : Page)
@@ -88,9 +91,11 @@ writes-on : (I : Image) (x : Session) (W P : Page) (w : WriteArgs) (n : ℕ) (J 
 unfolding step deviceStep modelStep
 writes-on I x W P w n J y X whole bytes given free count status answered leaves room page s h =
     let served : writeStatus x I w 0 longestTrace ≡ 0 = write-status x I w 0 longestTrace n 0 count status in
-    let o : writeOutcome x I w 0 longestTrace ≡ wrote y x I w = write-served x I w 0 longestTrace served ∙ ap (λ (z : Session). wrote z x I w) answered in
+    let o : writeOutcome x I w 0 longestTrace ≡ wrote y x I w =
+    write-served x I w 0 longestTrace served ∙ ap (λ (z : Session). wrote z x I w) answered in
     let g = goes (callWrite w longestTrace 0) whole (small-bytes (w .bytes) given, λ e. free) (ap (λ (a : Outcome). a .session) o)
-    (ap (λ (a : Outcome). replay (a .ops) I) o ∙ leaves (small-bytes I bytes) (span-ok x I w 0 longestTrace (small-bytes (w .bytes) given) served)) s (h .here) in
+    (ap (λ (a : Outcome). replay (a .ops) I) o
+    ∙ leaves (small-bytes I bytes) (span-ok x I w 0 longestTrace (small-bytes (w .bytes) given) served)) s (h .here) in
     let e : outcome (s .device) (callWrite w longestTrace 0) ≡ wrote y x I w =
     ap₂ (λ (z : Session) (K : Image). writeOutcome z K w 0 longestTrace) (h .here .session) (h .here .image) ∙ o in (
       g .0,
@@ -99,7 +104,8 @@ writes-on I x W P w n J y X whole bytes given free count status answered leaves 
       record {
         here = g .1;
         sized = h .sized;
-        working = rw (e, h .sized) (ap (λ (Q : Page). sets Q (placeOf w) (w .bytes)) (h .working) ∙ sets-eq (w .bytes) W (placeOf w) room ∙ same-equal _ _ page);
+        working = rw (e, h .sized)
+            (ap (λ (Q : Page). sets Q (placeOf w) (w .bytes)) (h .working) ∙ sets-eq (w .bytes) W (placeOf w) room ∙ same-equal _ _ page);
         checkpoint = rw e (h .checkpoint);
       },
     )
@@ -129,7 +135,8 @@ unfolding step deviceStep modelStep
 saves I x W P n J y whole served count answered leaves s h =
     let o : checkpointOutcome x I longTrace ≡ saved y x I =
     checkpoint-served x I longTrace served ∙ ap (λ (z : Session). saved z x I) answered in
-    let g = goes checkpoint whole tt (ap (λ (a : Outcome). a .session) o) (ap (λ (a : Outcome). replay (a .ops) I) o ∙ same-equal _ _ leaves) s (h .here) in
+    let g = goes checkpoint whole tt (ap (λ (a : Outcome). a .session) o)
+    (ap (λ (a : Outcome). replay (a .ops) I) o ∙ same-equal _ _ leaves) s (h .here) in
     let e : outcome (s .device) checkpoint ≡ saved y x I =
     ap₂ (λ (z : Session) (K : Image). checkpointOutcome z K longTrace) (h .here .session) (h .here .image) ∙ o in
     (g .0, e, count, record { here = g .1; sized = h .sized; working = rw e (h .working); checkpoint = rw e (h .working) })
@@ -212,7 +219,7 @@ answered-1 = refl
 
 -- ---- L2 to L7
 
--- a session that knows the segment dirty, or no checkpoint yet, needs no backup segment
+-- where no new backup segment is needed, none is chosen
 none-needed : {A : Type 0} → _≡_ false true → A
 none-needed e = absurd (false≢true e)
 
@@ -370,7 +377,8 @@ row-2 : answer (outcome (opened .device) (fill 0 30 700 5)) ++ marksAndEnds (out
 unfolding spanOps
 row-2 =
     ap (λ (a : Outcome). answer a ++ marksAndEnds a afterL2) (goes-2 .1)
-    ∙ ap (λ (k : ℕ). 0 ∷ k ∷ 7 ∷ operation 0 (wrote (session 1 7) (session 0 0) I1 first) ++ operation 88 (wrote (session 1 7) (session 0 0) I1 first)) (goes-2 .2)
+    ∙ ap (λ (k : ℕ). 0 ∷ k ∷ 7 ∷ operation 0 (wrote (session 1 7) (session 0 0) I1 first) ++ operation 88 (wrote (session 1 7) (session 0 0) I1 first))
+    (goes-2 .2)
     ∙ ap (λ (O : Ops). 0 ∷ 89 ∷ 7 ∷ take 2 (encode O) ++ take 2 (drop 264 (encode O))) (uncopied (session 0 0) I1 first 0 plan-2)
     ∙ ap (λ (ns : List ℕ). 0 ∷ 89 ∷ 7 ∷ ns) (ends (λ k. wordOf (overlay (byteAt I1) 542 (first .bytes)) (536 + 8 * k)))
 
