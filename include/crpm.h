@@ -72,7 +72,7 @@ extern "C" {
 /* The version of this interface: its first number is raised whenever a signature
    or a struct changes, its second when what a call does changes and programs
    need no change. `pkg-config --modversion crpm` says the same. */
-#define CRPM_VERSION "1.1.0"
+#define CRPM_VERSION "1.2.0"
 
 /* ---- the layout of an image */
 
@@ -119,13 +119,15 @@ extern "C" {
 /* Numbers of a trace that are always enough for an opening, a write and a
    checkpoint of an image with M main segments and B blocks in each. A trace can
    be larger than the image: with 64 of each the image has 2,097,664 bytes, and
-   the trace of its first opening 3,538,968. */
+   the trace of its first opening 3,538,968. A write may be as long as a main
+   segment: 32 words for each of its blocks, besides the copy. */
 #define CRPM_OPEN_TRACE(M, B) ((size_t)CRPM_OP_NUMBERS * (36 * (size_t)(B) * (size_t)(M) + 1))
-#define CRPM_WRITE_TRACE(B) ((size_t)CRPM_OP_NUMBERS * (36 * (size_t)(B) + 6 + 32))
+#define CRPM_WRITE_TRACE(B) ((size_t)CRPM_OP_NUMBERS * (36 * (size_t)(B) + 6 + 32 * (size_t)(B)))
 #define CRPM_CHECKPOINT_TRACE(M, B) ((size_t)CRPM_OP_NUMBERS * (4 * (size_t)(B) * (size_t)(M) + 14))
 
-/* Numbers that are always enough for all three: the greatest of them. A
-   checkpoint never needs as many as an opening. */
+/* Numbers that are always enough for all three: the greatest of them. With one
+   main segment that is a write's, with more mostly an opening's; a checkpoint
+   never needs as many as an opening. */
 #define CRPM_TRACE(M, B) \
     (CRPM_OPEN_TRACE(M, B) > CRPM_WRITE_TRACE(B) ? CRPM_OPEN_TRACE(M, B) : CRPM_WRITE_TRACE(B))
 
@@ -153,7 +155,8 @@ enum crpm_status {
     CRPM_BAD_SESSION = 5,    /* the session does not fit the image */
     CRPM_NO_SUCH_MAIN = 6,   /* there is no such main segment */
     CRPM_NO_SUCH_BLOCK = 7,  /* there is no such block */
-    CRPM_BAD_SPAN = 8,       /* no bytes to write, or offset and length leave the block */
+    CRPM_BAD_SPAN = 8,       /* no bytes to write, an offset that is not in the block, or bytes
+                                that leave the main segment */
     CRPM_NO_FREE_BACKUP = 9, /* a write needs a new backup segment, and none is free: make a
                                 checkpoint, then all are */
     CRPM_EPOCH_LIMIT = 10,   /* a checkpoint at epoch 2^64 - 1 */
@@ -183,9 +186,12 @@ uint64_t crpm_open(
     uint64_t *trace, size_t trace_length,
     uint64_t *ops);
 
-/* Writes bytes to a block of a main segment, from an offset on. Takes the
-   session that the last call on the image wrote and writes the next one; to
-   `ops` the number of operations. Refusals: 1 to 9, 11. */
+/* Writes bytes to a main segment, from an offset in a block on. They may run on
+   through the following blocks, to the end of the main segment: the offset is 0
+   to 255, and offset and length together at most 256 times the blocks from this
+   one on. The main segment is copied once at most, however long the write is.
+   Takes the session that the last call on the image wrote and writes the next
+   one; to `ops` the number of operations. Refusals: 1 to 9, 11. */
 uint64_t crpm_write(
     const uint8_t *image, size_t image_length,
     struct crpm_session *session,

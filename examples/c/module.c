@@ -76,17 +76,18 @@ static void served(const char *call, uint64_t status)
 
 enum { CHECKPOINTS = 4 };
 
-/* Each write with the number of the checkpoint that it comes before. No
-   checkpoint comes after the last write: no opening shows it. */
+/* Each write with the number of the checkpoint that it comes before. Two run on
+   over the end of a block. No checkpoint comes after the last write: no opening
+   shows it. */
 static const struct write {
     int checkpoint;
     uint64_t main, block, offset;
     size_t length;
 } writes[] = {
     {1, 0, 0, 6, 4},
-    {2, 0, 1, 0, 24}, {2, 1, 1, 248, 8},
-    {3, 0, 0, 8, 3},
-    {4, 1, 0, 100, 20}, {4, 1, 1, 0, 8},
+    {2, 0, 0, 244, 24}, {2, 1, 1, 248, 8},
+    {3, 0, 0, 250, 12},
+    {4, 1, 0, 100, 20}, {4, 1, 0, 0, 8},
     {CHECKPOINTS + 1, 1, 1, 0, 8},
 };
 
@@ -112,7 +113,8 @@ static void make_page(int k, page blocks)
     memset(blocks, 0, sizeof(page));
     for (w = 0; w < WRITES; w++)
         if (writes[w].checkpoint <= k)
-            memcpy(blocks[writes[w].main][writes[w].block] + writes[w].offset, bytes_of(w), writes[w].length);
+            memcpy((uint8_t *)blocks[writes[w].main] + CRPM_BLOCK_SIZE * writes[w].block + writes[w].offset,
+                   bytes_of(w), writes[w].length);
 }
 
 /* ---- the module: a mapping, 64-byte aligned as every mapping is */

@@ -440,6 +440,66 @@ static void dirty_block_example(void)
     finish(&t);
 }
 
+/* Long writes, as in docs/SPECIFICATION.md 17.5: 700 bytes over three blocks of a main segment of four. */
+static void long_writes(void)
+{
+    static uint8_t want[1024], first[995], second[700], third[700];
+    struct bench t;
+    uint64_t b;
+    start(&t, 1, 1, 4);
+    memset(first, 0x5a, sizeof first);
+    memset(second, 0x6b, sizeof second);
+    memset(third, 0x7c, sizeof third);
+    SERVED(open_image(&t));
+    STEP(play(&t, 128, 16, 1));
+
+    /* 89 words, from the one at 536 to the one at 1,240; blocks 0 to 2 are dirty, and a checkpoint flushes them */
+    SERVED(write_bytes(at(&t, 0, 0, 30, first, 700)));
+    CHECK(t.ops == 89 && t.trace[1] == 536 && t.trace[2] == 0x5a5a000000000000);
+    CHECK(t.trace[CRPM_OP_NUMBERS * 88 + 1] == 1240 && t.trace[CRPM_OP_NUMBERS * 88 + 2] == 0x5a5a);
+    STEP(play(&t, 89, 0, 0));
+    memcpy(want + 30, first, 700);
+    CHECK(memcmp(t.image + 512, want, 1024) == 0);
+    STEP(session_is(&t, 1, 7, 0));
+    SERVED(checkpoint(&t));
+    CHECK(t.ops == 26);
+    STEP(play(&t, 9, 14, 3));
+    for (b = 0; b < 4; b++)
+        STEP(reads_at(&t, 0, b, 512 + 256 * b, 512 + 256 * b));
+
+    /* the main segment is copied once, whole and to a new backup segment; then blocks 1 to 3 are dirty */
+    SERVED(write_bytes(at(&t, 0, 1, 30, second, 700)));
+    CHECK(t.ops == 239);
+    STEP(play(&t, 219, 18, 2));
+    CHECK(memcmp(t.image + 1536, want, 1024) == 0);
+    memcpy(want + 286, second, 700);
+    CHECK(memcmp(t.image + 512, want, 1024) == 0);
+    STEP(session_is(&t, 1, 14, 0));
+    SERVED(checkpoint(&t));
+    STEP(play(&t, 9, 14, 3));
+
+    /* its three dirty blocks are copied to its own backup segment */
+    SERVED(write_bytes(at(&t, 0, 0, 30, third, 700)));
+    CHECK(t.ops == 201);
+    STEP(play(&t, 186, 13, 2));
+    CHECK(memcmp(t.image + 1536, want, 1024) == 0);
+    memcpy(want + 30, third, 700);
+    CHECK(memcmp(t.image + 512, want, 1024) == 0);
+    STEP(session_is(&t, 1, 7, 0));
+
+    /* where a span may end */
+    RETURNS(write_bytes(at(&t, 0, 2, 30, first, 700)), CRPM_BAD_SPAN, 8);
+    RETURNS(write_bytes(at(&t, 0, 0, 256, first, 1)), CRPM_BAD_SPAN, 8);
+    SERVED(write_bytes(at(&t, 0, 0, 30, first, 994)));
+    STEP(play(&t, 125, 0, 0));
+    STEP(session_is(&t, 1, 15, 0));
+    RETURNS(write_bytes(at(&t, 0, 0, 30, first, 995)), CRPM_BAD_SPAN, 8);
+    SERVED(write_bytes(at(&t, 0, 3, 255, first, 1)));
+    RETURNS(write_bytes(at(&t, 0, 3, 255, first, 2)), CRPM_BAD_SPAN, 8);
+    RETURNS(write_bytes(at(&t, 0, 0, UINT64_MAX - 6, first, 8)), CRPM_BAD_SPAN, 8);
+    finish(&t);
+}
+
 /* ---- places, at sizes that all differ: 3 main segments, 2 backup segments, 4 blocks */
 
 static uint8_t shade(uint64_t main, uint64_t block)
@@ -558,16 +618,17 @@ struct lengths {
 static const struct lengths LENGTHS[] = {
     {1, 1, 1, 1024, 111, 222, 54},
     {2, 1, 1, 1280, 219, 222, 66},
-    {1, 1, 4, 2560, 435, 546, 90},
-    {2, 2, 2, 2560, 435, 330, 90},
-    {3, 2, 5, 6912, 1623, 654, 222},
+    {1, 1, 4, 2560, 435, 834, 90},
+    {2, 2, 2, 2560, 435, 426, 90},
+    {3, 2, 5, 6912, 1623, 1038, 222},
     {64, 1, 1, 17152, 6915, 222, 810},
-    {CRPM_MOST, CRPM_MOST, CRPM_MOST, 2097664, 442371, 7026, 49194},
+    {1, 1, CRPM_MOST, 33280, 6915, 13074, 810},
+    {CRPM_MOST, CRPM_MOST, CRPM_MOST, 2097664, 442371, 13074, 49194},
 };
 
 static void trace_lengths_of(const struct lengths *of)
 {
-    static const uint8_t block_bytes[256] = {7};
+    static const uint8_t segment_bytes[16384] = {7};
     struct bench t;
     uint64_t i, b, played;
     start(&t, of->mains, of->backups, of->blocks);
@@ -592,8 +653,8 @@ static void trace_lengths_of(const struct lengths *of)
     SERVED(checkpoint(&t));
     STEP(play(&t, 9, 4 * of->mains * of->blocks + 2, 3));
 
-    /* a whole block written to a main segment that has to be copied first */
-    at(&t, of->mains - 1, of->blocks - 1, 0, block_bytes, 256);
+    /* a main segment written whole that has to be copied first */
+    at(&t, of->mains - 1, 0, 0, segment_bytes, 256 * (size_t)of->blocks);
     STEP(needs(&t, write_bytes, CRPM_WRITE_TRACE(of->blocks), of->write));
     if (of->write > of->opening)
         STEP(needs(&t, write_bytes, CRPM_TRACE(of->mains, of->blocks), of->write));
@@ -609,7 +670,7 @@ static void trace_lengths(void)
         trace_lengths_of(&LENGTHS[i]);
     for (m = 1; m <= 64; m++)
         for (b = 1; b <= 64; b++) {
-            uint64_t opening = 108 * b * m + 3, write = 108 * b + 114;
+            uint64_t opening = 108 * b * m + 3, write = 204 * b + 18;
             if (CRPM_TRACE(m, b) != (opening > write ? opening : write))
                 wrong++;
         }
@@ -621,7 +682,7 @@ static void trace_lengths(void)
     CHECK(CRPM_MAIN_AT(1 | 4, 1 | 2) == 4352);
     CHECK(CRPM_BACKUP_AT(1 | 2, 1 | 4, 1 | 4) == 10752);
     CHECK(CRPM_OPEN_TRACE(1 | 2, 1 | 4) == 1623 && CRPM_TRACE(1 | 2, 1 | 4) == 1623);
-    CHECK(CRPM_WRITE_TRACE(1 | 4) == 654 && CRPM_TRACE(0 | 1, 1 | 4) == 654);
+    CHECK(CRPM_WRITE_TRACE(1 | 4) == 1038 && CRPM_TRACE(0 | 1, 1 | 4) == 1038);
     CHECK(CRPM_CHECKPOINT_TRACE(1 | 2, 1 | 4) == 222);
 }
 
@@ -858,8 +919,8 @@ static void refusals(void)
     STEP(play(&t, 67, 10, 2));
     none = t;
     none.trace_length = 0;
-    RETURNS(write_bytes(at(&none, 2, 0, 255, ONE, 2)), CRPM_BAD_SPAN, 8);
-    RETURNS(write_bytes(at(&none, 2, 0, 255, ONE, 1)), CRPM_NO_FREE_BACKUP, 9);
+    RETURNS(write_bytes(at(&none, 2, 1, 255, ONE, 2)), CRPM_BAD_SPAN, 8);
+    RETURNS(write_bytes(at(&none, 2, 0, 255, ONE, 2)), CRPM_NO_FREE_BACKUP, 9);
     RETURNS(write_bytes(at(&none, 1, 0, 255, ONE, 1)), CRPM_TRACE_SHORT, 11);
     RETURNS(checkpoint(&none), CRPM_TRACE_SHORT, 11);
     RETURNS(open_image(&none), CRPM_TRACE_SHORT, 11);
@@ -960,6 +1021,7 @@ int main(int count, char **arguments)
     session_fields();
     worked_examples();
     dirty_block_example();
+    long_writes();
     places();
     trace_lengths();
     refusals();

@@ -9,7 +9,7 @@ use lib.ListN.{length}
 use borrow.Author.Tests.{le-leb, lt-leb}
 use Rattle.text.specs.declared.Number.{Number}
 use Rattle.text.specs.Text.{startsWith, Line, numberOf, hexPairs}
-use Rattle.lines.specs.Line.{mostSize, mostNumber, within, isSize, isNumber, isBytes, key, named}
+use Rattle.lines.specs.Line.{mostDigits, mostSize, mostNumber, within, isSize, isNumber, isBytes, key, named}
 
 -- ---- names
 
@@ -34,11 +34,11 @@ size-by k i n e q h = (q ∙ ap (λ (x : ℕ). length (key x .name)) (sym e), h)
 
 -- ---- values
 
-pub bytes-long : (v : List ℕ) → 512 < length v → false ≡ isBytes v
-bytes-long v h = rw (lt-leb (length v) 512 h)
+pub bytes-long : (v : List ℕ) → mostDigits < length v → false ≡ isBytes v
+bytes-long v h = rw (lt-leb (length v) mostDigits h)
 
-pub bytes-short : (v : List ℕ) {r : Bool} → length v ≤ 512 → r ≡ hexPairs v → r ≡ isBytes v
-bytes-short v h e = rw (le-leb (length v) 512 h) e
+pub bytes-short : (v : List ℕ) {r : Bool} → length v ≤ mostDigits → r ≡ hexPairs v → r ≡ isBytes v
+bytes-short v h e = rw (le-leb (length v) mostDigits h) e
 
 -- bytes, and 0 or 1
 pub good-bytes : (k : ℕ) (v : List ℕ) {r : Bool} → k ≡ 6 → r ≡ isBytes v → r ≡ key k .takes v

@@ -9,9 +9,9 @@ use Rattle.text.specs.Text.{text, startsWith, Line, lineEnd, numberOf, hexPairs
 use Rattle.text.specs.declared.Number.{Number}
 use Rattle.text.specs.declared.Number.the-variants.{None, Is}
 
--- the most hexadecimal digits of a value
+-- the most hexadecimal digits of a value: two for each byte of the largest main segment of a sheet
 abbrev pub mostDigits : ℕ
-mostDigits = 512
+mostDigits = 2048
 
 -- ---- a line
 

@@ -8,7 +8,7 @@ ghost use Rattle.lines.specs.Line.{checkpointKey, key, named, valueOf, w
 ghost use Rattle.lines.specs.Read.{ReadsValue};
 
 // The most hexadecimal digits of a value, the largest size, the largest number of three digits.
-const MOST_DIGITS: usize = 512;
+const MOST_DIGITS: usize = 2048;
 
 pub const MOST_SIZE: u64 = 4;
 

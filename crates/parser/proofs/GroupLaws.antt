@@ -12,7 +12,7 @@ use Rattle.model.specs.Range.{cat}
 use Rattle.model.proofs.Laws.Range.{and-left, and-right}
 use Rattle.text.specs.Text.{text, Line, linesOf, hexPairs}
 use Rattle.text.proofs.LineLaws.{total, total-lines, lines-none}
-use Rattle.lines.specs.Line.{isBytes, key, valueOf, goodLine}
+use Rattle.lines.specs.Line.{mostDigits, isBytes, key, valueOf, goodLine}
 use Rattle.lines.proofs.LineLaws.{good-value, good-long}
 use Rattle.parser.specs.Script.{groupKey, groupLines, firstBad, lineAt, groupOf, firstGroups, groupsOf}
 use Rattle.parser.specs.declared.GroupAt.{GroupAt}
@@ -25,7 +25,7 @@ use Rattle.parser.proofs.BadLaws.{step, end-at}
 pub record GoodGroup (n : ℕ) (ls : List Line) : Type 0 where
   pub groups : groupsOf ls ≡ groupOf ls ∷ groupsOf (drop groupLines ls)
   pub rest : firstBad groupKey (5 + n) (drop groupLines ls) ≡ 0
-  pub short : length (valueOf 6 (lineAt ls 3)) ≤ 512
+  pub short : length (valueOf 6 (lineAt ls 3)) ≤ mostDigits
   pub pairs : hexPairs (valueOf 6 (lineAt ls 3)) ≡ true
   -- five keys, and a byte 10 behind each
   pub size : 31 + total (drop groupLines ls) ≤ total ls
@@ -49,8 +49,8 @@ five n a b c d e ls ga gb gc gd ge h =
     record {
       groups = rw q;
       rest = rw m h;
-      short = leb-true (length (valueOf 6 d)) 512 (and-left (leb (length (valueOf 6 d)) 512) (hexPairs (valueOf 6 d)) w);
-      pairs = and-right (leb (length (valueOf 6 d)) 512) (hexPairs (valueOf 6 d)) w;
+      short = leb-true (length (valueOf 6 d)) mostDigits (and-left (leb (length (valueOf 6 d)) mostDigits) (hexPairs (valueOf 6 d)) w);
+      pairs = and-right (leb (length (valueOf 6 d)) mostDigits) (hexPairs (valueOf 6 d)) w;
       size = omega arith;
     }
 

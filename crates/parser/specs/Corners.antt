@@ -108,7 +108,7 @@ firstGroup = record { main = 2; block = 1; offset = 255; bytes = 9 ∷ []; check
 abbrev pub secondGroup : Group
 secondGroup = record { main = 10; block = 345; offset = 999; bytes = []; checkpoint = true }
 
--- 4,096 bytes are judged, 4,097 are too long; 512 digits are good, 513 and 514 are not
+-- 4,096 bytes are judged, 4,097 are too long; 2,048 digits are good, 2,049 and 2,050 are not
 pub record Corners : Type 0 where
   pub sizes : allGiven sizeCorners ≡ true
   pub groups : allGiven groupCorners ≡ true
@@ -116,4 +116,4 @@ pub record Corners : Type 0 where
   pub two : parse (text twoGroups) ≡ good (layoutOf 3 3 2) (firstGroup ∷ secondGroup ∷ [])
   pub longest : parse (replicate 4096 lineEnd) ≡ bad 1
   pub longer : parse (replicate 4097 lineEnd) ≡ bad 0
-  pub digits : (isBytes (replicate 512 48) ≡ true) × (isBytes (replicate 513 48) ≡ false) × (isBytes (replicate 514 48) ≡ false)
+  pub digits : (isBytes (replicate 2048 48) ≡ true) × (isBytes (replicate 2049 48) ≡ false) × (isBytes (replicate 2050 48) ≡ false)

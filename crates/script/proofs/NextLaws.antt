@@ -25,7 +25,7 @@ module _ (input : List ℕ) (p : ℕ) (lt : p < length input) (good : GoodFrom i
   abbrev here : GoodGroup (good .1 .0) (linesOf (drop p input))
   here = group-here input p (good .1 .0) (good .1 .1) lt
 
-  -- the digits of a good group are pairs, at most 512
+  -- the digits of a good group are pairs, and few enough
   abbrev digits : List ℕ
   digits = take (r .«digits_end» - r .digits) (drop (r .digits) input)
 

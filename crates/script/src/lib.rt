@@ -28,8 +28,8 @@ pub const MOST_TEXT: usize = 6 * MOST_BYTES;
 const IMAGE_SIZE: usize = (Layout::METADATA_SIZE
     + Layout::BLOCK_SIZE * lines::MOST_SIZE * (lines::MOST_SIZE + lines::MOST_SIZE)) as usize;
 
-// The most bytes of a write.
-const SPAN_SIZE: usize = Layout::BLOCK_SIZE as usize;
+// The most bytes of a write: those of the largest main segment of a sheet.
+const SPAN_SIZE: usize = (Layout::BLOCK_SIZE * lines::MOST_SIZE) as usize;
 
 // How far the groups of a sheet are run: what the last one left, where the next one starts in the input, and its number.
 pub struct Progress {

@@ -8,7 +8,6 @@ use lib.Dec.{ltb}
 use lib.ListN.{length}
 use borrow.Author.Tests.{lt-ltb, le-ltb}
 use Rattle.model.specs.Words.{Image, byteAt, littleEndian, wordOf, wordAt, overlay}
-use Rattle.model.specs.Layout.{blockSize}
 use Rattle.model.specs.Ops.{store, stores, wordPlace}
 use Rattle.model.specs.Write.{spanWords, spanStores}
 use Rattle.model.proofs.Laws.Range.{cat-ext}
@@ -40,10 +39,10 @@ whole-words I a bs some x y =
 
 -- ---- the limits
 
--- the span's end, tested without a sum
-pub span-over : (offset len : ℕ) → offset ≤ blockSize → ltb (blockSize - offset) len ≡ ltb blockSize (offset + len)
-span-over offset len h = go (decLt blockSize (offset + len))
+-- the span's end, tested without a sum: `room` bytes are there from the start of its block on
+pub span-over : (room offset len : ℕ) → offset ≤ room → ltb (room - offset) len ≡ ltb room (offset + len)
+span-over room offset len h = go (decLt room (offset + len))
   where
-    go : Dec (blockSize < offset + len) → ltb (blockSize - offset) len ≡ ltb blockSize (offset + len)
-    go (yes l) = lt-ltb (blockSize - offset) len (omega arith) ∙ sym (lt-ltb _ _ l)
-    go (no l) = le-ltb (blockSize - offset) len (omega arith) ∙ sym (le-ltb blockSize (offset + len) (omega arith))
+    go : Dec (room < offset + len) → ltb (room - offset) len ≡ ltb room (offset + len)
+    go (yes l) = lt-ltb (room - offset) len (omega arith) ∙ sym (lt-ltb _ _ l)
+    go (no l) = le-ltb (room - offset) len (omega arith) ∙ sym (le-ltb room (offset + len) (omega arith))

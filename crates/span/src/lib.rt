@@ -16,7 +16,8 @@ ghost use Rattle.span.specs.Steps.{argsOf, wordStores};
 // Bytes of a word, as indexes count them.
 const WORD_SIZE: usize = Layout::WORD_SIZE as usize;
 
-// The bytes that a write is about: a main segment, a block of it, the offset in the block, and how many.
+// The bytes that a write is about: a main segment, a block of it, the offset in the block, and how many; they may run on through
+// the following blocks.
 pub struct Span {
     pub main: u64,
     pub block: u64,
@@ -74,22 +75,23 @@ fn span_word(image: &[u8], at: usize, bytes: &[u8], place: usize) -> u64
 
 // ---- limits and place
 
-// Whether a span is empty or leaves its block (refusal 8).
+// Whether a span is empty, has an offset that is not in its block, or leaves its main segment (refusal 8).
 pub fn span_bad(layout: Layout, span: Span) -> bool
+    requires { ⌜ (span .block < layout .blocks) × (layout .blocks ≤ most) ⌝ }
     ensures { λ r. ⌜ ((bytes : List ℕ) → length bytes ≡ span .len → r ≡ spanBad layout (argsOf span bytes)) ⌝ }
 {
     if span.len == 0 {
         return true;
     }
-    if Layout::BLOCK_SIZE < span.offset {
+    if Layout::BLOCK_SIZE <= span.offset {
         return true;
     }
-    Layout::BLOCK_SIZE - span.offset < span.len as u64
+    Layout::BLOCK_SIZE * (layout.blocks - span.block) - span.offset < span.len as u64
 }
 
 // Where a span starts in the image.
 pub fn span_at(layout: Layout, span: Span) -> usize
-    requires { ⌜ (span .main < most) × (layout .blocks ≤ most) × (span .block < layout .blocks) × (span .offset ≤ blockSize) ⌝ }
+    requires { ⌜ (span .main < most) × (layout .blocks ≤ most) × (span .block < layout .blocks) × (span .offset < blockSize) ⌝ }
     ensures { λ r. ⌜ r ≡ mainAt layout (span .main) + (blockSize * span .block + span .offset) ⌝ }
 {
     places::main_at(layout, span.main) + (Layout::BLOCK_SIZE * span.block + span.offset) as usize

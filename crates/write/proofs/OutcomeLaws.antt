@@ -60,7 +60,8 @@ writable s I w n e q =
       };
       block = leb-false _ _ (r 7);
       some = omega arith;
-      span = g .1;
+      offset = g .1;
+      span = g .2;
       word = words-within s (activeState I) (omega arith) (not-false _ (r 5)) (w .main) m;
     }
 

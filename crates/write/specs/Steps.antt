@@ -1,5 +1,5 @@
 -- What the contract of `crpm_write` says, as one statement, and a helper's: what refusals 1 to 8 leave. Assumes nothing.
-use Prim.Native.Nat.{ℕ, _+_, _^_, _≤_, _<_}
+use Prim.Native.Nat.{ℕ, _+_, _-_, _*_, _^_, _≤_, _<_}
 use mathlib.Core.Path.{_≡_}
 use lib.ListN.{length}
 use Rattle.model.specs.declared.Session.{Session}
@@ -23,5 +23,6 @@ pub record SpanWritable (s : Session) (I : Image) (w : WriteArgs) : Type 0 where
   pub segment : Writable (s .layout) I (w .main)
   pub block : w .block < s .layout .blocks
   pub some : 1 ≤ length (w .bytes)
-  pub span : w .offset + length (w .bytes) ≤ blockSize
+  pub offset : w .offset < blockSize
+  pub span : w .offset + length (w .bytes) ≤ blockSize * (s .layout .blocks - w .block)
   pub word : dirtyWord s (w .main) < 2 ^ s .layout .blocks

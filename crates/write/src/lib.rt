@@ -1,5 +1,5 @@
-// Write (SPECIFICATION 10): the bytes of a span come to stand in a block of a main segment. Its refusals, the operations
-// (the copy on write, then the span), and the session afterwards.
+// Write (SPECIFICATION 10): the bytes of a span come to stand in the blocks of a main segment, from one of them on. Its refusals,
+// the operations (the copy on write, then the span), and the session afterwards.
 use copy::Segment;
 use model::Answer;
 use model::Layout;
@@ -10,7 +10,7 @@ use span::Span;
 ghost use mathlib.Core.Path.{_≡_};
 ghost use mathlib.Core.Bool.{cond};
 ghost use mathlib.Core.List.{List, _++_};
-ghost use Prim.Native.Nat.{ℕ, _+_, _^_, _≤_, _<_};
+ghost use Prim.Native.Nat.{ℕ, _+_, _-_, _*_, _^_, _≤_, _<_};
 ghost use lib.ListN.{length};
 ghost use Rattle.model.specs.Layout.{most, blockSize};
 ghost use Rattle.model.specs.Status.{codeOf, firstError};
@@ -85,7 +85,7 @@ fn put_write(
 // blocks of the segment; then the segment and the blocks of the span are dirty.
 fn written_session(session: Session, plan: Plan, word: u64, span: Span) -> Session
     requires { ⌜ (span .main < most) × (span .block < session .layout .blocks) × (session .layout .blocks ≤ most) ⌝ }
-    requires { ⌜ (1 ≤ span .len) × (span .offset + span .len ≤ blockSize) ⌝ }
+    requires { ⌜ (1 ≤ span .len) × (span .offset + span .len ≤ blockSize * (session .layout .blocks - span .block)) ⌝ }
     requires { ⌜ word < 2 ^ session .layout .blocks ⌝ }
     ensures { λ r. ⌜ ((bytes : List ℕ) → length bytes ≡ span .len → r ≡ withDirty session (span .main) (span .block) (spanBlocks (argsOf span bytes)) (cond (copies plan) 0 word)) ⌝ }
 {
@@ -97,8 +97,8 @@ fn written_session(session: Session, plan: Plan, word: u64, span: Span) -> Sessi
     session::with_dirty(session, span.main, span.block, count, word)
 }
 
-// Write: puts the bytes into a block of a main segment, from an offset on. The operations stand on the trace; the answer
-// has the status, the session afterwards, and the number of operations.
+// Write: puts the bytes into a main segment, from an offset in a block on and through the following blocks. The operations stand on
+// the trace; the answer has the status, the session afterwards, and the number of operations.
 pub fn crpm_write(
     image: &[u8],
     session: Session,

@@ -1,11 +1,12 @@
 use mathlib.Core.Path.{sym, _∙_}
 use mathlib.Core.List.{_++_}
 use native.Mathlib.Omega.{arith}
-use borrow.Author.Tests.{not-true, not-false}
+use borrow.Author.Tests.{leb-false, eqb-true, not-true, not-false}
 use borrow.Author.Needs.{needs}
 use Rattle.model.specs.Container.{mainErrors, blockErrors}
 use Rattle.model.specs.Session.{contextErrors}
-use Rattle.model.proofs.Laws.Status.{first-holds, first-fails, first-of-none, stage-refused, stage-passed}
+use Rattle.model.proofs.Laws.Status.{served-condition, first-holds, first-fails, first-of-none, stage-refused, stage-passed}
+use Rattle.model.proofs.Laws.Container.{container-then}
 use Rattle.session.specs.Parts.{sessionOf}
 use Rattle.write.proofs.early_status.Statement.{statement}
 use Rattle.write.proofs.early_status.Tie as tie
@@ -34,7 +35,13 @@ returns-2 c bytes x =
     stage-refused _ _ _ (c .before .before .place-status .ensures) (sym (c .before .is-served2 .ensures) ∙ not-true _ (c .if2 .taken)) ∙ sym p
 
 span-bad-requires : tie.Need-span-bad-requires
-span-bad-requires c κs = search needs
+span-bad-requires c κs =
+    let b = c .before .before .before in
+    let a = b .before .before .before .before .args in
+    let h = sym (b .before .before .context-status .ensures) ∙ eqb-true _ 0 (sym (b .before .is-served .ensures) ∙ not-false _ (b .if1 .left)) in
+    let z = sym (c .before .before .place-status .ensures) ∙ eqb-true _ 0 (sym (c .before .is-served2 .ensures) ∙ not-false _ (c .if2 .left)) in
+    let place = served-condition (mainErrors (a .layout) (a .span .main) ++ blockErrors (a .layout) (a .span .block)) (omega arith) z in
+    (leb-false _ _ (place 7), container-then (a .layout) (a .image .now) _ h .0 .sizes .2 .1)
 
 returns-3 : tie.Need-returns-3
 returns-3 c bytes x =
