@@ -19,8 +19,7 @@ pub trait Form {
     fn copy(tape: &mut [u64], to: usize, part: &[u8]);
     /// The 36 orders of filling the frame at a place with zeros.
     fn fill(tape: &mut [u64], to: usize);
-    /// The stores of whole words from a place on, as many as the tape has room
-    /// for.
+    /// The stores of whole words from a place on.
     fn store(tape: &mut [u64], to: usize, words: &[[u8; 8]]);
     /// Are these orders well formed for an image of this length?
     fn good(tape: &[u64], length: usize) -> bool;

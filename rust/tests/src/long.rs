@@ -5,14 +5,16 @@
 //! They are gone through by numbers first: orders, marks, the stores of the
 //! spans, both reads byte by byte. Then power goes at every cut of each, and
 //! opening again shows a page of the table whole, never a mixture: the page last
-//! saved, or either of two in a save's window.
-//! Like the other groups it runs over any implementation of the calls.
+//! saved, or either of two in a save's window. `longest_writes` tries the tape
+//! that always suffices (section 6.4).
+//! Like the other groups these run over any implementation of the calls.
 
+use crate::arbitrary::{distinct_data, image_of, Metadata};
 use crate::book::{pages_read, Call, Contents, Deed};
 use crate::calls::*;
 use crate::explore::*;
 use crate::groups::{cut_line, due, found, laid_out, plain};
-use crate::report::Outcome;
+use crate::report::{Found, Outcome};
 use std::collections::BTreeSet;
 
 const SIZES: Sizes = Sizes::new(1, 1, 4);
@@ -151,4 +153,34 @@ pub fn long_writes<C: Calls>(calls: &C, plan: Plan) -> Outcome {
     let Counts { calls, cuts, images, openings, .. } = counts;
     let text = format!("L1 to L7: {calls} calls, {cuts} cuts, {images} images, {openings} finished openings");
     Ok(found(format!("{text}, each of one page whole"), counts))
+}
+
+/// The longest write there is for every size of a level: all its bytes, with a
+/// copy of it to a new spare. It fills the tape that always suffices; with a
+/// number less it hears 11, with a byte more 8.
+pub fn longest_writes<C: Calls>(calls: &C) -> Outcome {
+    for frames in 1..=MOST {
+        let sizes = Sizes::new(1, 1, frames);
+        let own = Metadata { states: vec![1], pairs: vec![UNPAIRED] };
+        let image = image_of(sizes, 6, &own, 0, &distinct_data(sizes));
+        let (length, orders) = (256 * frames as usize, 36 * frames + 6 + 32 * frames);
+        let bytes = registration(1, length + 1);
+        let write = |length: usize, numbers: u64| {
+            let (mut card, mut tape) = (Card::fresh(sizes), vec![0; numbers as usize]);
+            let target = Target { level: 0, frame: 0, offset: 0 };
+            let answer = calls.write(&image, &mut card, target, &bytes[..length], &mut tape);
+            ((answer.number, answer.orders, card.marks[0]), tape)
+        };
+        let told = |what| format!("the longest write at {sizes}, {what}");
+        let (answer, tape) = write(length, 3 * orders);
+        due(&told("its orders and marks"), answer, (0, orders, u64::MAX >> (64 - frames)))?;
+        due(&told("a number less"), write(length, 3 * orders - 1).0, (11, 0, 0))?;
+        due(&told("a byte more"), write(length + 1, 3 * orders).0, (8, 0, 0))?;
+        let mut played = image.clone();
+        calls.play(&mut played, &tape, orders);
+        let (working, saved) = pages_read(calls, &played, sizes)?;
+        due(&told("the working page"), working == bytes[..length], true)?;
+        due(&told("the saved page"), saved.frames == image[DATA..][..length], true)?;
+    }
+    Ok(Found::new(format!("{MOST} sizes of a level, each with the tape that just suffices"), &[]))
 }

@@ -163,9 +163,15 @@ fn random_group(rng: &mut Rng, mains: usize, frames: usize) -> [String; 5] {
         _ => rng.below(end),
     };
     let (level, frame, at) = (near(rng, mains), near(rng, frames), near(rng, 256));
-    let count = match rng.below(8) {
+    let left = (256 * frames.saturating_sub(frame)).saturating_sub(at).min(1024);
+    let count = match rng.below(12) {
         0 => 0,
         1 => rng.below(257),
+        2 => left,
+        3 => (left + 1).min(1024),
+        4 => rng.range(0, left),
+        5 => 256usize.saturating_sub(at) + rng.range(1, 8),
+        6 => rng.pick(&[1023, 1024, 1024, 1025]),
         _ => rng.range(1, 12),
     };
     let bytes: String = rng.bytes(count).iter().map(|byte| format!("{byte:02x}")).collect();
