@@ -260,7 +260,9 @@ pub fn odd_sizes(rng: &mut Rng, sizes: Sizes) -> Sizes {
 }
 
 /// A write's target and bytes: mostly good, about half of them over several
-/// frames where a level has them, sometimes out of range.
+/// frames where a level has them, sometimes out of range: offsets behind the
+/// frame with every kind of length, no bytes, one byte more than is left of the
+/// level, as many bytes as a level has from any place on.
 pub fn writing(rng: &mut Rng, sizes: Sizes) -> (Target, Vec<u8>) {
     let frames = sizes.frames.clamp(1, 64) as usize;
     let offset = match rng.below(4) {

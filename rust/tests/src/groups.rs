@@ -1,6 +1,6 @@
 //! Groups of checks that run over any implementation of the calls: the bench
 //! cases, every permitted image of single calls and short histories, random
-//! histories, and calls with any contents. `restart` and `long` have one more each.
+//! histories, and calls with any contents. `restart` and `long` have more.
 //!
 //! `selftest` runs them over the reference, `differential` over the library.
 //! Each gives a line of counts or the first failure.
@@ -27,7 +27,7 @@ fn write_call(sizes: Sizes, level: u64, offset: u64, length: usize, value: u8) -
 }
 
 /// A write of bytes from this value upward.
-pub(crate) fn write_to(sizes: Sizes, target: Target, length: usize, value: u8) -> Call {
+fn write_to(sizes: Sizes, target: Target, length: usize, value: u8) -> Call {
     let bytes = (0..length).map(|i| value.wrapping_add(i as u8)).collect();
     Call { deed: Deed::Write(target, bytes), tape: sizes.room() }
 }
@@ -227,11 +227,12 @@ pub(crate) fn found(text: impl Into<String>, counts: Counts) -> Found {
     found
 }
 
-/// How often the laws were tried, in words.
+/// How often the laws were tried, in words; of the spans those that there were.
 fn laws_tried(counts: Counts) -> String {
-    let named: Vec<String> =
-        counts.tried.named().iter().map(|(name, count)| format!("{count} {name}")).collect();
-    named.join(", ")
+    let mut named = counts.tried.named();
+    named.retain(|(name, count)| *count > 0 || !OF_SPANS.contains(name));
+    let told: Vec<String> = named.iter().map(|(name, count)| format!("{count} {name}")).collect();
+    told.join(", ")
 }
 
 /// What a group that looks at every image found.

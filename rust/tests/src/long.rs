@@ -5,15 +5,17 @@
 //! They are gone through by numbers first: orders, marks, the stores of the
 //! spans, both reads byte by byte. Then power goes at every cut of each, and
 //! opening again shows a page of the table whole, never a mixture: the page last
-//! saved, or either of two in a save's window. `longest_writes` tries the tape
-//! that always suffices (section 6.4).
+//! saved, or either of two in a save's window. `after_cuts` goes on from there;
+//! `longest_writes` tries the tape that always suffices (section 6.4).
 //! Like the other groups these run over any implementation of the calls.
 
 use crate::arbitrary::{distinct_data, image_of, Metadata};
 use crate::book::{pages_read, Call, Contents, Deed};
 use crate::calls::*;
+use crate::crash::Module;
 use crate::explore::*;
 use crate::groups::{cut_line, due, found, laid_out, plain};
+use crate::prng::Rng;
 use crate::report::{Found, Outcome};
 use std::collections::BTreeSet;
 
@@ -97,26 +99,32 @@ fn stores(orders: &[Order]) -> (Vec<usize>, usize) {
     (own, copied.len())
 }
 
+/// A call's answer, and the numbers of its orders.
+fn answered<C: Calls>(calls: &C, image: &[u8], card: &mut Card, deed: &Deed) -> (Answer, Vec<u64>) {
+    let mut tape = vec![0; SIZES.room()];
+    let answer = match deed {
+        Deed::Open(sizes) => calls.open(image, *sizes, card, &mut tape),
+        Deed::Write(target, bytes) => calls.write(image, card, *target, bytes, &mut tape),
+        Deed::Save => calls.save(image, card, &mut tape),
+    };
+    tape.truncate(answer.orders.saturating_mul(3) as usize);
+    (answer, tape)
+}
+
 /// The story without cuts.
 fn by_numbers<C: Calls>(calls: &C) -> Result<(), String> {
     let (mut image, mut card) = (laid_out(calls, SIZES)?, Card::zeros());
     for Row { name, deed, number, orders, marks, copied, working, saved } in rows() {
-        let mut tape = vec![0; SIZES.room()];
-        let answer = match &deed {
-            Deed::Open(sizes) => calls.open(&image, *sizes, &mut card, &mut tape),
-            Deed::Write(target, bytes) => calls.write(&image, &mut card, *target, bytes, &mut tape),
-            Deed::Save => calls.save(&image, &mut card, &mut tape),
-        };
+        let (answer, tape) = answered(calls, &image, &mut card, &deed);
         due(&format!("{name} number"), answer.number, number)?;
         due(&format!("{name} orders"), answer.orders, orders)?;
         due(&format!("{name} marks"), card.marks[0], marks)?;
-        let part = &tape[..3 * orders as usize];
-        let (places, in_spare) = stores(&orders_of(part, image.len()).ok_or("an order is ill formed")?);
+        let (places, in_spare) = stores(&orders_of(&tape, image.len()).ok_or("an order is ill formed")?);
         due(&format!("{name} words copied"), in_spare, copied)?;
         if name == "L2" {
             due("L2 stores", places, (536..=1240).step_by(8).collect())?;
         }
-        calls.play(&mut image, part, answer.orders);
+        calls.play(&mut image, &tape, answer.orders);
         let read = pages_read(calls, &image, SIZES)?;
         let page = |at: usize| pages()[at].clone();
         due(&format!("{name} reads"), (read.0, read.1.frames), (page(working), page(saved)))?;
@@ -153,6 +161,57 @@ pub fn long_writes<C: Calls>(calls: &C, plan: Plan) -> Outcome {
     let Counts { calls, cuts, images, openings, .. } = counts;
     let text = format!("L1 to L7: {calls} calls, {cuts} cuts, {images} images, {openings} finished openings");
     Ok(found(format!("{text}, each of one page whole"), counts))
+}
+
+/// Power goes at every cut of L1 to L4. From the oldest and the newest image
+/// left and from a sample the story goes on: the opening shows the page last
+/// saved or, in L3, its new one; then a registration is written and saved, and
+/// it stands whole over what was shown, after one more opening too.
+pub fn after_cuts<C: Calls>(calls: &C) -> Outcome {
+    let (mut rng, mut restarts) = (Rng::new(8), 0);
+    let (mut module, mut card) = (Module::held(&laid_out(calls, SIZES)?), Card::zeros());
+    let mut before = 0;
+    for Row { name, deed, saved, .. } in rows().into_iter().take(4) {
+        let (_, tape) = answered(calls, module.image(), &mut card, &deed);
+        let orders = orders_of(&tape, module.image().len()).ok_or("an order is ill formed")?;
+        for p in 0..=orders.len() {
+            if p > 0 {
+                module.play(orders[p - 1]);
+            }
+            let cut = module.cut();
+            for image in [cut.all_oldest(), cut.all_newest(), cut.sample(&mut rng)] {
+                let told = |what| format!("{name}, cut after {p} of {} orders: {what}", orders.len());
+                register_again(calls, image, [before, saved]).map_err(told)?;
+                restarts += 1;
+            }
+        }
+        before = saved;
+    }
+    Ok(Found::new(format!("{restarts} restarts, a registration written and saved after each"), &[]))
+}
+
+/// Opens an image, which shows one of these pages, writes a registration, saves
+/// it and opens again.
+fn register_again<C: Calls>(calls: &C, mut image: Vec<u8>, shown: [usize; 2]) -> Result<(), String> {
+    let mut card = Card::zeros();
+    let mut served = |image: &mut [u8], deed: Deed| {
+        let (answer, tape) = answered(calls, image, &mut card, &deed);
+        calls.play(image, &tape, answer.orders);
+        due(&plain(deed, SIZES).to_string(), answer.number, 0)
+    };
+    served(&mut image, Deed::Open(SIZES))?;
+    let (mut page, saved) = pages_read(calls, &image, SIZES)?;
+    due("both reads alike", page == saved.frames, true)?;
+    due("a page of the story whole", shown.iter().any(|at| pages()[*at] == page), true)?;
+    served(&mut image, write(0, OFFSET, 2, 700))?;
+    served(&mut image, Deed::Save)?;
+    page[30..730].copy_from_slice(&registration(2, 700));
+    for _ in 0..2 {
+        let (working, saved) = pages_read(calls, &image, SIZES)?;
+        due("the registration whole", working == page && saved.frames == page, true)?;
+        served(&mut image, Deed::Open(SIZES))?;
+    }
+    Ok(())
 }
 
 /// The longest write there is for every size of a level: all its bytes, with a

@@ -279,7 +279,7 @@ impl Reference {
         if target.frame >= card.sizes.frames {
             return Err(Refusal::Frame);
         }
-        if self.leaves(target, bytes.len(), card.sizes.frames) {
+        if self.refuses_span(target, bytes.len(), card.sizes.frames) {
             return Err(Refusal::Span);
         }
         let level = target.level as usize;
@@ -306,10 +306,10 @@ impl Reference {
         Ok((orders, next))
     }
 
-    /// Is a span refused: has it no bytes, does it start behind its frame, or
-    /// does it end behind its level? The frame is one of the level's, so at
-    /// least one frame is left from it on; the sum cannot wrap.
-    fn leaves(&self, target: Target, length: usize, frames: u64) -> bool {
+    /// Has a span no bytes, does it start behind its frame, or does it end behind
+    /// its level? The frame is one of the level's, so at least one is left from
+    /// it on; the sum cannot wrap.
+    fn refuses_span(&self, target: Target, length: usize, frames: u64) -> bool {
         let last_offset = if self.has(Fault::TakesOffset256) { FRAME } else { FRAME - 1 };
         let left = if self.has(Fault::TakesLevelFromAnyFrame) { frames } else { frames - target.frame };
         let end = u128::from(target.offset) + length as u128;

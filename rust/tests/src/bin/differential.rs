@@ -16,7 +16,7 @@ use crpm_tests::corrupted::{CallKind, Corrupted, Spoil};
 use crpm_tests::explore::{Images, Plan, LEGEND};
 use crpm_tests::groups::{self, Random};
 use crpm_tests::library::{Library, Wrapped};
-use crpm_tests::long::{long_writes, longest_writes};
+use crpm_tests::long::{after_cuts, long_writes, longest_writes};
 use crpm_tests::reference::Reference;
 use crpm_tests::report::{arguments, Found, Outcome, Suite};
 use crpm_tests::restart::restored_levels;
@@ -65,6 +65,7 @@ fn all(suite: &mut Suite) {
     suite.add("restored levels at 6,4,1", || restored(STORY));
     suite.add("restored levels at 4,2,2", || restored(STORY_OF_FRAMES));
     suite.add("long writes at 1,1,4", || compared(&Library, |both| long_writes(both, FEW_IMAGES)));
+    suite.add("long writes after cuts", || compared(&Library, |both| after_cuts(both)));
     suite.add("longest writes", || compared(&Library, |both| longest_writes(both)));
     suite.add("random histories, sizes 1 to 3", || histories(random(41, 1200, 12, 3, EVERY_CUT)));
     suite.add("random histories, sizes 1 to 9", || histories(random(42, 150, 40, 9, SOME_CUTS)));
@@ -180,11 +181,12 @@ fn spoiled_histories() -> Outcome {
     let plan = Plan { images: Images::Some { samples: 1 }, every_cut_up_to: 20 };
     let random = Random { every_law: false, ..random(44, 8, 8, 2, plan) };
     let (all, few) = (Spoil::all(), [Spoil::Number(CallKind::Write), Spoil::PlayedImage, Spoil::ReadStart]);
-    let runs: [(&str, &[Spoil], SpoiledRun); 7] = [
+    let runs: [(&str, &[Spoil], SpoiledRun); 8] = [
         ("bench cases", &all, &|both| groups::bench_cases(both)),
         ("waiting lines", &all, &|both| groups::waiting_lines(both)),
         ("restored levels", &all, &|both| restored_levels(both, SHORT_STORY)),
         ("long writes", &all, &|both| long_writes(both, SOME_OF_SAVES)),
+        ("long writes after cuts", &few, &|both| after_cuts(both)),
         ("random histories", &all, &|both| groups::random_histories(both, random)),
         ("single calls", &few, &|both| groups::single_calls(both)),
         ("short histories", &all, &|both| groups::short_histories(both, SMALL, 2)),

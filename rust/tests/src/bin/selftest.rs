@@ -12,7 +12,7 @@ use crpm_tests::compared::Compared;
 use crpm_tests::explore::{Images, Plan, LEGEND};
 use crpm_tests::fast::Fast;
 use crpm_tests::groups::{self, Random};
-use crpm_tests::long::{long_writes, longest_writes};
+use crpm_tests::long::{after_cuts, long_writes, longest_writes};
 use crpm_tests::reference::{Choice, Fault, Reference};
 use crpm_tests::report::{arguments, Found, Outcome, Suite};
 use crpm_tests::restart::restored_levels;
@@ -50,6 +50,7 @@ fn main() -> ExitCode {
     suite.add("histories up to 4 at 1,1,2", || groups::short_histories(&good, SMALL_OF_FRAMES, 4));
     suite.add("histories up to 3 at 2,1,2", || groups::short_histories(&good, TWO_OF_FRAMES, 3));
     suite.add("long writes at 1,1,4", || long_writes(&good, EVERY_CUT));
+    suite.add("long writes after cuts", || after_cuts(&good));
     suite.add("longest writes", || longest_writes(&good));
     suite.add("random histories", || groups::random_histories(&good, random(21, 40)));
     suite.add("other spares, random histories", || groups::random_histories(&other, random(22, 20)));
