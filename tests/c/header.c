@@ -495,9 +495,47 @@ static void long_writes(void)
     STEP(session_is(&t, 1, 15, 0));
     RETURNS(write_bytes(at(&t, 0, 0, 30, first, 995)), CRPM_BAD_SPAN, 8);
     SERVED(write_bytes(at(&t, 0, 3, 255, first, 1)));
+    CHECK(t.ops == 1 && t.trace[1] == 1528);
     RETURNS(write_bytes(at(&t, 0, 3, 255, first, 2)), CRPM_BAD_SPAN, 8);
     RETURNS(write_bytes(at(&t, 0, 0, UINT64_MAX - 6, first, 8)), CRPM_BAD_SPAN, 8);
     finish(&t);
+}
+
+/* Which blocks a long write makes dirty: one that ends with a block not the next, and those of
+   earlier writes stay. */
+static void long_marks(void)
+{
+    static const uint8_t bytes[512] = {1};
+    struct bench t;
+    start(&t, 2, 1, 4);
+    SERVED(open_image(&t));
+    STEP(play(&t, 256, 32, 1));
+    SERVED(write_bytes(at(&t, 0, 1, 30, bytes, 226)));
+    STEP(play(&t, 29, 0, 0));
+    STEP(session_is(&t, 1, 2, 0));
+    SERVED(write_bytes(at(&t, 1, 0, 0, bytes, 512)));
+    STEP(play(&t, 64, 0, 0));
+    STEP(session_is(&t, 3, 2, 3));
+    SERVED(write_bytes(at(&t, 0, 2, 255, bytes, 2)));
+    STEP(play(&t, 2, 0, 0));
+    STEP(session_is(&t, 3, 14, 3));
+    finish(&t);
+}
+
+/* More bytes than 32 bits count; no call reads them. */
+static void longer_than_4_gib(void)
+{
+    const size_t length = (size_t)1 << 32;
+    uint8_t *bytes = (uint8_t *)calloc(length + 1, 1);
+    struct bench t;
+    if (bytes == NULL)
+        return;
+    start(&t, 1, 1, 1);
+    SERVED(open_image(&t));
+    RETURNS(write_bytes(at(&t, 0, 0, 0, bytes, length)), CRPM_BAD_SPAN, 8);
+    RETURNS(write_bytes(at(&t, 0, 0, 0, bytes, length + 1)), CRPM_BAD_SPAN, 8);
+    finish(&t);
+    free(bytes);
 }
 
 /* ---- places, at sizes that all differ: 3 main segments, 2 backup segments, 4 blocks */
@@ -628,9 +666,13 @@ static const struct lengths LENGTHS[] = {
 
 static void trace_lengths_of(const struct lengths *of)
 {
-    static const uint8_t segment_bytes[16384] = {7};
+    static uint8_t segment_bytes[16384];
+    const size_t size = 256 * (size_t)of->blocks, last = 512 + size * ((size_t)of->mains - 1);
     struct bench t;
     uint64_t i, b, played;
+    size_t k;
+    for (k = 0; k < sizeof segment_bytes; k++)
+        segment_bytes[k] = (uint8_t)(k % 251 + 1);
     start(&t, of->mains, of->backups, of->blocks);
     CHECK(t.image_length == of->image);
 
@@ -654,10 +696,25 @@ static void trace_lengths_of(const struct lengths *of)
     STEP(play(&t, 9, 4 * of->mains * of->blocks + 2, 3));
 
     /* a main segment written whole that has to be copied first */
-    at(&t, of->mains - 1, 0, 0, segment_bytes, 256 * (size_t)of->blocks);
+    at(&t, of->mains - 1, 0, 0, segment_bytes, size);
     STEP(needs(&t, write_bytes, CRPM_WRITE_TRACE(of->blocks), of->write));
     if (of->write > of->opening)
         STEP(needs(&t, write_bytes, CRPM_TRACE(of->mains, of->blocks), of->write));
+    SERVED(write_bytes(&t));
+    CHECK(t.session.dirty_blocks[of->mains - 1] == UINT64_MAX >> (64 - of->blocks));
+    STEP(play(&t, 64 * of->blocks + 2, 4 * of->blocks + 2, 2));
+    CHECK(memcmp(t.image + last, segment_bytes, size) == 0);
+    CHECK(of->mains == 1 || (t.image[last - size] == 1 && all(t.image + last - size + 1, 255, 0)));
+
+    /* all of it again but its first 255 bytes; and how long a span from block 1 on may be */
+    if (of->blocks > 1) {
+        SERVED(write_bytes(at(&t, of->mains - 1, 0, 255, segment_bytes, size - 255)));
+        STEP(play(&t, 32 * of->blocks - 31, 0, 0));
+        CHECK(memcmp(t.image + last, segment_bytes, 255) == 0);
+        CHECK(memcmp(t.image + last + 255, segment_bytes, size - 255) == 0);
+        RETURNS(write_bytes(at(&t, of->mains - 1, 1, 255, segment_bytes, size - 510)), CRPM_BAD_SPAN, 8);
+        SERVED(write_bytes(at(&t, of->mains - 1, 1, 255, segment_bytes, size - 511)));
+    }
     finish(&t);
 }
 
@@ -1022,6 +1079,8 @@ int main(int count, char **arguments)
     worked_examples();
     dirty_block_example();
     long_writes();
+    long_marks();
+    longer_than_4_gib();
     places();
     trace_lengths();
     refusals();

@@ -5,14 +5,14 @@
 use Prim.Native.Nat.{ℕ, suc, _+_, _*_, _/_, _≤_}
 use mathlib.Core.Path.{_≡_, refl, sym, ap, _∙_}
 use mathlib.Core.Logic.{⊎-elim}
-use mathlib.Core.Bool.{true}
+use mathlib.Core.Bool.{true, false}
 use mathlib.Core.List.{[], _∷_, _++_}
 use native.Mathlib.Omega.{arith}
 use lib.ListN.{length, take, drop, replicate, length-append, List·getD-append}
 use Rattle.model.specs.declared.Layout.{Layout}
 use Rattle.model.specs.declared.Plan.the-variants.{OwnBackup, NoneFree}
 use Rattle.model.specs.Range.{cat, allB, anyB}
-use Rattle.model.specs.Words.{Image, littleEndian, wordOf, wordAt, bytesOf}
+use Rattle.model.specs.Words.{Image, littleEndian, wordOf, wordAt, bytesOf, overlay}
 use Rattle.model.specs.Layout.{lineSize, unpaired, ssMain, layoutOf, inRange, sizesOk, imageSize, stateLine, epochAt}
 use Rattle.model.specs.Status.{firstError}
 use Rattle.model.specs.Container.{committedEpoch, activeLine, inactiveLine, isPaired, validMetadata, isFree, anyFree, byState, headerOk}
@@ -161,6 +161,24 @@ none-free = refl
 pub taken-not-chosen : Chosen (freshSession (layoutOf 2 2 1)) (taken 2) second (replicate 129 0) 0 → ⊥
 unfolding writeStatus firstError sizesOk inRange imageSize headerOk validMetadata allB isPaired validSession spanBad traceShort writeOps copyOnWriteOps backupOps pairOps copySegment persistCopy putBlock stores clwbs cat stateOps spanOps copyPlan needsCopy needsBackup dirtySegment freshSession bit anyFree isFree anyB container bytesOf stateLine wordOf littleEndian
 taken-not-chosen c = ⊎-elim (λ e. omega (arith, e)) (λ k. k refl) (c refl refl .1)
+
+-- ---- spans
+
+-- two bytes at the last place of a block: the second is the first of the next block; other bytes of their words stay, here as zeros
+pub over-the-end : spanOps (layoutOf 1 1 2) [] (writeArgsOf 0 0 255 (7 ∷ 8 ∷ [])) ≡ store 760 0x0700000000000000 ∷ store 768 8 ∷ []
+unfolding spanOps stores cat wordOf littleEndian overlay
+over-the-end = refl
+
+-- they leave no main segment of two blocks from block 0 on, and they do from block 1 on, where one byte does not
+pub segment-end : (spanBad (layoutOf 1 1 2) (writeArgsOf 0 0 255 (7 ∷ 8 ∷ [])) ≡ false) × (spanBad (layoutOf 1 1 2) (writeArgsOf 0 1 255 (7 ∷ 8 ∷ [])) ≡ true)
+    × (spanBad (layoutOf 1 1 2) (writeArgsOf 0 1 255 (7 ∷ [])) ≡ false)
+unfolding spanBad
+segment-end = (refl, refl, refl)
+
+-- an offset of 256 is bad though there are more blocks, and so is a span without bytes
+pub offset-end : (spanBad (layoutOf 1 1 2) (writeArgsOf 0 0 256 (7 ∷ [])) ≡ true) × (spanBad (layoutOf 1 1 2) (writeArgsOf 0 0 0 []) ≡ true)
+unfolding spanBad
+offset-end = (refl, refl)
 
 -- ---- refusals
 

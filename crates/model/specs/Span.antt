@@ -1,5 +1,6 @@
 -- What the bytes of a write meet (SPECIFICATION 10.4, 10.5, 10.9), in plain words: a span that 8 passes stands whole in its main
--- segment; each word that holds one of its bytes is stored, each block that holds one becomes dirty, and no others.
+-- segment; the words that `spanWords` counts, which `spanStores` stores, are those that hold one of its bytes, and so are the
+-- blocks that become dirty.
 -- Proved in proofs/Laws/Span.antt. Assumes nothing.
 use Prim.Native.Nat.{ℕ, _+_, _-_, _*_, _/_, _≤_, _<_}
 use mathlib.Core.Path.{_≡_}

@@ -42,7 +42,7 @@ extern "C" {
         trace_length: usize,
         ops: *mut u64,
     ) -> u64;
-    /// Writes bytes to a block of a main segment.
+    /// Writes bytes to a main segment, from an offset in a block on.
     pub fn crpm_write(
         image: *const u8,
         image_length: usize,

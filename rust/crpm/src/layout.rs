@@ -90,9 +90,10 @@ impl Layout {
         OP_NUMBERS * (36 * self.blocks * self.mains + 1)
     }
 
-    /// Numbers of a trace that are always enough for a write.
+    /// Numbers of a trace that are always enough for a write, however long: the
+    /// main segment copied to a new backup segment, and every word of it stored.
     pub const fn write_trace_length(self) -> usize {
-        OP_NUMBERS * (36 * self.blocks + 6 + 32)
+        OP_NUMBERS * (36 * self.blocks + 6 + 32 * self.blocks)
     }
 
     /// Numbers of a trace that are always enough for a checkpoint.
@@ -100,7 +101,9 @@ impl Layout {
         OP_NUMBERS * (4 * self.blocks * self.mains + 14)
     }
 
-    /// Numbers of a trace that are always enough for all three.
+    /// Numbers of a trace that are always enough for all three: the greatest of
+    /// them. With one main segment that is a write's, with more mostly an
+    /// opening's.
     pub const fn trace_length(self) -> usize {
         let (open, write) = (self.open_trace_length(), self.write_trace_length());
         let greater = if open > write { open } else { write };

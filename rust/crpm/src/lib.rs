@@ -166,7 +166,40 @@ pub fn open<'t>(image: &[u8], layout: Layout, trace: &'t mut [u64]) -> Result<(S
     Ok((Session(session), Ops::first(trace, ops)))
 }
 
-/// Writes bytes to a block of a main segment, from an offset on.
+/// Writes bytes to a main segment, from an offset in a block on.
+///
+/// They may run on through the following blocks, to the end of the main segment:
+/// the offset is 0 to 255, and offset and length together at most
+/// [`BLOCK_SIZE`] times the blocks from this one on. The main segment is copied
+/// once at most, however long the write is, and every block that it meets becomes
+/// dirty.
+///
+/// ```
+/// # fn main() -> Result<(), crpm::Refusal> {
+/// let layout = crpm::Layout::new(1, 1, 4)?;
+/// let mut image = vec![0; layout.image_size()];
+/// let mut trace = vec![0; layout.trace_length()];
+/// crpm::format(&mut image, layout)?;
+/// let (mut session, ops) = crpm::open(&image, layout, &mut trace)?;
+/// crpm::replay(&mut image, ops, ops.len())?; // stands for carrying out
+///
+/// // from byte 30 of block 0 over blocks 0, 1 and 2
+/// let registration: Vec<u8> = (0..700).map(|i| i as u8).collect();
+/// let ops = crpm::write(&image, &mut session, 0, 0, 30, &registration, &mut trace)?;
+/// assert_eq!(ops.len(), 89); // one store for each word that it meets
+/// assert_eq!(session.words().dirty_blocks[0], 0b0111);
+/// crpm::replay(&mut image, ops, ops.len())?;
+/// let blocks = [0, 1, 2].map(|block| crpm::read_working(&image, layout, 0, block));
+/// assert_eq!(blocks[0]?[30..], registration[..226]);
+/// assert_eq!(blocks[1]?[..], registration[226..482]);
+/// assert_eq!(blocks[2]?[..218], registration[482..]);
+///
+/// // one byte more than the main segment has from there on
+/// let refused = crpm::write(&image, &mut session, 0, 0, 30, &[0; 995], &mut trace);
+/// assert_eq!(refused, Err(crpm::Refusal::BadSpan));
+/// # Ok(())
+/// # }
+/// ```
 ///
 /// # Errors
 ///

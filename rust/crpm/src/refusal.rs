@@ -22,7 +22,8 @@ pub enum Refusal {
     NoSuchMain = 6,
     /// There is no such block.
     NoSuchBlock = 7,
-    /// No bytes to write, or offset and length leave the block.
+    /// No bytes to write, an offset that is not in the block, or bytes that leave
+    /// their main segment.
     BadSpan = 8,
     /// A write needs a new backup segment, and none is free; a checkpoint frees
     /// them all.
@@ -68,7 +69,7 @@ impl fmt::Display for Refusal {
             Refusal::BadSession => "the session does not fit the image",
             Refusal::NoSuchMain => "there is no such main segment",
             Refusal::NoSuchBlock => "there is no such block",
-            Refusal::BadSpan => "no bytes to write, or they leave the block",
+            Refusal::BadSpan => "no bytes to write, an offset that is not in the block, or bytes that leave their main segment",
             Refusal::NoFreeBackup => "no backup segment is free",
             Refusal::EpochLimit => "the epoch is at its limit",
             Refusal::TraceShort => "the trace is too short",

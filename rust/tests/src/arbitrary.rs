@@ -76,13 +76,20 @@ pub fn distinct_data(sizes: Sizes) -> Vec<u8> {
     (1..=words as u64).flat_map(|i| (i * 0x0101_0101).to_le_bytes()).collect()
 }
 
-/// Level and spare bytes that are zero but for words 0, 7, 9 and 31 of a
-/// level's frame and 0 and 9 of a spare's: few stages, in three lines.
+/// Level and spare bytes that are zero but for a few words, so that there are
+/// few stages: of a single frame words 0, 7, 9 and 31 in a level, 0 and 9 in a
+/// spare, in three lines; of more frames the first and the last word in a level
+/// and the first in a spare, on both sides of a frame's end.
 pub fn sparse_data(sizes: Sizes) -> Vec<u8> {
     let mut data = vec![0; sizes.image_length() - DATA];
     let in_levels = sizes.page_length() / FRAME;
     for (i, frame) in data.chunks_mut(FRAME).enumerate() {
-        let words: &[usize] = if i < in_levels { &[0, 7, 9, 31] } else { &[0, 9] };
+        let words: &[usize] = match (sizes.frames, i < in_levels) {
+            (1, true) => &[0, 7, 9, 31],
+            (1, false) => &[0, 9],
+            (_, true) => &[0, 31],
+            (_, false) => &[0],
+        };
         for word in words {
             frame[word * WORD] = (16 * i + word + 1) as u8;
         }
@@ -252,35 +259,68 @@ pub fn odd_sizes(rng: &mut Rng, sizes: Sizes) -> Sizes {
     }
 }
 
-/// A write's target and bytes: mostly good, sometimes out of range.
+/// A write's target and bytes: mostly good, about half of them over several
+/// frames where a level has them, sometimes out of range: offsets behind the
+/// frame with every kind of length, no bytes, one byte more than is left of the
+/// level, as many bytes as a level has from any place on.
 pub fn writing(rng: &mut Rng, sizes: Sizes) -> (Target, Vec<u8>) {
+    let frames = sizes.frames.clamp(1, 64) as usize;
     let offset = match rng.below(4) {
         0 => 0,
         1 => FRAME - 1,
         _ => rng.below(FRAME),
     };
-    let most = FRAME - offset;
-    let length = match rng.below(6) {
-        0 => 1,
-        1 => most,
-        2 => most.min(8),
-        _ => rng.range(1, most),
-    };
+    let long = frames > 1 && !rng.once_in(3);
+    let frame = rng.below(if long { frames - 1 } else { frames });
+    let (own, left) = (FRAME - offset, FRAME * (frames - frame) - offset);
+    let length = if long { long_span(rng, own, left) } else { short_span(rng, own) };
     let mut target = Target {
         level: rng.below(sizes.levels.clamp(1, 64) as usize) as u64,
-        frame: rng.below(sizes.frames.clamp(1, 64) as usize) as u64,
+        frame: frame as u64,
         offset: offset as u64,
     };
     let mut bytes = rng.bytes(length);
     match rng.below(24) {
         0 => target.level = rng.pick(&[sizes.levels, sizes.levels + 1, 64, 1 << 32, u64::MAX]),
         1 => target.frame = rng.pick(&[sizes.frames, sizes.frames + 1, 64, 1 << 32, u64::MAX]),
-        2 => target.offset = rng.pick(&[256, 257, 1 << 32, u64::MAX - 255, u64::MAX]),
+        2 | 6 => {
+            target.offset = rng.pick(&[256, 256, 256, 257, 1 << 32, u64::MAX - 255, u64::MAX]);
+            bytes.truncate(rng.pick(&[0, 1, 8, usize::MAX, usize::MAX]));
+        }
         3 => bytes.clear(),
-        4 => bytes = rng.bytes(FRAME + 1 - offset),
+        4 => bytes = rng.bytes(left + 1),
+        5 => bytes = rng.bytes(FRAME * frames),
         _ => {}
     }
     (target, bytes)
+}
+
+/// A length that stays in its frame, of which so many bytes are left.
+fn short_span(rng: &mut Rng, own: usize) -> usize {
+    match rng.below(6) {
+        0 => 1,
+        1 => own,
+        2 => own.min(8),
+        _ => rng.range(1, own),
+    }
+}
+
+/// A length from the end of its frame, of which so many bytes are left, up to
+/// the end of its level: ends of frames and one byte before and behind them,
+/// two frames, three, and all that are left.
+fn long_span(rng: &mut Rng, own: usize, left: usize) -> usize {
+    let some_end = own + FRAME * rng.range(0, (left - own) / FRAME);
+    match rng.below(8) {
+        0 => own + 1,
+        1 => left,
+        2 => some_end,
+        3 => some_end - 1,
+        4 => (some_end + 1).min(left),
+        5 => rng.range(own + 1, own + FRAME),
+        6 => rng.range(own + 1, left.min(own + 2 * FRAME)),
+        _ => rng.range(own + 1, left),
+    }
+    .max(1)
 }
 
 /// Any call of a history: good ones mostly, refused ones of each kind too.

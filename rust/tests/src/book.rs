@@ -68,12 +68,20 @@ impl Book {
             Deed::Open(_) => self.working.clone_from(&self.saved),
             Deed::Save => self.saved.clone_from(&self.working),
             Deed::Write(target, bytes) => {
-                let first = target.level * self.sizes.frames + target.frame;
-                let at = FRAME * first as usize + target.offset as usize;
-                self.working.frames[at..at + bytes.len()].copy_from_slice(bytes);
+                self.put(*target, bytes);
                 self.working.set |= 1 << target.level;
             }
         }
+    }
+
+    /// Puts bytes into the working page, one after the other, over the ends of
+    /// frames. What a wrong call lets run over the end of its level has no place
+    /// there and is left out; the reads show it.
+    fn put(&mut self, target: Target, bytes: &[u8]) {
+        let length = FRAME * self.sizes.frames as usize;
+        let level = &mut self.working.frames[length * target.level as usize..][..length];
+        let first = (FRAME as u64 * target.frame).saturating_add(target.offset);
+        level.iter_mut().skip(first as usize).zip(bytes).for_each(|(at, byte)| *at = *byte);
     }
 }
 

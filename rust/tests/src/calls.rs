@@ -61,9 +61,10 @@ impl Sizes {
         3 * (36 * (self.levels * self.frames) as usize + 1)
     }
 
-    /// A tape of this many numbers is long enough for every write.
+    /// A tape of this many numbers is long enough for every write: a whole
+    /// level copied to a new spare, and every word of it stored.
     pub fn write_room(self) -> usize {
-        3 * (36 * self.frames as usize + 6 + FRAME / WORD)
+        3 * (36 * self.frames as usize + 6 + FRAME / WORD * self.frames as usize)
     }
 
     /// A tape of this many numbers is long enough for every save.
@@ -102,7 +103,7 @@ impl Card {
     }
 }
 
-/// Where a write goes.
+/// Where a write starts; from there it may run on to the end of its level.
 #[derive(Clone, Copy, PartialEq, Eq, Debug)]
 pub struct Target {
     pub level: u64,

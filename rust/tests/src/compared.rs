@@ -5,8 +5,10 @@
 //! difference is kept. The caller gets what the tested one gave, so the explorer
 //! over a `Compared` is a history through the tested one, held against the other
 //! step by step. The numbers that each call knows are those of section 14.
+//! Writes are counted by their spans (`laws`).
 
 use crate::calls::*;
+use crate::laws::{words_met, Spans};
 use std::cell::{Cell, RefCell};
 use std::collections::BTreeMap;
 
@@ -48,6 +50,7 @@ pub struct Compared<'a, G: Calls, T: Calls> {
     good: &'a G,
     tested: &'a T,
     answers: RefCell<BTreeMap<(&'static str, u64), u64>>,
+    spans: Cell<Spans>,
     differences: Cell<u64>,
     first: RefCell<Option<String>>,
 }
@@ -55,7 +58,12 @@ pub struct Compared<'a, G: Calls, T: Calls> {
 impl<'a, G: Calls, T: Calls> Compared<'a, G, T> {
     pub fn new(good: &'a G, tested: &'a T) -> Compared<'a, G, T> {
         let (answers, first) = (RefCell::default(), RefCell::default());
-        Compared { good, tested, answers, differences: Cell::new(0), first }
+        Compared { good, tested, answers, spans: Cell::default(), differences: Cell::new(0), first }
+    }
+
+    /// How many writes of each kind of span were compared.
+    pub fn spans(&self) -> Spans {
+        self.spans.get()
     }
 
     /// How many calls were compared.
@@ -129,6 +137,12 @@ impl<G: Calls, T: Calls> Calls for Compared<'_, G, T> {
         let (kept, mut tape_due, mut card_due) = (image.to_vec(), tape.to_vec(), *card);
         let due = self.good.write(image, &mut card_due, target, bytes, &mut tape_due);
         let got = self.tested.write(image, card, target, bytes, tape);
+        if [0, 8].contains(&due.number) {
+            let mut spans = self.spans.get();
+            let copies = due.served() && due.orders > words_met(target, bytes.len());
+            spans.feed(target, bytes.len(), card_due.sizes.frames, due.number, copies);
+            self.spans.set(spans);
+        }
         let same = due == got && *card == card_due && tape_due == tape && kept == image;
         self.judge("write", due.number, same, || {
             let (told, length) = (tapes(tape, &tape_due), bytes.len());

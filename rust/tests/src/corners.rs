@@ -18,6 +18,7 @@ pub fn all() -> Vec<Corner> {
     corners.extend(bad_values());
     corners.extend(broken_off());
     corners.extend(lengths());
+    corners.extend(long_writes());
     corners
 }
 
@@ -159,8 +160,8 @@ fn bad_values() -> Vec<Corner> {
     for value in ["2", "-", "10", "yes"] {
         corners.push(bad(format!("{HEAD}{}", group("0", "0", "0", "", value)), 8));
     }
-    let long = "00".repeat(257);
-    for value in ["0", "0a0", "0A", "A0", "0g", " 00", "00 ", "0x", &long, &long[..513]] {
+    let long = "00".repeat(1025);
+    for value in ["0", "0a0", "0A", "A0", "0g", " 00", "00 ", "0x", &long, &long[..2049], &long[..2047]] {
         corners.push(bad(format!("{HEAD}{}", group("0", "0", "0", value, "0")), 7));
     }
     corners
@@ -210,5 +211,72 @@ fn lengths() -> Vec<Corner> {
         bad("\n".repeat(4097), 0),
         bad("mains=1\n".repeat(100_000), 0),
         corner(most, saves),
+    ]
+}
+
+/// Writes that run on through the frames of their level, up to its end and
+/// beyond it, and what the sheet's own limits leave of them.
+fn long_writes() -> Vec<Corner> {
+    let bytes = |count: usize| "5a".repeat(count);
+    let sheet = |frames: u32, groups: &str| format!("mains=1\nspares=1\nframes={frames}\n{groups}");
+    let open = |frames: u32| format!("open=0 orders={}\n", 36 * frames + 1);
+    let one = |frames: u32, at: &str, frame: &str, count: usize, save: &str, rest: &str| {
+        let group = group("0", frame, at, &bytes(count), save);
+        corner(sheet(frames, &group), format!("{}step=1 {rest}\n", open(frames)))
+    };
+    let unsaved = |write: u32, orders: u32| format!("write={write} orders={orders} save=- orders=0 epoch=0");
+    let served = |orders: u32| unsaved(0, orders);
+    let refused = unsaved(8, 0);
+    // The greatest line, in a level that it fills, then its last byte again,
+    // for which the level is copied to a new spare.
+    let whole = [group("0", "0", "0", &bytes(1024), "1"), group("0", "3", "255", "01", "1")].concat();
+    let whole_printed = open(4)
+        + "step=1 write=0 orders=128 save=0 orders=30 epoch=1\n"
+        + "step=2 write=0 orders=151 save=0 orders=18 epoch=2\n";
+    // Up to the end of the last of two levels.
+    let beside = format!("mains=2\nspares=1\nframes=4\n{}", group("1", "1", "200", &bytes(568), "1"));
+    // Over a frame's end three times, each saved: into an empty level, with a
+    // copy of the level to a new spare, with a copy of the two frames marked.
+    let thrice = [
+        group("0", "0", "252", "0102030405060708", "1"),
+        group("0", "1", "252", &bytes(5), "1"),
+        group("0", "0", "255", &bytes(2), "1"),
+    ];
+    let thrice_printed = open(3)
+        + "step=1 write=0 orders=2 save=0 orders=22 epoch=1\n"
+        + "step=2 write=0 orders=116 save=0 orders=22 epoch=2\n"
+        + "step=3 write=0 orders=78 save=0 orders=22 epoch=3\n";
+    // 4,096 bytes: the greatest line and, behind it, as long a one as can be.
+    let (first, second) = (group("0", "0", "0", &bytes(1024), "0"), group("0", "0", "30", &bytes(980), "0"));
+    let full = format!("mains=1\nframes=4\n{first}{second}");
+    assert_eq!(full.len(), 4096);
+    let full_printed = format!("{}step=1 {}\nstep=2 {}\n", open(4), served(128), served(124));
+    vec![
+        corner(sheet(4, &whole), whole_printed),
+        corner(beside, "open=0 orders=289\nstep=1 write=0 orders=71 save=0 orders=26 epoch=1\n"),
+        corner(sheet(3, &thrice.concat()), thrice_printed),
+        corner(&full, full_printed),
+        bad(format!("{full}\n"), 0),
+        bad(full.replace("save=0\n", "save=10\n"), 0),
+        bad(full.replacen("5a", "5A", 1), 6),
+        bad(format!("{}x", &full[..4095]), 12),
+        one(4, "30", "0", 700, "1", "write=0 orders=89 save=0 orders=26 epoch=1"),
+        one(4, "30", "0", 994, "0", &served(125)),
+        one(4, "30", "0", 995, "0", &refused),
+        one(4, "30", "2", 482, "0", &served(61)),
+        one(4, "30", "2", 483, "0", &refused),
+        one(4, "1", "0", 1024, "0", &refused),
+        one(4, "0", "1", 1024, "0", &refused),
+        one(4, "0", "1", 768, "0", &served(96)),
+        one(4, "255", "3", 2, "0", &refused),
+        one(4, "255", "2", 2, "0", &served(2)),
+        one(4, "256", "0", 1, "0", &refused),
+        one(4, "0", "4", 1024, "0", &unsaved(7, 0)),
+        one(3, "0", "0", 769, "1", "write=8 orders=0 save=0 orders=14 epoch=1"),
+        one(2, "1", "0", 256, "1", "write=0 orders=33 save=0 orders=22 epoch=1"),
+        one(2, "1", "1", 256, "0", &refused),
+        one(1, "1", "0", 256, "0", &refused),
+        one(1, "0", "0", 257, "0", &refused),
+        one(1, "0", "0", 1024, "1", "write=8 orders=0 save=0 orders=14 epoch=1"),
     ]
 }

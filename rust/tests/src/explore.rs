@@ -6,7 +6,8 @@
 //! opened again, also after openings that were themselves cut, and the first
 //! opening that finishes must be served and show a permitted page. The faults
 //! of section 18 are caught by it (`selftest`). After each call both reads must
-//! give the book's pages, and the laws of section 11.5 must hold (`laws`).
+//! give the book's pages, and the laws of sections 11.5 and 10.9 must hold
+//! (`laws`).
 //!
 //! A page is shown only if the levels that were never set, and no others, are
 //! empty: a little more than the demand asks, as a level of zeros would do.
@@ -41,6 +42,9 @@ pub enum Images {
     /// Both extremes and so many samples, each after a random chain of up to
     /// three cut openings.
     Some { samples: usize },
+    /// Every permitted one up to the cap, else both extremes and so many
+    /// samples; each after such a chain.
+    Few { cap: u128, samples: usize },
 }
 
 /// Which cuts and images the explorer looks at in one call.
@@ -69,7 +73,7 @@ pub struct Counts {
     pub distinct: u64,
     /// Openings that finished, each checked by both reads.
     pub openings: u64,
-    /// How often each law of section 11.5 was tried.
+    /// How often each law of section 11.5 and each kind of span was tried.
     pub tried: Tried,
 }
 
@@ -77,7 +81,8 @@ pub struct Counts {
 pub const LEGEND: &str = "images: contents that a cut can leave, those looked at, each once a cut
 ways: choices of how many of its waiting stores reached each line; several ways can leave the same image
 distinct: images that differ, over all cuts; each is opened again once
-restored levels settled, empty levels kept: those in state 2 and in state 0 that nobody had touched, at served saves";
+restored levels settled, empty levels kept: those in state 2 and in state 0 that nobody had touched, at served saves
+long writes: served writes over several frames; refusals 8: those by one of its conditions alone";
 
 /// A history in progress: what stands, the card last answered, the book, and
 /// the tally of the laws.
@@ -93,7 +98,7 @@ pub struct History {
 pub struct Step {
     pub answer: Answer,
     pub orders: Vec<Order>,
-    /// The pages that the images of each cut showed (with `Images::All`).
+    /// The pages that the images looked at showed, cut by cut.
     pub shown: Vec<BTreeSet<usize>>,
 }
 
@@ -273,7 +278,8 @@ impl<'a, C: Calls> Explorer<'a, C> {
         self.counts.cuts += 1;
         match plan.images {
             Images::All { cap } => self.look_at_all(module, cap, allowed),
-            Images::Some { samples } => self.look_at_some(module, samples, allowed),
+            Images::Some { samples } => self.look_at_some(module, 0, samples, allowed),
+            Images::Few { cap, samples } => self.look_at_some(module, cap, samples, allowed),
         }
     }
 
@@ -304,12 +310,21 @@ impl<'a, C: Calls> Explorer<'a, C> {
     fn look_at_some(
         &mut self,
         module: &Module,
+        cap: u128,
         samples: usize,
         allowed: &[usize],
     ) -> Result<BTreeSet<usize>, String> {
         let cut = module.cut();
-        let mut images = vec![cut.all_oldest(), cut.all_newest()];
-        images.extend((0..samples).map(|_| cut.sample(&mut self.rng)));
+        let mut images = Vec::new();
+        if cut.count() <= cap {
+            cut.for_all(|_, image| {
+                images.push(image());
+                Ok::<(), String>(())
+            })?;
+        } else {
+            images.extend([cut.all_oldest(), cut.all_newest()]);
+            images.extend((0..samples).map(|_| cut.sample(&mut self.rng)));
+        }
         let mut shown = BTreeSet::new();
         for image in images {
             self.counts.images += 1;

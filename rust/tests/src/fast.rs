@@ -19,6 +19,8 @@ pub trait Form {
     fn copy(tape: &mut [u64], to: usize, part: &[u8]);
     /// The 36 orders of filling the frame at a place with zeros.
     fn fill(tape: &mut [u64], to: usize);
+    /// The stores of whole words from a place on.
+    fn store(tape: &mut [u64], to: usize, words: &[[u8; 8]]);
     /// Are these orders well formed for an image of this length?
     fn good(tape: &[u64], length: usize) -> bool;
     fn play(image: &mut [u8], tape: &[u64]);
@@ -70,6 +72,15 @@ impl Form for Indexed {
         flushes(tape, 32, to);
     }
 
+    fn store(tape: &mut [u64], to: usize, words: &[[u8; 8]]) {
+        let tape = &mut tape[..3 * words.len()];
+        for i in 0..words.len() {
+            tape[3 * i] = 1;
+            tape[3 * i + 1] = (to + 8 * i) as u64;
+            tape[3 * i + 2] = u64::from_le_bytes(words[i]);
+        }
+    }
+
     fn good(tape: &[u64], length: usize) -> bool {
         for i in 0..tape.len() / 3 {
             if !good_order(tape[3 * i], tape[3 * i + 1], tape[3 * i + 2], length as u64) {
@@ -109,6 +120,13 @@ impl Form for Chunked {
         }
         for (order, place) in flushes.iter_mut().zip((to as u64..).step_by(64)) {
             *order = [2, place, 0];
+        }
+    }
+
+    fn store(tape: &mut [u64], to: usize, words: &[[u8; 8]]) {
+        let (orders, _) = tape.as_chunks_mut::<3>();
+        for ((order, word), place) in orders.iter_mut().zip(words).zip((to as u64..).step_by(8)) {
+            *order = [1, place, u64::from_le_bytes(*word)];
         }
     }
 
@@ -313,7 +331,8 @@ fn writing<F: Form>(
     if target.frame >= sizes.frames {
         return Err(7);
     }
-    if length == 0 || target.offset > 256 || length as u64 > 256 - target.offset {
+    let left = 256 * (sizes.frames - target.frame);
+    if length == 0 || target.offset > 255 || length as u64 > left - target.offset {
         return Err(8);
     }
     let (level, frame, offset) = (target.level as usize, target.frame as usize, target.offset as usize);
@@ -341,9 +360,10 @@ fn writing<F: Form>(
         card.marks[level] = 0;
     }
     let first = sizes.in_level(level, frame) + offset;
-    span(image, first, bytes, &mut tape[3 * copied..]);
+    span::<F>(image, first, bytes, &mut tape[3 * copied..]);
     card.touched |= 1 << level;
-    card.marks[level] |= 1 << frame;
+    let more = (offset + length - 1) / FRAME;
+    card.marks[level] |= u64::MAX >> (63 - more) << frame;
     Ok(Served { card, orders: copied + words })
 }
 
@@ -385,15 +405,31 @@ fn turn(image: &[u8], active: usize, level: usize, tape: &mut [u64]) {
     put(tape, 3, [3, 0, 0]);
 }
 
-fn span(image: &[u8], first: usize, bytes: &[u8], tape: &mut [u64]) {
-    let low = first & !7;
-    let mut buffer = [0; FRAME];
-    let room = &mut buffer[..8 * (tape.len() / 3)];
-    room.copy_from_slice(&image[low..low + room.len()]);
-    room[first - low..first - low + bytes.len()].copy_from_slice(bytes);
-    for (i, word) in room.as_chunks::<8>().0.iter().enumerate() {
-        put(tape, i, [1, (low + 8 * i) as u64, u64::from_le_bytes(*word)]);
+/// The stores of a span, in one pass: the part of a word before the first whole
+/// one, the whole words as they come, the part behind the last.
+fn span<F: Form>(image: &[u8], first: usize, bytes: &[u8], tape: &mut [u64]) {
+    let (low, skipped) = (first & !7, first & 7);
+    let (mut to, mut rest, mut tape) = (low, bytes, tape);
+    if skipped != 0 {
+        let (part, behind) = bytes.split_at(bytes.len().min(8 - skipped));
+        put(tape, 0, part_of_word(image, low, skipped, part));
+        (to, rest, tape) = (low + 8, behind, &mut tape[3..]);
     }
+    let (words, part) = rest.as_chunks::<8>();
+    F::store(tape, to, words);
+    if !part.is_empty() {
+        put(tape, words.len(), part_of_word(image, to + 8 * words.len(), 0, part));
+    }
+}
+
+/// The store of a word with fewer than eight bytes changed.
+fn part_of_word(image: &[u8], place: usize, skipped: usize, part: &[u8]) -> [u64; 3] {
+    let (mut word, mut shift) = (word_at(image, place), 8 * skipped);
+    for byte in part {
+        word = word & !(0xff << shift) | (*byte as u64) << shift;
+        shift += 8;
+    }
+    [1, place as u64, word]
 }
 
 #[inline(never)]

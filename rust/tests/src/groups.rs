@@ -1,6 +1,6 @@
 //! Groups of checks that run over any implementation of the calls: the bench
 //! cases, every permitted image of single calls and short histories, random
-//! histories, and calls with any contents. `restart` has one more.
+//! histories, and calls with any contents. `restart` and `long` have more.
 //!
 //! `selftest` runs them over the reference, `differential` over the library.
 //! Each gives a line of counts or the first failure.
@@ -10,6 +10,7 @@ use crate::book::{state_of, Call, Deed};
 use crate::calls::*;
 use crate::crash::{permitted, Module};
 use crate::explore::*;
+use crate::laws::{NINES, OF_SPANS};
 use crate::prng::Rng;
 use crate::report::{Found, Outcome};
 
@@ -20,9 +21,13 @@ pub(crate) fn due<T: PartialEq + std::fmt::Debug>(what: &str, got: T, expected: 
     }
 }
 
-/// A write of bytes that name their place in the history.
+/// A write to a level's first frame of bytes that name their place in the history.
 fn write_call(sizes: Sizes, level: u64, offset: u64, length: usize, value: u8) -> Call {
-    let target = Target { level, frame: 0, offset };
+    write_to(sizes, Target { level, frame: 0, offset }, length, value)
+}
+
+/// A write of bytes from this value upward.
+fn write_to(sizes: Sizes, target: Target, length: usize, value: u8) -> Call {
     let bytes = (0..length).map(|i| value.wrapping_add(i as u8)).collect();
     Call { deed: Deed::Write(target, bytes), tape: sizes.room() }
 }
@@ -214,7 +219,7 @@ fn add(total: &mut Counts, counts: Counts) {
 }
 
 /// What a group found, with its part of the closing line.
-fn found(text: impl Into<String>, counts: Counts) -> Found {
+pub(crate) fn found(text: impl Into<String>, counts: Counts) -> Found {
     let Counts { histories, calls, images, tried, .. } = counts;
     let mut found =
         Found::new(text, &[("histories", histories), ("calls of histories", calls), ("images", images)]);
@@ -222,9 +227,12 @@ fn found(text: impl Into<String>, counts: Counts) -> Found {
     found
 }
 
-/// How often the laws were tried, in words.
+/// How often the laws were tried, in words; of the spans those that there were.
 fn laws_tried(counts: Counts) -> String {
-    counts.tried.named().map(|(name, count)| format!("{count} {name}")).join(", ")
+    let mut named = counts.tried.named();
+    named.retain(|(name, count)| *count > 0 || !OF_SPANS.contains(name));
+    let told: Vec<String> = named.iter().map(|(name, count)| format!("{count} {name}")).collect();
+    told.join(", ")
 }
 
 /// What a group that looks at every image found.
@@ -256,19 +264,40 @@ pub fn single_calls<C: Calls>(calls: &C) -> Outcome {
     Ok(all_found(total))
 }
 
-/// The calls of short histories: openings (one refused), writes to one and to
-/// two lines of each level, a save. The bytes name the depth.
+/// The calls of short histories: a save, openings and writes. The bytes name
+/// the depth.
 fn alphabet(sizes: Sizes, depth: usize) -> Vec<Call> {
     let value = 0x40 + 0x10 * depth as u8;
-    let mut calls = vec![
-        plain(Deed::Save, sizes),
-        plain(Deed::Open(sizes), sizes),
-        plain(Deed::Open(Sizes { frames: 2, ..sizes }), sizes),
-    ];
-    for level in 0..sizes.levels {
-        calls.push(write_call(sizes, level, 0, 8, value));
+    let mut calls = vec![plain(Deed::Save, sizes), plain(Deed::Open(sizes), sizes)];
+    match sizes.frames {
+        1 => calls.extend(in_one_frame(sizes, value)),
+        _ => calls.extend(over_frames(sizes, value)),
     }
+    calls
+}
+
+/// With one frame a level: a refused opening, writes to a line of each level
+/// and to two lines of one.
+fn in_one_frame(sizes: Sizes, value: u8) -> Vec<Call> {
+    let mut calls = vec![plain(Deed::Open(Sizes { frames: 2, ..sizes }), sizes)];
+    calls.extend((0..sizes.levels).map(|level| write_call(sizes, level, 0, 8, value)));
     calls.push(write_call(sizes, 0, 60, 8, value));
+    calls
+}
+
+/// With more frames: in each level a span over the end of its first frame, in
+/// one of them a word of the second, and refused spans: one that leaves the
+/// last level, one that starts behind its frame, one of no bytes.
+fn over_frames(sizes: Sizes, value: u8) -> Vec<Call> {
+    let (last_level, last_frame) = (sizes.levels - 1, sizes.frames - 1);
+    let mut calls: Vec<Call> =
+        (0..sizes.levels).map(|level| write_call(sizes, level, 252, 8, value)).collect();
+    calls.extend([
+        write_to(sizes, Target { level: 0, frame: 1, offset: 0 }, 8, value),
+        write_to(sizes, Target { level: last_level, frame: last_frame, offset: 252 }, 8, value),
+        write_call(sizes, 0, 256, 8, value),
+        write_call(sizes, 0, 0, 0, value),
+    ]);
     calls
 }
 
@@ -304,7 +333,10 @@ fn told_after(path: &[Call], what: String) -> String {
 /// call is enough to try each law that these sizes allow.
 pub fn short_histories<C: Calls>(calls: &C, sizes: Sizes, depth: usize) -> Outcome {
     let total = all_short(|| Explorer::new(calls, sizes, 5), sizes, depth)?;
-    total.tried.all_tried(sizes.levels > sizes.spares)?;
+    let mut left_out = Vec::new();
+    left_out.extend((sizes.levels <= sizes.spares).then_some(NINES));
+    left_out.extend(OF_SPANS.iter().filter(|_| sizes.frames == 1));
+    total.tried.all_tried(&left_out)?;
     Ok(all_found(total))
 }
 
@@ -371,7 +403,7 @@ pub fn random_histories<C: Calls>(calls: &C, random: Random) -> Outcome {
         add(&mut total, Counts { histories: 1, ..explorer.counts() });
     }
     if random.every_law {
-        total.tried.all_tried(true)?;
+        total.tried.all_tried(&[])?;
     }
     let Counts { histories, calls, cuts, images, openings, .. } = total;
     let history = format!("{histories} histories, {calls} calls, {cuts} cuts, {images} images");
@@ -471,8 +503,9 @@ fn write_any<C: Calls>(calls: &C, rng: &mut Rng, image: &[u8], sizes: Sizes) {
     for _ in 0..4 {
         let card = arbitrary::card(rng, image, sizes);
         let (target, bytes) = arbitrary::writing(rng, sizes);
-        let room = 3 * (36 * sizes.frames as usize + 40);
-        with_tapes(rng, room, |tape| calls.write(image, &mut card.clone(), target, &bytes, tape));
+        with_tapes(rng, sizes.write_room() + 6, |tape| {
+            calls.write(image, &mut card.clone(), target, &bytes, tape)
+        });
     }
 }
 

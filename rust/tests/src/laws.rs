@@ -1,9 +1,12 @@
-//! The laws of section 11.5, counted over a history.
+//! The laws of section 11.5, counted over a history, and refusal 8 by its
+//! conditions (section 10.9).
 //!
 //! A tally is fed each call's arguments, its number and the images before and
 //! after it, of which it reads states and pairs (section 2) by itself. The
 //! explorer feeds one in every history, so the laws are held against whatever
-//! histories are run over.
+//! histories are run over. What a write's span is follows from its arguments
+//! alone; writes over several frames are counted, and each of refusal 8's
+//! conditions where no other holds.
 
 use crate::book::{state_of, Deed};
 use crate::calls::*;
@@ -34,6 +37,75 @@ pub struct Tried {
     pub copies: u64,
     /// Writes that heard 9.
     pub nines: u64,
+    /// Writes by their spans.
+    pub spans: Spans,
+}
+
+/// How many writes there were of each kind of span.
+#[derive(Clone, Copy, Default, PartialEq, Eq, Debug)]
+pub struct Spans {
+    /// Writes served over several frames.
+    pub long: u64,
+    /// Those of them that copied a level.
+    pub long_copies: u64,
+    /// Refusals 8 where the first, the second or the third of its conditions
+    /// holds and no other.
+    pub eights: [u64; 3],
+}
+
+impl Spans {
+    /// Counts a write that heard this number, 0 or one from 8 on.
+    pub fn feed(&mut self, target: Target, length: usize, frames: u64, number: u64, copies: bool) {
+        let long = number == 0 && frames_met(target, length) > 1;
+        self.long += u64::from(long);
+        self.long_copies += u64::from(long && copies);
+        let holds = conditions_of_8(target, length, frames);
+        if number == 8 && holds.iter().filter(|holds| **holds).count() == 1 {
+            self.eights.iter_mut().zip(holds).for_each(|(count, holds)| *count += u64::from(holds));
+        }
+    }
+
+    pub fn add(&mut self, other: Spans) {
+        self.long += other.long;
+        self.long_copies += other.long_copies;
+        self.eights.iter_mut().zip(other.eights).for_each(|(count, more)| *count += more);
+    }
+
+    /// The counts under the names that are printed.
+    pub fn named(self) -> [(&'static str, u64); 5] {
+        let [no_bytes, offset, end] = self.eights;
+        let [long, copying, of_no_bytes, of_offset, of_end] = OF_SPANS;
+        [
+            (long, self.long),
+            (copying, self.long_copies),
+            (of_no_bytes, no_bytes),
+            (of_offset, offset),
+            (of_end, end),
+        ]
+    }
+
+    /// Fails if one kind was never tried.
+    pub fn all_tried(self) -> Result<(), String> {
+        none_is_zero(&self.named(), &[])
+    }
+}
+
+/// Refusal 8's conditions: no bytes, an offset that is not in a frame, an end
+/// behind the level's. The sum may be above every 64-bit number.
+pub fn conditions_of_8(target: Target, length: usize, frames: u64) -> [bool; 3] {
+    let (end, left) = (u128::from(target.offset) + length as u128, frames.saturating_sub(target.frame));
+    [length == 0, target.offset > 255, end > 256 * u128::from(left)]
+}
+
+/// How many frames hold bytes of a served span.
+pub fn frames_met(target: Target, length: usize) -> u64 {
+    (target.offset + length as u64).div_ceil(FRAME as u64)
+}
+
+/// How many words hold bytes of a served span.
+pub fn words_met(target: Target, length: usize) -> u64 {
+    let first = target.offset % WORD as u64;
+    (first + length as u64).div_ceil(WORD as u64)
 }
 
 impl Tried {
@@ -43,35 +115,51 @@ impl Tried {
         self.empty += other.empty;
         self.copies += other.copies;
         self.nines += other.nines;
+        self.spans.add(other.spans);
     }
 
     /// The counts under the names that are printed.
-    pub fn named(self) -> [(&'static str, u64); 5] {
-        let Tried { saves, settled, empty, copies, nines } = self;
-        [
+    pub fn named(self) -> Vec<(&'static str, u64)> {
+        let Tried { saves, settled, empty, copies, nines, spans } = self;
+        let mut named = vec![
             ("served saves", saves),
             ("restored levels settled", settled),
             ("empty levels kept", empty),
             ("copying writes", copies),
             (NINES, nines),
-        ]
+        ];
+        named.extend(spans.named());
+        named
     }
 
-    /// Fails if a law was never tried. With as many spares as levels nobody
-    /// can hear 9.
-    pub fn all_tried(self, can_hear_9: bool) -> Result<(), String> {
-        let can_be = |name| name != NINES || can_hear_9;
-        match self.named().iter().find(|(name, count)| *count == 0 && can_be(*name)) {
-            None => Ok(()),
-            Some((name, _)) => Err(format!("never tried: {name}")),
-        }
+    /// Fails if something was never tried, but for what these names leave out.
+    pub fn all_tried(self, left_out: &[&str]) -> Result<(), String> {
+        none_is_zero(&self.named(), left_out)
     }
 }
 
-const NINES: &str = "refusals 9";
+fn none_is_zero(named: &[(&str, u64)], left_out: &[&str]) -> Result<(), String> {
+    match named.iter().find(|(name, count)| *count == 0 && !left_out.contains(name)) {
+        None => Ok(()),
+        Some((name, _)) => Err(format!("never tried: {name}")),
+    }
+}
 
-/// The numbers of a write to which none of the refusals 1 to 8 applies.
-const JUDGED: [u64; 3] = [0, 9, 11];
+/// With as many spares as levels nobody can hear 9.
+pub const NINES: &str = "refusals 9";
+
+/// Levels of one frame have no long writes, and no offset that leaves its frame
+/// and not its level.
+pub const OF_SPANS: [&str; 5] = [
+    "long writes",
+    "long copying writes",
+    "refusals 8 of no bytes",
+    "refusals 8 of an offset",
+    "refusals 8 of an end",
+];
+
+/// The numbers of a write to which none of the refusals 1 to 7 applies.
+const JUDGED: [u64; 4] = [0, 8, 9, 11];
 
 /// How many levels are in state 2.
 fn in_state_2(image: &[u8], sizes: Sizes) -> u64 {
@@ -96,8 +184,8 @@ impl Tally {
     pub fn feed(&mut self, deed: &Deed, number: u64, before: &[u8], after: &[u8]) -> Result<Tried, String> {
         let mut tried = Tried::default();
         match deed {
-            Deed::Write(target, _) if JUDGED.contains(&number) => {
-                self.feed_write(target.level as usize, number, before, &mut tried)?
+            Deed::Write(target, bytes) if JUDGED.contains(&number) => {
+                self.feed_write(*target, bytes.len(), number, before, &mut tried)?
             }
             Deed::Save if number == 0 => self.feed_save(before, &mut tried),
             Deed::Open(_) if number == 0 => self.touched = 0,
@@ -119,15 +207,22 @@ impl Tally {
 
     fn feed_write(
         &mut self,
-        level: usize,
+        target: Target,
+        length: usize,
         number: u64,
         before: &[u8],
         tried: &mut Tried,
     ) -> Result<(), String> {
-        let there = (level as u64) < self.sizes.levels;
+        let level = target.level as usize;
+        let there = target.level < self.sizes.levels;
         let copies = there && state_of(before, level) == 1 && !self.is_touched(level);
+        let bad_span = conditions_of_8(target, length, self.sizes.frames).contains(&true);
+        if (number == 8) != bad_span {
+            return Err(format!("a write (refusal 8 due: {bad_span}) answers {number}"));
+        }
+        tried.spans.feed(target, length, self.sizes.frames, number, copies);
         let all_taken = self.found + self.copied == self.sizes.spares;
-        if (number == 9) != (copies && all_taken) {
+        if (number == 9) != (copies && all_taken && !bad_span) {
             let taken = self.found + self.copied;
             return Err(format!("a write (copying: {copies}) answers {number} with {taken} spares taken"));
         }

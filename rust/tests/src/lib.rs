@@ -25,6 +25,7 @@ pub mod fast;
 pub mod groups;
 pub mod laws;
 pub mod library;
+pub mod long;
 pub mod prng;
 pub mod raw;
 pub mod reference;

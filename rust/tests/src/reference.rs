@@ -4,10 +4,12 @@
 //! `Board` whose levels are an enum, so that an unsound image cannot be
 //! represented; a call first makes its whole list of orders and the next card,
 //! and only then touches the tape, so that a refusal changes nothing. Checked
-//! against the bench cases P1 to P10 of section 17 (`groups`) and, by the
-//! explorer, against demand 3 (section 15); the library is checked against it.
+//! against the bench cases P1 to P10 and L1 to L7 of section 17 (`groups`, `long`)
+//! and, by the explorer, against demand 3 (section 15); the library is checked
+//! against it.
 
 use crate::calls::*;
+use std::ops::RangeInclusive;
 
 /// Section 14's refusals by number.
 #[derive(Clone, Copy, PartialEq, Eq, Debug)]
@@ -26,8 +28,9 @@ pub enum Refusal {
     TapeBad = 12,
 }
 
-/// Section 18's faults, which a reader could mistake for good work, and three
-/// wrong rules for the states that a save stores (section 11.2).
+/// The faults of section 18.1, which a reader could mistake for good work, and
+/// worthless programs of section 18.2: three wrong rules for the states that a
+/// save stores (section 11.2) and five for long writes (section 10).
 #[derive(Clone, Copy, PartialEq, Eq, Debug)]
 pub enum Fault {
     StateBeforeFence,
@@ -40,6 +43,18 @@ pub enum Fault {
     SaveSetsEmpty,
     /// A level in state 1 gets state 2.
     SaveTurnsOwnToSpare,
+    /// Of the frames that a span meets only the first is marked: fault 5.
+    MarksFirstFrameOnly,
+    /// The frame behind those that a span meets is marked too: program 11.
+    MarksOneFrameMore,
+    /// Offset 256 is taken: program 12.
+    TakesOffset256,
+    /// As many bytes as a level has are taken from any frame on: program 13.
+    TakesLevelFromAnyFrame,
+    /// Only the words of a span's first frame are stored: program 14.
+    StoresFirstFrameOnly,
+    /// All words of every frame that a span meets are stored: program 15.
+    StoresWholeFrames,
 }
 
 /// Which free spare a write takes; section 10 leaves it open.
@@ -264,10 +279,10 @@ impl Reference {
         if target.frame >= card.sizes.frames {
             return Err(Refusal::Frame);
         }
-        if bytes.is_empty() || target.offset as u128 + bytes.len() as u128 > FRAME as u128 {
+        if self.refuses_span(target, bytes.len(), card.sizes.frames) {
             return Err(Refusal::Span);
         }
-        let (level, frame) = (target.level as usize, target.frame as usize);
+        let level = target.level as usize;
         let mut next = *card;
         let mut orders = Vec::new();
         if let (Level::Own { spare }, 0) = (board.levels[level], card.touched >> level & 1) {
@@ -283,11 +298,52 @@ impl Reference {
             self.turn_to_spare(&mut orders, &board, image, level);
             next.marks[level] = 0;
         }
-        let first = board.sizes.in_level(level, frame) + target.offset as usize;
-        store_span(&mut orders, image, first, bytes);
+        self.store_span(&mut orders, image, board.sizes, target, bytes);
         next.touched |= 1 << level;
-        next.marks[level] |= 1 << frame;
+        for frame in self.frames_to_mark(target, bytes.len()) {
+            next.marks[level] |= 1 << frame;
+        }
         Ok((orders, next))
+    }
+
+    /// Has a span no bytes, does it start behind its frame, or does it end behind
+    /// its level? The frame is one of the level's, so at least one is left from
+    /// it on; the sum cannot wrap.
+    fn refuses_span(&self, target: Target, length: usize, frames: u64) -> bool {
+        let last_offset = if self.has(Fault::TakesOffset256) { FRAME } else { FRAME - 1 };
+        let left = if self.has(Fault::TakesLevelFromAnyFrame) { frames } else { frames - target.frame };
+        let end = u128::from(target.offset) + length as u128;
+        length == 0 || target.offset > last_offset as u64 || end > FRAME as u128 * u128::from(left)
+    }
+
+    /// The frames that a served span meets: those that hold one of its bytes. A
+    /// fault may go beyond its level, but not beyond the bits of a word.
+    fn frames_to_mark(&self, target: Target, length: usize) -> RangeInclusive<u64> {
+        let last = target.frame + (target.offset + length as u64 - 1) / FRAME as u64;
+        let last = match self.fault {
+            Some(Fault::MarksFirstFrameOnly) => target.frame,
+            Some(Fault::MarksOneFrameMore) => last + 1,
+            _ => last,
+        };
+        target.frame..=last.min(MOST - 1)
+    }
+
+    /// The unflushed stores of the words that a served span meets, from one
+    /// frame of the level to the next without a gap.
+    fn store_span(&self, orders: &mut Vec<Order>, image: &[u8], sizes: Sizes, target: Target, bytes: &[u8]) {
+        let start = sizes.in_level(target.level as usize, target.frame as usize);
+        let first = start + target.offset as usize;
+        let bytes = match self.has(Fault::StoresFirstFrameOnly) {
+            true => &bytes[..bytes.len().min(FRAME - target.offset as usize)],
+            false => bytes,
+        };
+        let step = if self.has(Fault::StoresWholeFrames) { FRAME } else { WORD };
+        let (low, high) = (first / step * step, (first + bytes.len()).div_ceil(step) * step);
+        let mut part = image[low..high].to_vec();
+        part[first - low..][..bytes.len()].copy_from_slice(bytes);
+        orders.extend(
+            (0..part.len()).step_by(WORD).map(|i| Order::Store { place: low + i, word: word_at(&part, i) }),
+        );
     }
 
     /// Pairs the level with a free spare and copies all its frames there.
@@ -380,16 +436,6 @@ impl Reference {
             Level::Own { .. } | Level::InSpare { .. } => 1,
         }
     }
-}
-
-/// The unflushed stores of the words that a span meets.
-fn store_span(orders: &mut Vec<Order>, image: &[u8], first: usize, bytes: &[u8]) {
-    let (low, high) = (first / WORD * WORD, (first + bytes.len()).div_ceil(WORD) * WORD);
-    let mut part = image[low..high].to_vec();
-    part[first - low..][..bytes.len()].copy_from_slice(bytes);
-    orders.extend(
-        (0..part.len()).step_by(WORD).map(|i| Order::Store { place: low + i, word: word_at(&part, i) }),
-    );
 }
 
 /// The orders that the player is to play.

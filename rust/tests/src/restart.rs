@@ -12,6 +12,7 @@ use crate::book::{Call, Deed};
 use crate::calls::*;
 use crate::explore::*;
 use crate::groups::{all_found, cut_line, due, laid_out, plain, states};
+use crate::laws::OF_SPANS;
 use crate::report::{Found, Outcome};
 use std::collections::BTreeMap;
 
@@ -181,7 +182,7 @@ pub fn restored_levels<C: Calls>(calls: &C, sizes: Sizes) -> Outcome {
         again += second.len();
     }
     let counts = Counts { histories: story.histories, ..story.explorer.counts() };
-    counts.tried.all_tried(true)?;
+    counts.tried.all_tried(&OF_SPANS)?;
     let Found { text, counts } = all_found(counts);
     let restarts = format!("{} restarts that differ and {again} after the first save", first.len());
     Ok(Found { text: format!("{restarts}, {} cut lines of saves; {text}", story.cut_lines), counts })

@@ -7,7 +7,7 @@ use crate::calls::*;
 use crate::reference::Reference;
 
 const MOST_BYTES: usize = 4096;
-const MOST_DIGITS: usize = 512;
+const MOST_DIGITS: usize = 2048;
 
 /// The number of the first bad or missing line, or 0 for a sheet too long.
 type BadLine = usize;

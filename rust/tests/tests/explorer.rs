@@ -40,3 +40,26 @@ fn more_ways_than_images() {
     module.play(Order::Fence);
     assert_eq!((module.cut().count(), module.cut().ways()), (2, 2));
 }
+
+/// Two waiting lines leave four images: all of them up to the cap, else the two
+/// extremes and the samples.
+#[test]
+fn few_images_or_samples() {
+    let calls = Reference::good();
+    let sizes = Sizes::new(1, 1, 2);
+    let empty = Metadata { states: vec![0], pairs: vec![UNPAIRED] };
+    let image = arbitrary::image_of(sizes, 0, &empty, 0, &arbitrary::sparse_data(sizes));
+    let looked_at = |cap, samples| {
+        let mut explorer = Explorer::new(&calls, sizes, 1);
+        let plan = Plan { images: Images::Few { cap, samples }, every_cut_up_to: usize::MAX };
+        let mut history = explorer.start(&image, plan).expect("the image opens");
+        let before = explorer.counts().images;
+        let target = Target { level: 0, frame: 0, offset: 252 };
+        let call = Call { deed: Deed::Write(target, vec![1; WORD]), tape: sizes.room() };
+        let step = explorer.step(&mut history, &call, plan).expect("the write is served");
+        assert_eq!((step.orders.len(), step.shown.len()), (2, 3));
+        explorer.counts().images - before
+    };
+    assert_eq!(looked_at(4, 9), 1 + 2 + 4);
+    assert_eq!(looked_at(3, 9), 1 + 2 + 11);
+}

@@ -3,7 +3,7 @@
 use crpm_tests::arbitrary::{distinct_data, image_of, Metadata};
 use crpm_tests::book::Deed;
 use crpm_tests::calls::*;
-use crpm_tests::laws::{Tally, Tried};
+use crpm_tests::laws::{conditions_of_8, Spans, Tally, Tried, NINES, OF_SPANS};
 
 const SIZES: Sizes = Sizes::new(3, 2, 1);
 
@@ -89,17 +89,74 @@ fn from_save_to_save() {
     for (deed, number, before, after) in calls {
         total.add(tally.feed(&deed, number, before, after).expect("the laws hold"));
     }
-    let Tried { saves, settled, empty, copies, nines } = total;
+    let Tried { saves, settled, empty, copies, nines, spans } = total;
     assert_eq!((saves, settled, empty, copies, nines), (1, 2, 0, 2, 2));
+    assert_eq!(spans, Spans::default());
+}
+
+const FRAMES: Sizes = Sizes::new(1, 1, 3);
+
+/// A write to a level of three frames that is empty, paired with nothing.
+fn long_write(frame: u64, offset: u64, length: usize, number: u64) -> Result<Spans, String> {
+    let empty = Metadata { states: vec![0], pairs: vec![UNPAIRED] };
+    let image = image_of(FRAMES, 6, &empty, 0, &distinct_data(FRAMES));
+    let deed = Deed::Write(Target { level: 0, frame, offset }, vec![1; length]);
+    Ok(Tally::start(&image, FRAMES).feed(&deed, number, &image, &image)?.spans)
+}
+
+/// Served spans by the frames that they meet.
+#[test]
+fn long_writes_are_counted() {
+    let long = |frame, offset, length| long_write(frame, offset, length, 0).map(|spans| spans.long);
+    for (frame, offset, length) in [(0, 0, 1), (0, 0, 256), (0, 255, 1), (2, 0, 256), (1, 30, 226)] {
+        assert_eq!(long(frame, offset, length), Ok(0), "{frame} {offset} {length}");
+    }
+    for (frame, offset, length) in [(0, 0, 257), (0, 255, 2), (1, 30, 227), (0, 0, 768), (1, 255, 257)] {
+        assert_eq!(long(frame, offset, length), Ok(1), "{frame} {offset} {length}");
+    }
+}
+
+/// 8 exactly where one of its conditions holds; each is counted alone.
+#[test]
+fn eight_exactly_where_due() {
+    let eights = |frame, offset, length| long_write(frame, offset, length, 8).map(|spans| spans.eights);
+    assert_eq!(eights(0, 0, 0), Ok([1, 0, 0]));
+    assert_eq!(eights(0, 255, 0), Ok([1, 0, 0]));
+    assert_eq!(eights(0, 256, 1), Ok([0, 1, 0]));
+    assert_eq!(eights(1, 256, 256), Ok([0, 1, 0]));
+    assert_eq!(eights(0, 0, 769), Ok([0, 0, 1]));
+    assert_eq!(eights(2, 255, 2), Ok([0, 0, 1]));
+    for (offset, length) in [(256, 0), (256, 513), (768, 1), (u64::MAX, 1), (u64::MAX, 257)] {
+        assert_eq!(eights(0, offset, length), Ok([0; 3]), "{offset} {length}");
+        assert!(long_write(0, offset, length, 0).is_err(), "{offset} {length}");
+    }
+    for (frame, offset, length) in [(0, 0, 768), (2, 0, 256), (2, 255, 1), (0, 255, 513)] {
+        assert!(eights(frame, offset, length).is_err(), "{frame} {offset} {length}");
+        assert!(long_write(frame, offset, length, 0).is_ok(), "{frame} {offset} {length}");
+        assert!(long_write(frame, offset, length, 11).is_ok(), "{frame} {offset} {length}");
+    }
+    let wraps = Target { level: 0, frame: 0, offset: u64::MAX };
+    assert_eq!(conditions_of_8(wraps, 2, 3), [false, true, true]);
 }
 
 /// A law that was never tried is no success.
 #[test]
 fn untried_laws_fail() {
-    let tried = Tried { saves: 1, settled: 1, empty: 1, copies: 1, nines: 1 };
-    assert!(tried.all_tried(true).is_ok());
-    assert!(Tried { nines: 0, ..tried }.all_tried(false).is_ok());
+    let spans = Spans { long: 1, long_copies: 1, eights: [1; 3] };
+    let tried = Tried { saves: 1, settled: 1, empty: 1, copies: 1, nines: 1, spans };
+    assert!(tried.all_tried(&[]).is_ok());
+    assert!(Tried { nines: 0, ..tried }.all_tried(&[NINES]).is_ok());
+    assert!(Tried { spans: Spans::default(), ..tried }.all_tried(&OF_SPANS).is_ok());
     for untried in [Tried { nines: 0, ..tried }, Tried { settled: 0, ..tried }, Tried { saves: 0, ..tried }] {
-        assert!(untried.all_tried(true).is_err());
+        assert!(untried.all_tried(&[]).is_err());
+    }
+    for spans in [
+        Spans { long: 0, ..spans },
+        Spans { long_copies: 0, ..spans },
+        Spans { eights: [0, 1, 1], ..spans },
+        Spans { eights: [1, 0, 1], ..spans },
+        Spans { eights: [1, 1, 0], ..spans },
+    ] {
+        assert!(spans.all_tried().is_err() && Tried { spans, ..tried }.all_tried(&[NINES]).is_err());
     }
 }

@@ -4,9 +4,10 @@
 //! Compared byte for byte: each call with any contents; random histories step
 //! by step, cut at every order and opened again through the library's own
 //! calls; every permitted image of single calls, of short histories and of the
-//! first save after a restart. In every history the laws of section 11.5 are
-//! counted. Then the library's answers are spoiled one at a time, and each group
-//! must notice. Seeds are fixed.
+//! first save after a restart; the story of long writes at every cut. In every
+//! history the laws of sections 11.5 and 10.9 are counted. Then the library's
+//! answers are spoiled one at a time, and each group must notice. Seeds are
+//! fixed.
 
 use crpm_tests::arbitrary;
 use crpm_tests::calls::*;
@@ -15,6 +16,7 @@ use crpm_tests::corrupted::{CallKind, Corrupted, Spoil};
 use crpm_tests::explore::{Images, Plan, LEGEND};
 use crpm_tests::groups::{self, Random};
 use crpm_tests::library::{Library, Wrapped};
+use crpm_tests::long::{after_cuts, long_writes, longest_writes};
 use crpm_tests::reference::Reference;
 use crpm_tests::report::{arguments, Found, Outcome, Suite};
 use crpm_tests::restart::restored_levels;
@@ -30,11 +32,16 @@ type SpoiledRun<'a> = &'a dyn Fn(&SpoiledPair) -> Outcome;
 
 const SMALL: Sizes = Sizes::new(1, 1, 1);
 const TWO: Sizes = Sizes::new(2, 1, 1);
+const SMALL_OF_FRAMES: Sizes = Sizes::new(1, 1, 2);
+const TWO_OF_FRAMES: Sizes = Sizes::new(2, 1, 2);
 const STORY: Sizes = Sizes::new(6, 4, 1);
 const STORY_OF_FRAMES: Sizes = Sizes::new(4, 2, 2);
 const SHORT_STORY: Sizes = Sizes::new(3, 1, 1);
 const EVERY_CUT: Plan = Plan { images: Images::Some { samples: 2 }, every_cut_up_to: 400 };
 const SOME_CUTS: Plan = Plan { images: Images::Some { samples: 1 }, every_cut_up_to: 20 };
+/// Every cut of the saves of long writes, few cuts of the writes.
+const SOME_OF_SAVES: Plan = Plan { images: Images::Few { cap: 4, samples: 1 }, every_cut_up_to: 30 };
+const FEW_IMAGES: Plan = Plan { images: Images::Few { cap: 256, samples: 32 }, every_cut_up_to: usize::MAX };
 
 fn main() -> ExitCode {
     let given = match arguments(USAGE, &["--quick"], 0) {
@@ -57,6 +64,9 @@ fn all(suite: &mut Suite) {
     suite.add("waiting lines", || compared(&Library, |both| groups::waiting_lines(both)));
     suite.add("restored levels at 6,4,1", || restored(STORY));
     suite.add("restored levels at 4,2,2", || restored(STORY_OF_FRAMES));
+    suite.add("long writes at 1,1,4", || compared(&Library, |both| long_writes(both, FEW_IMAGES)));
+    suite.add("long writes after cuts", || compared(&Library, |both| after_cuts(both)));
+    suite.add("longest writes", || compared(&Library, |both| longest_writes(both)));
     suite.add("random histories, sizes 1 to 3", || histories(random(41, 1200, 12, 3, EVERY_CUT)));
     suite.add("random histories, sizes 1 to 9", || histories(random(42, 150, 40, 9, SOME_CUTS)));
     suite.add("random histories, sizes 1 to 64", || {
@@ -65,8 +75,11 @@ fn all(suite: &mut Suite) {
     suite.add("single calls at 1,1,1", || compared(&Library, |both| groups::single_calls(both)));
     suite.add("histories up to 5 at 1,1,1", || short(SMALL, 5));
     suite.add("histories up to 4 at 2,1,1", || short(TWO, 4));
+    suite.add("histories up to 4 at 1,1,2", || short(SMALL_OF_FRAMES, 4));
+    suite.add("histories up to 3 at 2,1,2", || short(TWO_OF_FRAMES, 3));
     suite.add("safe calls, any contents", || any_small(&Wrapped, 10_000));
     suite.add("safe calls, bench cases", || compared(&Wrapped, |both| groups::bench_cases(both)));
+    suite.add("safe calls, long writes", || compared(&Wrapped, |both| long_writes(both, SOME_OF_SAVES)));
     suite.add("spoiled answers, any contents", spoiled_contents);
     suite.add("spoiled answers, histories", spoiled_histories);
 }
@@ -75,8 +88,10 @@ fn quick(suite: &mut Suite) {
     suite.add("any contents, sizes 1 to 4", || any_small(&Library, 5_000));
     suite.add("bench cases", || compared(&Library, |both| groups::bench_cases(both)));
     suite.add("restored levels at 6,4,1", || restored(STORY));
+    suite.add("long writes at 1,1,4", || compared(&Library, |both| long_writes(both, FEW_IMAGES)));
     suite.add("random histories, sizes 1 to 3", || histories(random(41, 40, 12, 3, EVERY_CUT)));
     suite.add("histories up to 3 at 2,1,1", || short(TWO, 3));
+    suite.add("histories up to 3 at 1,1,2", || short(SMALL_OF_FRAMES, 3));
     suite.add("safe calls, any contents", || any_small(&Wrapped, 5_000));
     suite.add("safe calls, bench cases", || compared(&Wrapped, |both| groups::bench_cases(both)));
     suite.add("spoiled answers, any contents", spoiled_contents);
@@ -97,7 +112,7 @@ fn any_small<C: Calls>(calls: &C, rounds: usize) -> Outcome {
     compared(calls, |both| {
         groups::any_contents(both, 51, rounds, |rng| arbitrary::sizes(rng, 4));
         both.covers_all_numbers()?;
-        Ok(Found::new("every number of each call's list occurs, none besides", &[]))
+        spans_tried(both, "every number of each call's list occurs, none besides")
     })
 }
 
@@ -106,8 +121,16 @@ fn any_large() -> Outcome {
         groups::any_contents(both, 52, 1000, |rng| arbitrary::sizes(rng, 16));
         groups::any_contents(both, 53, 400, arbitrary::edge_sizes);
         groups::any_contents(both, 54, 4, |_| Sizes::new(64, 64, 64));
-        Ok(Found::new("edges and the greatest sizes", &[]))
+        spans_tried(both, "edges and the greatest sizes")
     })
+}
+
+/// Adds the writes by their spans, of which no kind may be missing.
+fn spans_tried<C: Calls>(both: &Pair<C>, text: &str) -> Outcome {
+    both.spans().all_tried()?;
+    let named = both.spans().named();
+    let told: Vec<String> = named.iter().map(|(name, count)| format!("{count} {name}")).collect();
+    Ok(Found::new(format!("{text}; {}", told.join(", ")), &named))
 }
 
 fn short(sizes: Sizes, depth: usize) -> Outcome {
@@ -158,10 +181,12 @@ fn spoiled_histories() -> Outcome {
     let plan = Plan { images: Images::Some { samples: 1 }, every_cut_up_to: 20 };
     let random = Random { every_law: false, ..random(44, 8, 8, 2, plan) };
     let (all, few) = (Spoil::all(), [Spoil::Number(CallKind::Write), Spoil::PlayedImage, Spoil::ReadStart]);
-    let runs: [(&str, &[Spoil], SpoiledRun); 6] = [
+    let runs: [(&str, &[Spoil], SpoiledRun); 8] = [
         ("bench cases", &all, &|both| groups::bench_cases(both)),
         ("waiting lines", &all, &|both| groups::waiting_lines(both)),
         ("restored levels", &all, &|both| restored_levels(both, SHORT_STORY)),
+        ("long writes", &all, &|both| long_writes(both, SOME_OF_SAVES)),
+        ("long writes after cuts", &few, &|both| after_cuts(both)),
         ("random histories", &all, &|both| groups::random_histories(both, random)),
         ("single calls", &few, &|both| groups::single_calls(both)),
         ("short histories", &all, &|both| groups::short_histories(both, SMALL, 2)),

@@ -2,16 +2,17 @@
 //!
 //! Checked against the specification: the bench cases, the cut model, demand 3
 //! over every permitted image of single calls, of short histories and of the
-//! first save after a restart, and over random histories, for another choice of
-//! free spares too, with the laws of section 11.5 counted in all of them; each
-//! fault must be caught by what it breaks; the corner sheets print as they
-//! should.
+//! first save after a restart, over the story of long writes and over random
+//! histories, for another choice of free spares too, with the laws of sections
+//! 11.5 and 10.9 counted in all of them; each fault must be caught by what it
+//! breaks; the corner sheets print as they should.
 
 use crpm_tests::calls::Sizes;
 use crpm_tests::compared::Compared;
 use crpm_tests::explore::{Images, Plan, LEGEND};
 use crpm_tests::fast::Fast;
 use crpm_tests::groups::{self, Random};
+use crpm_tests::long::{after_cuts, long_writes, longest_writes};
 use crpm_tests::reference::{Choice, Fault, Reference};
 use crpm_tests::report::{arguments, Found, Outcome, Suite};
 use crpm_tests::restart::restored_levels;
@@ -25,6 +26,8 @@ A line for each group, totals at the end. Status: 0 passed, 1 failed, 2 wrong ar
 const SMALL: Sizes = Sizes::new(1, 1, 1);
 const TWO: Sizes = Sizes::new(2, 1, 1);
 const FOUR: Sizes = Sizes::new(2, 2, 1);
+const SMALL_OF_FRAMES: Sizes = Sizes::new(1, 1, 2);
+const TWO_OF_FRAMES: Sizes = Sizes::new(2, 1, 2);
 const STORY: Sizes = Sizes::new(6, 4, 1);
 const STORY_OF_FRAMES: Sizes = Sizes::new(4, 2, 2);
 
@@ -44,32 +47,51 @@ fn main() -> ExitCode {
     suite.add("histories up to 4 at 2,1,1", || groups::short_histories(&good, TWO, 4));
     suite.add("histories up to 2 at 2,2,1", || groups::short_histories(&good, FOUR, 2));
     suite.add("other spares, histories up to 2 at 2,2,1", || groups::short_histories(&other, FOUR, 2));
+    suite.add("histories up to 4 at 1,1,2", || groups::short_histories(&good, SMALL_OF_FRAMES, 4));
+    suite.add("histories up to 3 at 2,1,2", || groups::short_histories(&good, TWO_OF_FRAMES, 3));
+    suite.add("long writes at 1,1,4", || long_writes(&good, EVERY_CUT));
+    suite.add("long writes after cuts", || after_cuts(&good));
+    suite.add("longest writes", || longest_writes(&good));
     suite.add("random histories", || groups::random_histories(&good, random(21, 40)));
     suite.add("other spares, random histories", || groups::random_histories(&other, random(22, 20)));
     suite.add("restored levels at 6,4,1", || restored_levels(&good, STORY));
     suite.add("restored levels at 4,2,2", || restored_levels(&good, STORY_OF_FRAMES));
     suite.add("other spares, restored levels at 6,4,1", || restored_levels(&other, STORY));
-    for (fault, breaks) in FAULTS {
-        suite.add(format!("fault {fault:?}"), move || caught(fault, breaks));
+    for (fault, sizes, breaks) in FAULTS {
+        suite.add(format!("fault {fault:?}"), move || caught(fault, sizes, breaks));
     }
     for (fault, breaks) in FAULTS_OF_SAVE {
-        suite.add(format!("fault {fault:?} after a restart"), move || heard(fault, breaks));
+        let story = move || restored_levels(&Reference::faulty(fault), STORY);
+        suite.add(format!("fault {fault:?} after a restart"), move || heard(story(), breaks));
     }
+    for (fault, breaks) in FAULTS_OF_WRITE {
+        let story = move || long_writes(&Reference::faulty(fault), EVERY_CUT);
+        suite.add(format!("fault {fault:?} in long writes"), move || heard(story(), breaks));
+    }
+    suite.add("faults of writes among any contents", || differ(&good));
     suite.add("forms of the benchmark", || forms_agree(&good));
     suite.add("corner sheets", corner_sheets);
     suite.run("selftest")
 }
 
-/// Each fault, and what must be said of it. A save that keeps restored levels
-/// breaks neither demand 3 nor the book, and only the laws show it.
-const FAULTS: [(Fault, &str); 7] = [
-    (Fault::StateBeforeFence, "opening again answers 4"),
-    (Fault::MarksClearedAtSave, "opening again shows a page that is not permitted"),
-    (Fault::OpeningSkipsLevelToSpare, "opening again shows a page that is not permitted"),
-    (Fault::FreeByIdleLine, "opening again answers 4"),
-    (Fault::SaveKeepsRestored, "save: levels in state 2: 1, spares not free: 1, due 0 of each"),
-    (Fault::SaveSetsEmpty, "opening again shows other levels empty than those never set"),
-    (Fault::SaveTurnsOwnToSpare, "opening again answers 4"),
+const ONE_FRAME: &[Sizes] = &[SMALL, TWO];
+const FRAMES: &[Sizes] = &[SMALL_OF_FRAMES];
+
+/// Each fault that the explorer shows, the sizes of the histories, and what
+/// must be said of it. A save that keeps restored levels and a write that takes
+/// offset 256 break neither demand 3 nor the book, and only the laws show them.
+const FAULTS: [(Fault, &[Sizes], &str); 11] = [
+    (Fault::StateBeforeFence, ONE_FRAME, "opening again answers 4"),
+    (Fault::MarksClearedAtSave, ONE_FRAME, "opening again shows a page that is not permitted"),
+    (Fault::OpeningSkipsLevelToSpare, ONE_FRAME, "opening again shows a page that is not permitted"),
+    (Fault::FreeByIdleLine, ONE_FRAME, "opening again answers 4"),
+    (Fault::SaveKeepsRestored, ONE_FRAME, "save: levels in state 2: 1, spares not free: 1, due 0 of each"),
+    (Fault::SaveSetsEmpty, ONE_FRAME, "opening again shows other levels empty than those never set"),
+    (Fault::SaveTurnsOwnToSpare, ONE_FRAME, "opening again answers 4"),
+    (Fault::MarksFirstFrameOnly, FRAMES, "opening again shows a page that is not permitted"),
+    (Fault::TakesOffset256, FRAMES, "a write (refusal 8 due: true) answers 0"),
+    (Fault::TakesLevelFromAnyFrame, FRAMES, "opening again shows a page that is not permitted"),
+    (Fault::StoresFirstFrameOnly, FRAMES, "the reads do not give the book's pages"),
 ];
 
 /// The faults of a save's states, and what is heard after a restart.
@@ -79,6 +101,18 @@ const FAULTS_OF_SAVE: [(Fault, &str); 3] = [
     (Fault::SaveTurnsOwnToSpare, "after a restart write 8 bytes to level 4 frame 0 at 192: 4, due 0"),
 ];
 
+/// The faults of long writes, and what is due otherwise in their story.
+const FAULTS_OF_WRITE: [(Fault, &str); 6] = [
+    (Fault::MarksFirstFrameOnly, "L2 marks: 1, due 7"),
+    (Fault::MarksOneFrameMore, "L2 marks: 15, due 7"),
+    (Fault::TakesOffset256, "L7, a byte at 256 number: 0, due 8"),
+    (Fault::TakesLevelFromAnyFrame, "L7, 700 bytes from frame 2 number: 0, due 8"),
+    (Fault::StoresFirstFrameOnly, "L2 orders: 29, due 89"),
+    (Fault::StoresWholeFrames, "L2 orders: 96, due 89"),
+];
+
+const EVERY_CUT: Plan = Plan { images: Images::Few { cap: 256, samples: 32 }, every_cut_up_to: usize::MAX };
+
 fn random(seed: u64, histories: usize) -> Random {
     let plan = Plan { images: Images::Some { samples: 2 }, every_cut_up_to: 300 };
     Random { seed, histories, calls: 12, most: 3, plan, every_law: true }
@@ -86,12 +120,12 @@ fn random(seed: u64, histories: usize) -> Random {
 
 /// The explorer must find what the fault breaks, by demand 3 and the book
 /// first and then by the laws; the shortest histories are tried first.
-fn caught(fault: Fault, breaks: &str) -> Outcome {
+fn caught(fault: Fault, sizes: &[Sizes], breaks: &str) -> Outcome {
     let faulty = Reference::faulty(fault);
     for explore in [groups::short_histories_without_laws, groups::short_histories] {
         for depth in 1..=3 {
-            for sizes in [SMALL, TWO] {
-                if let Err(witness) = explore(&faulty, sizes, depth) {
+            for sizes in sizes {
+                if let Err(witness) = explore(&faulty, *sizes, depth) {
                     return noticed(witness, breaks);
                 }
             }
@@ -100,12 +134,29 @@ fn caught(fault: Fault, breaks: &str) -> Outcome {
     Err("not caught".to_string())
 }
 
-/// The numbers and the reads after a restart must show the fault.
-fn heard(fault: Fault, breaks: &str) -> Outcome {
-    match restored_levels(&Reference::faulty(fault), STORY) {
+/// The numbers and the reads of a story must show the fault.
+fn heard(story: Outcome, breaks: &str) -> Outcome {
+    match story {
         Err(witness) => noticed(witness, breaks),
         Ok(_) => Err("not caught".to_string()),
     }
+}
+
+/// Among calls with any contents each fault of long writes answers or leaves
+/// something else than the reference.
+fn differ(good: &Reference) -> Outcome {
+    let mut differences = Vec::new();
+    for (fault, _) in FAULTS_OF_WRITE {
+        let faulty = Reference::faulty(fault);
+        let both = Compared::new(good, &faulty);
+        groups::any_contents(&both, 33, 200, |rng| arbitrary::sizes(rng, 3));
+        if both.differences() == 0 {
+            return Err(format!("{fault:?} is not noticed"));
+        }
+        differences.push(format!("{} of {fault:?}", both.differences()));
+    }
+    let caught = differences.len() as u64;
+    Ok(Found::new(format!("differences: {}", differences.join(", ")), &[("faults caught", caught)]))
 }
 
 fn noticed(witness: String, breaks: &str) -> Outcome {
@@ -124,7 +175,10 @@ fn forms_agree(good: &Reference) -> Outcome {
         groups::any_contents(&compared, 32, 2, arbitrary::edge_sizes);
         groups::bench_cases(&compared)?;
         restored_levels(&compared, STORY_OF_FRAMES)?;
+        long_writes(&compared, EVERY_CUT)?;
+        longest_writes(&compared)?;
         compared.verdict()?;
+        compared.spans().all_tried()?;
         calls += compared.calls();
     }
     Ok(Found::new(format!("{calls} calls as the reference"), &[("calls compared", calls)]))

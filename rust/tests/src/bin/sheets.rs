@@ -51,7 +51,7 @@ fn corner_sheets(program: &Path) -> Outcome {
 fn random_sheets(program: &Path) -> Outcome {
     let start = Instant::now();
     let mut rng = Rng::new(61);
-    let (mut good, mut bad) = (0, 0);
+    let (mut good, mut bad, mut long) = (0, 0, 0);
     for number in 0..RANDOM_SHEETS {
         let input = random_sheet(&mut rng);
         let due = sheet::printed(&input);
@@ -59,13 +59,24 @@ fn random_sheets(program: &Path) -> Outcome {
         check(program, &input, &due, pieces)?;
         match due.starts_with(b"sheet=") {
             true => bad += 1,
-            false => good += 1,
+            false => {
+                good += 1;
+                long += u64::from(has_long_line(&input));
+            }
         }
         if start.elapsed() > TIME_LIMIT {
             return Err(format!("only {} sheets in {} s", number + 1, TIME_LIMIT.as_secs()));
         }
     }
-    Ok(Found::new(format!("{good} good, {bad} bad"), &[("sheets compared", good + bad)]))
+    if long == 0 {
+        return Err("no good sheet has bytes for more than a frame".to_string());
+    }
+    let text = format!("{good} good, {long} of them with bytes for more than a frame, {bad} bad");
+    Ok(Found::new(text, &[("sheets compared", good + bad)]))
+}
+
+fn has_long_line(sheet: &[u8]) -> bool {
+    sheet.split(|byte| *byte == b'\n').any(|line| line.starts_with(b"bytes=") && line.len() > 6 + 2 * 256)
 }
 
 /// A corner's output with one byte changed, left out or added is a difference.
@@ -163,9 +174,15 @@ fn random_group(rng: &mut Rng, mains: usize, frames: usize) -> [String; 5] {
         _ => rng.below(end),
     };
     let (level, frame, at) = (near(rng, mains), near(rng, frames), near(rng, 256));
-    let count = match rng.below(8) {
+    let left = (256 * frames.saturating_sub(frame)).saturating_sub(at).min(1024);
+    let count = match rng.below(12) {
         0 => 0,
         1 => rng.below(257),
+        2 => left,
+        3 => (left + 1).min(1024),
+        4 => rng.range(0, left),
+        5 => 256usize.saturating_sub(at) + rng.range(1, 8),
+        6 => rng.pick(&[1023, 1024, 1024, 1025]),
         _ => rng.range(1, 12),
     };
     let bytes: String = rng.bytes(count).iter().map(|byte| format!("{byte:02x}")).collect();

@@ -166,6 +166,12 @@ fn session(sizes: Sizes, touched: u64, levels: usize, marks: u64) -> Session {
     session_of(&card)
 }
 
+/// Long writes from the first frame of a touched level, where a level has so
+/// many bytes: whole words over 4 and over 64 frames, and over 4 frames 126 whole
+/// words with a part of one before and behind them.
+const LONG: [(&str, u64, usize); 3] =
+    [("write 1024 bytes", 0, 1024), ("write 1019 bytes at 3", 3, 1019), ("write 16384 bytes", 0, 16384)];
+
 fn cases(sizes: Sizes) -> Vec<Case> {
     let data = distinct_data(sizes);
     let image = |metadata: &Metadata| image_of(sizes, 6, metadata, 0, &data);
@@ -209,6 +215,13 @@ fn cases(sizes: Sizes) -> Vec<Case> {
         case("saved read", Action::Read(Page::Saved), &in_spares, fresh),
         case("likeness, alike", Action::Same(image(&in_spares)), &in_spares, fresh),
     ];
+    for (name, offset, length) in LONG {
+        if length <= FRAME * sizes.frames as usize {
+            let target = Target { level: 0, frame: 0, offset };
+            let write = Action::Write(target, vec![0x77; length]);
+            cases.push(case(name, write, &in_spares, touched_few));
+        }
+    }
     let replayed = [
         ("open, level to spare", "replay, opening"),
         ("write, new spare", "replay, write"),
