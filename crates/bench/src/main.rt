@@ -3,7 +3,8 @@
 // bytes (SPECIFICATION 17.5), which it computes too (`LongStory`) and which are read back here, byte by byte. Each line has what
 // was measured. The file `stdout` has the expected lines, worked out by hand from the specification; where it leaves the spare open
 // (10.7), a spare without a level is taken before others, and else the lowest. The cuts of P4, and those of a restart like this one, are
-// tried by the second program (rust/, `bench cases` and `restored levels`), over every permitted image.
+// tried by the second program (rust/, `bench cases` and `restored levels`), over every permitted image, and those of the long
+// registrations too (`long writes`).
 use libc::STDOUT_FILENO;
 use model::Answer;
 use model::Layout;
