@@ -1,6 +1,6 @@
 -- Every operation that a call writes is well formed, so that replay serves it and plays it (`replay-serves-all`).
 pub mod WellFormed
-use Prim.Native.Nat.{ℕ, _/_, _<_}
+use Prim.Native.Nat.{ℕ, _/_}
 use mathlib.Core.Path.{_≡_, sym, subst}
 use mathlib.Core.Bool.{cond}
 use mathlib.Core.List.{[]}

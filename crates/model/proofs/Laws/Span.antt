@@ -1,17 +1,14 @@
 -- Laws of a span: which spans 8 passes, and the words and blocks that hold a byte of one.
 use Prim.Native.Nat.{ℕ, _+_, _-_, _*_, _≤_, _<_}
-use mathlib.Core.Path.{_≡_, refl, sym, _∙_, ap}
+use mathlib.Core.Path.{_≡_, refl, sym, _∙_}
 use mathlib.Core.Logic.{_↔_, _⊎_, inl, inr, ⊎-elim}
 use mathlib.Core.Bool.{Bool, true, false, cond, true≢false}
 use native.Mathlib.Omega.{arith}
 use native.Mathlib.Decide.{decLt}
 use lib.ListN.{length}
 use borrow.Author.Tests.{ne-eqb, lt-leb, le-ltb}
-use Rattle.model.specs.declared.Layout.{Layout}
-use Rattle.model.specs.declared.Session.{Session}
-use Rattle.model.specs.Words.{Image}
 use Rattle.model.specs.Session.{isDirty, dirtyWord, dirtyBlock}
-use Rattle.model.specs.Write.{WriteArgs, needsCopy, spanBlocks, writeSession, spanBad}
+use Rattle.model.specs.Write.{needsCopy, spanBlocks, writeSession, spanBad}
 use Rattle.model.specs.Span.{OneFrom, MeetsBlock, SpanPasses, WordsMet, BlocksMet, MarksMet}
 use Rattle.model.proofs.Laws.Session.{dirty-block-same, dirty-block-rest, no-bit}
 use Rattle.model.proofs.Laws.Write.{span-good}
