@@ -1,18 +1,40 @@
--- Laws of a span: words that lie whole among its bytes, a span of whole words, and the test of its end.
+-- Laws of a span: room for its words, the words that lie whole among its bytes, its first word, and the test of its end.
 use Prim.Native.Nat.{ℕ, zero, suc, _+_, _-_, _*_, _/_, _%_, _≤_, _<_}
-use mathlib.Core.Path.{_≡_, refl, sym, ap, _∙_}
-use mathlib.Core.List.{List, [], _∷_}
+use mathlib.Core.Path.{_≡_, refl, sym, ap, ap₂, _∙_}
+use mathlib.Core.Bool.{Bool, true, false, not, cond}
+use mathlib.Core.Logic.{_≢_}
+use mathlib.Core.List.{List, [], _∷_, _++_}
 use native.Mathlib.Omega.{arith}
-use native.Mathlib.Decide.{decLt}
-use lib.Dec.{ltb}
-use lib.ListN.{length}
-use borrow.Author.Tests.{lt-ltb, le-ltb}
+use native.Mathlib.Decide.{decLt, ℕ-discrete}
+use lib.Dec.{ltb, eqb}
+use lib.ListN.{length, getD, take, drop, length-drop}
+use lib.Seq.{getD-drop, take-all}
+use borrow.Author.Tests.{lt-ltb, le-ltb, eq-eqb, ne-eqb}
 use Rattle.model.specs.Words.{Image, byteAt, littleEndian, wordOf, wordAt, overlay}
-use Rattle.model.specs.Ops.{store, stores, wordPlace}
+use Rattle.model.specs.Range.{cat}
+use Rattle.model.specs.Ops.{store, Ops, Trace, stores, wordPlace}
 use Rattle.model.specs.Write.{spanWords, spanStores}
 use Rattle.model.proofs.Laws.Range.{cat-ext}
-use Rattle.model.proofs.Laws.Words.{overlay-inside}
-use Rattle.span.specs.Steps.{wordStores}
+use Rattle.model.proofs.Laws.Words.{word-cong, overlay-in, overlay-inside}
+use Rattle.model.proofs.Laws.Counts.{length-stores}
+use Rattle.trace.specs.Emit.{Fits}
+use Rattle.span.specs.Steps.{overlaidStore, firstStores, wordStores}
+
+-- ---- room on a trace: a span meets a word, and no fewer words than lie whole among its bytes
+
+module _ {t : Trace} {n : ℕ} (I : Image) (a : ℕ) (bs : List ℕ) (h : Fits t n (spanStores I a bs)) where
+  span-room : 3 * (n + spanWords a (length bs)) ≤ length t
+  span-room = omega (arith, length-stores (spanWords a (length bs)) (wordPlace a) (λ k. wordOf (overlay (byteAt I) a bs) (wordPlace a + 8 * k)))
+
+  pub first-fits : Fits t n (firstStores I a bs)
+  first-fits = go (eqb (a % 8) 0)
+    where
+      go : (b : Bool) → Fits t n (cond (not b) (overlaidStore I a bs (wordPlace a) ∷ []) [])
+      go true = record { room = omega (arith, span-room) }
+      go false = record { room = omega (arith, span-room) }
+
+  pub words-fit : Fits t n (wordStores a bs)
+  words-fit = record { room = omega (arith, span-room, length-stores (length bs / 8) a (λ k. wordAt bs (8 * k))) }
 
 -- ---- words
 
@@ -25,17 +47,80 @@ number-inside (suc n) f a bs p q h e l =
     rw (b, number-inside n f a bs (suc p) (suc q) (omega arith) (omega arith) (omega arith))
 
 -- a word that lies whole among the bytes is theirs: q is where it starts in them
-pub word-inside : (f : ℕ → ℕ) (a : ℕ) (bs : List ℕ) (p q : ℕ) → a ≤ p → q ≡ p - a → q + 8 ≤ length bs → wordAt bs q ≡ wordOf (overlay f a bs) p
+word-inside : (f : ℕ → ℕ) (a : ℕ) (bs : List ℕ) (p q : ℕ) → a ≤ p → q ≡ p - a → q + 8 ≤ length bs → wordAt bs q ≡ wordOf (overlay f a bs) p
 unfolding wordOf
 word-inside f a bs p q h e l = number-inside 8 f a bs p q h e l
 
--- bytes that start a word and are whole words: what they are laid over does not matter
-pub whole-words : (I : Image) (a : ℕ) (bs : List ℕ) → 1 ≤ length bs → a % 8 ≡ 0 → length bs % 8 ≡ 0 → wordStores a bs ≡ spanStores I a bs
+-- bytes at the start of a word: for the words that lie whole among them it does not matter what they are laid over
+words-inside : (I : Image) (a : ℕ) (bs : List ℕ) → a % 8 ≡ 0
+    → wordStores a bs ≡ stores (length bs / 8) (wordPlace a) (λ k. wordOf (overlay (byteAt I) a bs) (wordPlace a + 8 * k))
 unfolding stores
-whole-words I a bs some x y =
+words-inside I a bs x =
     let e : wordPlace a ≡ a = omega arith in
+    rw e
+    (cat-ext (length bs / 8) _ _
+    (λ k l. ap (λ (v : ℕ). store (a + 8 * k) v ∷ []) (word-inside (byteAt I) a bs (a + 8 * k) (8 * k) (omega arith) (omega arith) (omega arith))))
+
+-- such bytes are these words alone, or these words and one more, which they do not fill
+pub whole-words : (I : Image) (a : ℕ) (bs : List ℕ) → 1 ≤ length bs → a % 8 ≡ 0 → length bs % 8 ≡ 0 → wordStores a bs ≡ spanStores I a bs
+whole-words I a bs some x y =
     let d : spanWords a (length bs) ≡ length bs / 8 = omega arith in
-    rw (e, d) (cat-ext (length bs / 8) _ _ (λ k l. ap (λ (v : ℕ). store (a + 8 * k) v ∷ []) (word-inside (byteAt I) a bs (a + 8 * k) (8 * k) (omega arith) (omega arith) (omega arith))))
+    rw d (words-inside I a bs x)
+
+pub words-and-rest : (I : Image) (a : ℕ) (bs : List ℕ) → a % 8 ≡ 0 → length bs % 8 ≢ 0
+    → wordStores a bs ++ overlaidStore I a bs (a + 8 * (length bs / 8)) ∷ [] ≡ spanStores I a bs
+unfolding stores cat
+words-and-rest I a bs x y =
+    let e : wordPlace a ≡ a = omega arith in
+    let d : spanWords a (length bs) ≡ suc (length bs / 8) = omega arith in
+    rw (words-inside I a bs x, d, e) refl
+
+-- ---- the first word of a span, in whose midst its bytes start
+
+stores-first : (n a u : ℕ) (v w : ℕ → ℕ) → u ≡ w 0 → ((k : ℕ) → k < n → v k ≡ w (suc k)) → store a u ∷ stores n (a + 8) v ≡ stores (suc n) a w
+unfolding stores cat
+stores-first zero a u v w e h = let q : a ≡ a + 8 * 0 = omega arith in ap₂ (λ (p x : ℕ). store p x ∷ []) q e
+stores-first (suc n) a u v w e h =
+    let q : a + 8 + 8 * n ≡ a + 8 * suc n = omega arith in
+    ap₂ (λ (O E : Ops). O ++ E) (stores-first n a u v w e (λ k l. h k (omega arith)))
+    (ap₂ (λ (p x : ℕ). store p x ∷ []) q (h n (omega arith)))
+
+-- from a later place on, bytes laid over are the later ones
+overlay-later : (f : ℕ → ℕ) (a s : ℕ) (bs : List ℕ) (i : ℕ) → a + s ≤ i → overlay f (a + s) (drop s bs) i ≡ overlay f a bs i
+overlay-later f a s bs i h =
+    let e : s + (i - (a + s)) ≡ i - a = omega arith in
+    overlay-in f (a + s) (drop s bs) i h ∙ getD-drop s bs (i - (a + s)) (f i) ∙ ap (λ (k : ℕ). getD bs k (f i)) e
+    ∙ sym (overlay-in f a bs i (omega arith))
+
+later-words : (I : Image) (a s : ℕ) (bs : List ℕ) → a % 8 + s ≡ 8 → s < length bs
+    → overlaidStore I a bs (wordPlace a) ∷ spanStores I (a + s) (drop s bs) ≡ spanStores I a bs
+later-words I a s bs x h =
+    let n = spanWords (a + s) (length (drop s bs)) in
+    let d : spanWords a (length bs) ≡ suc n = omega (arith, length-drop s bs) in
+    let e : wordPlace a ≡ wordPlace a + 8 * 0 = omega arith in
+    let q : wordPlace (a + s) ≡ wordPlace a + 8 = omega arith in
+    let w = wordOf (overlay (byteAt I) a bs) in
+    rw (d, q)
+    (stores-first n (wordPlace a) _ _ _ (ap w e)
+    (λ k l. word-cong _ _ (wordPlace a + 8 + 8 * k) (λ i g m. overlay-later (byteAt I) a s bs i (omega arith)) ∙ ap w (omega arith)))
+
+-- bytes that end in it, and bytes that go on: s of them come before the next word
+pub first-alone : (I : Image) (a : ℕ) (bs : List ℕ) → 1 ≤ length bs → length bs ≤ (8 - a % 8) % 8 → firstStores I a bs ≡ spanStores I a bs
+unfolding stores cat
+first-alone I a bs some h =
+    let d : spanWords a (length bs) ≡ 1 = omega arith in
+    let e : wordPlace a + 8 * 0 ≡ wordPlace a = omega arith in
+    rw (d, e, ne-eqb (a % 8) 0 (λ x. omega arith)) refl
+
+pub first-and-later : (I : Image) (a s : ℕ) (bs : List ℕ) → s ≡ (8 - a % 8) % 8 → s < length bs
+    → firstStores I a bs ++ spanStores I (a + s) (take (length bs - s) (drop s bs)) ≡ spanStores I a bs
+first-and-later I a s bs x h =
+    let r : take (length bs - s) (drop s bs) ≡ drop s bs = take-all (length bs - s) (drop s bs) (omega (arith, length-drop s bs)) in
+    rw r (go (ℕ-discrete (a % 8) 0))
+  where
+    go : Dec (a % 8 ≡ 0) → firstStores I a bs ++ spanStores I (a + s) (drop s bs) ≡ spanStores I a bs
+    go (yes y) = let z : s ≡ 0 = omega arith in let e : a + 0 ≡ a = omega arith in rw (eq-eqb (a % 8) 0 y, z, e) refl
+    go (no y) = rw (ne-eqb (a % 8) 0 y) (later-words I a s bs (omega arith) h)
 
 -- ---- the limits
 

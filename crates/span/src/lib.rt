@@ -11,7 +11,7 @@ ghost use Rattle.model.specs.Layout.{most, lineSize, wordSize, blockSize, large
 ghost use Rattle.model.specs.Ops.{storeByte, wordPlace};
 ghost use Rattle.model.specs.Write.{spanWords, spanBad, spanStores};
 ghost use Rattle.trace.specs.Emit.{Fits, Emitted};
-ghost use Rattle.span.specs.Steps.{argsOf, wordStores};
+ghost use Rattle.span.specs.Steps.{argsOf, overlaidStore, firstStores, wordStores};
 
 // Bytes of a word, as indexes count them.
 const WORD_SIZE: usize = Layout::WORD_SIZE as usize;
@@ -59,20 +59,6 @@ fn overlaid_word(image: &[u8], at: usize, bytes: &[u8], place: usize) -> u64
     ])
 }
 
-// The same, where a word that lies whole among the bytes is read from them.
-fn span_word(image: &[u8], at: usize, bytes: &[u8], place: usize) -> u64
-    requires { ⌜ place + wordSize ≤ length (now image) ⌝ }
-    ensures { λ r. ⌜ r ≡ wordOf (overlay (byteAt (now (image .entry))) at (now (bytes .entry))) place ⌝ }
-{
-    if at <= place {
-        let from = place - at;
-        if from + WORD_SIZE <= bytes.len() {
-            return words::word_at(bytes, from);
-        }
-    }
-    overlaid_word(image, at, bytes, place)
-}
-
 // ---- limits and place
 
 // Whether a span is empty, has an offset that is not in its block, or leaves its main segment (refusal 8).
@@ -115,6 +101,27 @@ pub fn span_blocks(span: Span) -> u64
 
 // ---- stores
 
+// Stores the word at a place of the image with the bytes laid over it.
+fn put_overlaid(
+    image: &[u8],
+    at: usize,
+    bytes: &[u8],
+    place: usize,
+    trace: &mut [u64],
+    n: usize,
+) -> usize
+    requires { ⌜ place + wordSize ≤ length (now image) ⌝ }
+    requires { ⌜ Fits (now trace) n (overlaidStore (now image) at (now bytes) place ∷ []) ⌝ }
+    ensures { λ r. ⌜ Emitted (now (trace .entry)) n (overlaidStore (now (image .entry)) at (now (bytes .entry)) place ∷ []) (now (trace .exit)) r ⌝ }
+{
+    trace::put_store(
+        trace,
+        n,
+        place as u64,
+        overlaid_word(image, at, bytes, place),
+    )
+}
+
 // Stores one byte in its word.
 pub fn put_byte(image: &[u8], at: usize, byte: u8, trace: &mut [u64], n: usize) -> usize
     requires { ⌜ wordPlace at + wordSize ≤ length (now image) ⌝ }
@@ -123,11 +130,10 @@ pub fn put_byte(image: &[u8], at: usize, byte: u8, trace: &mut [u64], n: usize) 
 {
     let place = WORD_SIZE * (at / WORD_SIZE);
     let one = [byte];
-    let word = overlaid_word(image, at, &one, place);
-    trace::put_store(trace, n, place as u64, word)
+    put_overlaid(image, at, &one, place, trace, n)
 }
 
-// Stores bytes that are whole words from a place on, upward; they are not written back.
+// Stores the words that lie whole among bytes, from a place on, upward; they are not written back.
 fn put_words(at: usize, bytes: &[u8], trace: &mut [u64], n: usize) -> usize
     requires { ⌜ at + length (now bytes) ≤ 2 ^ 32 ⌝ }
     requires { ⌜ Fits (now trace) n (wordStores at (now bytes)) ⌝ }
@@ -144,7 +150,42 @@ fn put_words(at: usize, bytes: &[u8], trace: &mut [u64], n: usize) -> usize
     next
 }
 
-// Stores the words that bytes at a place meet, upward, with the bytes laid over what stands there; they are not written back.
+// Stores the word in whose midst bytes start, with the bytes laid over what stands there; nothing if they start a word.
+fn put_first(image: &[u8], at: usize, bytes: &[u8], trace: &mut [u64], n: usize) -> usize
+    requires { ⌜ wordPlace at + wordSize ≤ length (now image) ⌝ }
+    requires { ⌜ Fits (now trace) n (firstStores (now image) at (now bytes)) ⌝ }
+    ensures { λ r. ⌜ Emitted (now (trace .entry)) n (firstStores (now (image .entry)) at (now (bytes .entry))) (now (trace .exit)) r ⌝ }
+{
+    if at % WORD_SIZE == 0 {
+        return n;
+    }
+    put_overlaid(image, at, bytes, WORD_SIZE * (at / WORD_SIZE), trace, n)
+}
+
+// Stores the words that bytes meet which start a word, upward: those that lie whole among the bytes straight from them, and the
+// last one, if the bytes do not fill it, with the bytes laid over what stands there; they are not written back.
+fn put_aligned(image: &[u8], at: usize, bytes: &[u8], trace: &mut [u64], n: usize) -> usize
+    requires { ⌜ (at % wordSize ≡ 0) × (1 ≤ length (now bytes)) × (at + length (now bytes) ≤ length (now image)) ⌝ }
+    requires { ⌜ (length (now image) % lineSize ≡ 0) × (length (now image) ≤ largestImage) ⌝ }
+    requires { ⌜ Fits (now trace) n (spanStores (now image) at (now bytes)) ⌝ }
+    ensures { λ r. ⌜ Emitted (now (trace .entry)) n (spanStores (now (image .entry)) at (now (bytes .entry))) (now (trace .exit)) r ⌝ }
+{
+    let next = put_words(at, bytes, trace, n);
+    if bytes.len() % WORD_SIZE == 0 {
+        return next;
+    }
+    put_overlaid(
+        image,
+        at,
+        bytes,
+        at + WORD_SIZE * (bytes.len() / WORD_SIZE),
+        trace,
+        next,
+    )
+}
+
+// Stores the words that bytes at a place meet, upward, with the bytes laid over what stands there; they are not written back. At
+// most the first word and the last one are made of both.
 pub fn put_span(image: &[u8], at: usize, bytes: &[u8], trace: &mut [u64], n: usize) -> usize
     requires { ⌜ (1 ≤ length (now bytes)) × (at + length (now bytes) ≤ length (now image)) ⌝ }
     requires { ⌜ (length (now image) % lineSize ≡ 0) × (length (now image) ≤ largestImage) ⌝ }
@@ -154,19 +195,10 @@ pub fn put_span(image: &[u8], at: usize, bytes: &[u8], trace: &mut [u64], n: usi
     if (at % WORD_SIZE == 0) & (bytes.len() % WORD_SIZE == 0) {
         return put_words(at, bytes, trace, n);
     }
-    let count = span_words(at, bytes.len());
-    let start = WORD_SIZE * (at / WORD_SIZE);
-    let mut next = n;
-    let mut k: usize = 0;
-    while k < count {
-        let place = start + WORD_SIZE * k;
-        next = trace::put_store(
-            trace,
-            next,
-            place as u64,
-            span_word(image, at, bytes, place),
-        );
-        k += 1;
+    let next = put_first(image, at, bytes, trace, n);
+    let skip = (WORD_SIZE - at % WORD_SIZE) % WORD_SIZE;
+    if bytes.len() <= skip {
+        return next;
     }
-    next
+    put_aligned(image, at + skip, &bytes[skip..], trace, next)
 }

@@ -1,5 +1,8 @@
+use Prim.Native.Nat.{_+_}
 use mathlib.Core.Path.{_∙_}
+use mathlib.Core.List.{[], _∷_}
 use borrow.Author.Needs.{needs}
+use Rattle.model.specs.Words.{byteAt, wordAt, overlay}
 use Rattle.words.proofs.WordLaws.{word-joined}
 use Rattle.span.proofs.overlaid_word.Statement.{statement}
 use Rattle.span.proofs.overlaid_word.Tie as tie
@@ -61,8 +64,12 @@ returns c = let p₇ = c .before in
     let p₂ = p₃ .before in
     let p₁ = p₂ .before in
     let p₀ = p₁ .before in
+    let a = p₀ .before .before .before .args in
+    let f = overlay (byteAt (a .image .now)) (a .at) (a .bytes .now) in
+    let p = a .place in
+    _∙_ {b = wordAt (f p ∷ f (p + 1) ∷ f (p + 2) ∷ f (p + 3) ∷ f (p + 4) ∷ f (p + 5) ∷ f (p + 6) ∷ f (p + 7) ∷ []) 0}
     (rw (p₀ .overlaid .ensures, p₁ .overlaid2 .ensures, p₂ .overlaid3 .ensures, p₃ .overlaid4 .ensures, p₄ .overlaid5 .ensures, p₅ .overlaid6 .ensures, p₆ .overlaid7 .ensures, p₇ .overlaid8 .ensures) at (c .join .ensures))
-    ∙ word-joined _ _
+    (word-joined f p)
 
 pub overlaid-word-spec : {M : Type 1} → statement M
 overlaid-word-spec =

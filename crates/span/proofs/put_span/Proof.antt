@@ -1,115 +1,103 @@
-use Prim.Native.Nat.{_+_, _-_, _*_, _%_, _≤_}
-use mathlib.Core.Path.{_≡_, sym}
+use Prim.Native.Nat.{_-_, _%_}
+use mathlib.Core.Path.{_≡_, refl, sym, _∙_}
 use native.Mathlib.Omega.{arith}
 use lib.Dec.{eqb}
-use lib.ListN.{length}
+use lib.ListN.{length, length-take, length-drop}
 use borrow.Author.Tests.{eqb-true}
-use borrow.Author.Needs.{needs}
-use Rattle.model.specs.Words.{byteAt, wordOf, overlay}
-use Rattle.model.specs.Ops.{stores, wordPlace}
-use Rattle.model.specs.Write.{spanWords}
 use Rattle.model.proofs.Laws.Range.{and-left, and-right}
-use Rattle.trace.specs.Emit.{Emitted}
-use Rattle.trace.proofs.EmitLaws.{emitted-length, emitted-as, emitted-none, fits-as, fits-each, emitted-each}
-use Rattle.span.proofs.SpanLaws.{whole-words}
+use Rattle.trace.proofs.EmitLaws.{emitted-length, emitted-as, emitted-then, fits-as, fits-then}
+use Rattle.span.specs.Steps.{firstStores}
+use Rattle.span.proofs.SpanLaws.{words-fit, whole-words, first-fits, first-alone, first-and-later}
 use Rattle.span.proofs.put_span.Statement.{statement}
 use Rattle.span.proofs.put_span.Tie as tie
 
-abbrev Inv-loop : tie.InvT-loop
-Inv-loop image at bytes trace₀ n count start next₀ k₀ trace next k =
-    (k ≤ count)
-    × Emitted trace₀ n (stores k (wordPlace at) (λ j. wordOf (overlay (byteAt image) at bytes) (wordPlace at + 8 * j))) trace next
-
-abbrev μ-loop : tie.MeasureT-loop
-μ-loop image at bytes trace₀ n count start next₀ k₀ trace next k = count - k
-
-put-words-requires : tie.Need-put-words-requires Inv-loop μ-loop
+put-words-requires : tie.Need-put-words-requires
 put-words-requires c κs =
-    let a = c .before .before .before .before .before .args in
-    let t = c .before .if1 .taken in
-    let x : a .at % 8 ≡ 0 = eqb-true (a .at % 8) 0 (and-left (eqb (a .at % 8) 0) _ t) in
-    let y : length (a .bytes .now) % 8 ≡ 0 = eqb-true (length (a .bytes .now) % 8) 0 (and-right (eqb (a .at % 8) 0) _ t) in
-    let e = whole-words (a .image .now) (a .at) (a .bytes .now) (omega arith) x y in
-    (omega arith, fits-as (sym e) (c .before .before .before .before .before .pre .1 .1))
+    let b = c .before .before .before .before .before in
+    let a = b .args in
+    (omega arith, words-fit (a .image .now) (a .at) (a .bytes .now) (b .pre .1 .1))
 
-same-length : tie.Need-same-length Inv-loop μ-loop
+same-length : tie.Need-same-length
 same-length c = emitted-length (c .before .before .put-words .ensures)
 
-returns : tie.Need-returns Inv-loop μ-loop
+returns : tie.Need-returns
 returns c =
     let a = c .before .before .before .before .before .before .before .before .args in
     let t = c .before .before .before .before .if1 .taken in
     let x : a .at % 8 ≡ 0 = eqb-true (a .at % 8) 0 (and-left (eqb (a .at % 8) 0) _ t) in
     let y : length (a .bytes .now) % 8 ≡ 0 = eqb-true (length (a .bytes .now) % 8) 0 (and-right (eqb (a .at % 8) 0) _ t) in
-    let e = whole-words (a .image .now) (a .at) (a .bytes .now) (omega arith) x y in
-    emitted-as (c .before .before .put-words .ensures) e
+    emitted-as (c .before .before .put-words .ensures) (whole-words (a .image .now) (a .at) (a .bytes .now) (omega arith) x y)
 
-span-words-requires : tie.Need-span-words-requires Inv-loop μ-loop
-span-words-requires c κs = search needs
+put-first-requires : tie.Need-put-first-requires
+put-first-requires c κs =
+    let b = c .before .before .before .before .before in
+    let a = b .args in
+    (omega arith, first-fits (a .image .now) (a .at) (a .bytes .now) (b .pre .1 .1))
 
-mul-start : tie.Need-mul-start Inv-loop μ-loop
-mul-start c = search needs
+sub-skip : tie.Need-sub-skip
+sub-skip c = omega arith
 
-loop-holds : tie.Need-loop-holds Inv-loop μ-loop
-unfolding stores
-loop-holds c = (search needs, emitted-none _)
+same-length-2 : tie.Need-same-length-2
+same-length-2 c = emitted-length (c .before .before .before .put-first .ensures)
 
-mul-place : tie.Need-mul-place Inv-loop μ-loop
-mul-place c = search needs
-
-add-place : tie.Need-add-place Inv-loop μ-loop
-add-place c = search needs
-
-span-word-requires : tie.Need-span-word-requires Inv-loop μ-loop
-span-word-requires c κs = omega arith
-
-put-store-requires : tie.Need-put-store-requires Inv-loop μ-loop
-unfolding stores
-put-store-requires c κs =
-    let l = c .before .before .before .loop in
-    let b = c .before .before .before .before .before .before .before .before .before in
-    rw (c .span-word .ensures) (fits-each (l .k) (spanWords (b .args .at) (length (b .args .bytes .now))) _ (omega arith) (b .pre .1 .1) (l .inv .1))
-
-add-k : tie.Need-add-k Inv-loop μ-loop
-add-k c = search needs
-
-loop-less : tie.Need-loop-less Inv-loop μ-loop
-loop-less c = search needs
-
-loop-again : tie.Need-loop-again Inv-loop μ-loop
-unfolding stores
-loop-again c =
-    let l = c .before .before .before .before .before .before .loop in
-    (omega arith, emitted-each (l .k) _ (l .inv .1) (rw (c .before .before .before .span-word .ensures) at (c .before .before .put-store .ensures)))
-
-same-length-2 : tie.Need-same-length-2 Inv-loop μ-loop
-same-length-2 c = emitted-length (c .before .loop .inv .1)
-
-returns-2 : tie.Need-returns-2 Inv-loop μ-loop
+returns-2 : tie.Need-returns-2
 returns-2 c =
-    let l = c .before .loop in
-    let a = c .before .before .before .before .before .before .before .args in
-    let e : l .k ≡ spanWords (a .at) (length (a .bytes .now)) = omega arith in
-    rw e at (l .inv .1)
+    let a = c .before .before .before .before .before .before .before .before .before .args in
+    emitted-as {O = firstStores (a .image .now) (a .at) (a .bytes .now)} (c .before .before .before .put-first .ensures)
+    (first-alone (a .image .now) (a .at) (a .bytes .now) (omega arith) (omega arith))
+
+add-put-aligned : tie.Need-add-put-aligned
+add-put-aligned c = omega arith
+
+sub-put-aligned : tie.Need-sub-put-aligned
+sub-put-aligned c = omega arith
+
+part-put-aligned-start : tie.Need-part-put-aligned-start
+part-put-aligned-start c = omega arith
+
+part-put-aligned-end : tie.Need-part-put-aligned-end
+part-put-aligned-end c = omega arith
+
+put-aligned-requires : tie.Need-put-aligned-requires
+put-aligned-requires c κs =
+    let b = c .before .before .before .before .before .before .before .before .before .before .before in
+    let a = b .args in
+    let e = first-and-later (a .image .now) (a .at) ((8 - a .at % 8) % 8) (a .bytes .now) refl (omega arith) in (
+      (omega arith, simp (length-take, length-drop) (omega arith), simp (length-take, length-drop) (omega arith)),
+      (
+        b .pre .1 .0,
+        fits-then {A = firstStores (a .image .now) (a .at) (a .bytes .now)} (fits-as (sym e) (b .pre .1 .1))
+            (c .before .before .before .before .before .put-first .ensures),
+      ),
+    )
+
+same-length-3 : tie.Need-same-length-3
+same-length-3 c =
+    emitted-length (c .before .before .put-aligned .ensures) ∙ emitted-length (c .before .before .before .before .before .before .before .before .put-first .ensures)
+
+returns-3 : tie.Need-returns-3
+returns-3 c =
+    let a = c .before .before .before .before .before .before .before .before .before .before .before .before .before .before .args in
+    let e = first-and-later (a .image .now) (a .at) ((8 - a .at % 8) % 8) (a .bytes .now) refl (omega arith) in
+    emitted-as
+    (emitted-then {A = firstStores (a .image .now) (a .at) (a .bytes .now)}
+    (c .before .before .before .before .before .before .before .before .put-first .ensures) (c .before .before .put-aligned .ensures)) e
 
 pub put-span-spec : {M : Type 1} → statement M
 put-span-spec =
     tie.close
     (tie.spec
-    Inv-loop
-    μ-loop
     put-words-requires
     same-length
     returns
-    span-words-requires
-    mul-start
-    loop-holds
-    mul-place
-    add-place
-    span-word-requires
-    put-store-requires
-    add-k
-    loop-less
-    loop-again
+    put-first-requires
+    sub-skip
     same-length-2
-    returns-2)
+    returns-2
+    add-put-aligned
+    sub-put-aligned
+    part-put-aligned-start
+    part-put-aligned-end
+    put-aligned-requires
+    same-length-3
+    returns-3)
