@@ -120,7 +120,8 @@ extern "C" {
    checkpoint of an image with M main segments and B blocks in each. A trace can
    be larger than the image: with 64 of each the image has 2,097,664 bytes, and
    the trace of its first opening 3,538,968. A write may be as long as a main
-   segment: 32 words for each of its blocks, besides the copy. */
+   segment: 32 words for each of its blocks, besides the copy. With a trace of
+   the length that sufficed before version 1.2.0 it gets CRPM_TRACE_SHORT. */
 #define CRPM_OPEN_TRACE(M, B) ((size_t)CRPM_OP_NUMBERS * (36 * (size_t)(B) * (size_t)(M) + 1))
 #define CRPM_WRITE_TRACE(B) ((size_t)CRPM_OP_NUMBERS * (36 * (size_t)(B) + 6 + 32 * (size_t)(B)))
 #define CRPM_CHECKPOINT_TRACE(M, B) ((size_t)CRPM_OP_NUMBERS * (4 * (size_t)(B) * (size_t)(M) + 14))
@@ -189,9 +190,10 @@ uint64_t crpm_open(
 /* Writes bytes to a main segment, from an offset in a block on. They may run on
    through the following blocks, to the end of the main segment: the offset is 0
    to 255, and offset and length together at most 256 times the blocks from this
-   one on. The main segment is copied once at most, however long the write is.
-   Takes the session that the last call on the image wrote and writes the next
-   one; to `ops` the number of operations. Refusals: 1 to 9, 11. */
+   one on. Byte k of a main segment has block k / 256 and offset k % 256. The
+   main segment is copied once at most, however long the write is. Takes the
+   session that the last call on the image wrote and writes the next one; to
+   `ops` the number of operations. Refusals: 1 to 9, 11. */
 uint64_t crpm_write(
     const uint8_t *image, size_t image_length,
     struct crpm_session *session,
@@ -223,8 +225,10 @@ uint64_t crpm_replay(
     uint64_t *played);
 
 /* Finds a block as it stands now: where in the image it starts and its size,
-   256. The place holds until operations are next carried out on the image; read
-   again then. Refusals: 1 to 4, 6, 7. */
+   256. The blocks of a main segment stand one after the other, so what one write
+   put into several of them stands there as it was handed over. The place holds
+   until operations are next carried out on the image; read again then.
+   Refusals: 1 to 4, 6, 7. */
 uint64_t crpm_read_working(
     const uint8_t *image, size_t image_length,
     uint64_t mains, uint64_t backups, uint64_t blocks,

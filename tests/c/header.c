@@ -440,64 +440,77 @@ static void dirty_block_example(void)
     finish(&t);
 }
 
-/* Long writes, as in docs/SPECIFICATION.md 17.5: 700 bytes over three blocks of a main segment of four. */
+/* ---- long writes, as in docs/SPECIFICATION.md 17.5: 700 bytes over three blocks of a main segment of four */
+
+/* Bytes that count up, from another number for each write. */
+static const uint8_t *counted(int from)
+{
+    static uint8_t bytes[995];
+    size_t i;
+    for (i = 0; i < sizeof bytes; i++)
+        bytes[i] = (uint8_t)((size_t)from + i);
+    return bytes;
+}
+
+/* Where a span may end, in a main segment that is dirty and holds these bytes. */
+static void span_ends(struct bench *t, uint8_t *want)
+{
+    RETURNS(write_bytes(at(t, 0, 2, 30, counted(4), 700)), CRPM_BAD_SPAN, 8);
+    RETURNS(write_bytes(at(t, 0, 0, 256, counted(4), 1)), CRPM_BAD_SPAN, 8);
+    SERVED(write_bytes(at(t, 0, 0, 30, counted(4), 994)));
+    STEP(play(t, 125, 0, 0));
+    memcpy(want + 30, counted(4), 994);
+    CHECK(memcmp(t->image + 512, want, 1024) == 0);
+    STEP(session_is(t, 1, 15, 0));
+    RETURNS(write_bytes(at(t, 0, 0, 30, counted(4), 995)), CRPM_BAD_SPAN, 8);
+    SERVED(write_bytes(at(t, 0, 3, 255, counted(4), 1)));
+    CHECK(t->ops == 1 && t->trace[1] == 1528);
+    RETURNS(write_bytes(at(t, 0, 3, 255, counted(4), 2)), CRPM_BAD_SPAN, 8);
+    RETURNS(write_bytes(at(t, 0, 0, UINT64_MAX - 6, counted(4), 8)), CRPM_BAD_SPAN, 8);
+}
+
+/* 700 bytes written, with so many operations of each kind, then these blocks dirty: the bytes stand at
+   their place in the main segment, and the backup segment has what it is to have. */
+static void write_long(struct bench *t, int from, uint64_t block, const struct kinds *ops, uint64_t dirty,
+                       uint8_t *want, const uint8_t *backup)
+{
+    SERVED(write_bytes(at(t, 0, block, 30, counted(from), 700)));
+    play(t, ops->stores, ops->clwbs, ops->sfences);
+    memcpy(want + 256 * block + 30, counted(from), 700);
+    CHECK(memcmp(t->image + 512, want, 1024) == 0);
+    CHECK(memcmp(t->image + 1536, backup, 1024) == 0);
+    session_is(t, 1, dirty, 0);
+}
+
 static void long_writes(void)
 {
-    static uint8_t want[1024], first[995], second[700], third[700];
+    static uint8_t want[1024], saved[1024];
+    static const struct kinds plain = {89, 0, 0}, copying = {219, 18, 2}, copying_dirty = {186, 13, 2};
     struct bench t;
     uint64_t b;
     start(&t, 1, 1, 4);
-    memset(first, 0x5a, sizeof first);
-    memset(second, 0x6b, sizeof second);
-    memset(third, 0x7c, sizeof third);
     SERVED(open_image(&t));
     STEP(play(&t, 128, 16, 1));
 
     /* 89 words, from the one at 536 to the one at 1,240; blocks 0 to 2 are dirty, and a checkpoint flushes them */
-    SERVED(write_bytes(at(&t, 0, 0, 30, first, 700)));
-    CHECK(t.ops == 89 && t.trace[1] == 536 && t.trace[2] == 0x5a5a000000000000);
-    CHECK(t.trace[CRPM_OP_NUMBERS * 88 + 1] == 1240 && t.trace[CRPM_OP_NUMBERS * 88 + 2] == 0x5a5a);
-    STEP(play(&t, 89, 0, 0));
-    memcpy(want + 30, first, 700);
-    CHECK(memcmp(t.image + 512, want, 1024) == 0);
-    STEP(session_is(&t, 1, 7, 0));
+    STEP(write_long(&t, 1, 0, &plain, 7, want, saved));
+    CHECK(t.trace[1] == 536 && t.trace[2] == 0x0201000000000000);
+    CHECK(t.trace[CRPM_OP_NUMBERS * 88 + 1] == 1240 && t.trace[CRPM_OP_NUMBERS * 88 + 2] == 0xbcbb);
     SERVED(checkpoint(&t));
-    CHECK(t.ops == 26);
     STEP(play(&t, 9, 14, 3));
     for (b = 0; b < 4; b++)
         STEP(reads_at(&t, 0, b, 512 + 256 * b, 512 + 256 * b));
 
     /* the main segment is copied once, whole and to a new backup segment; then blocks 1 to 3 are dirty */
-    SERVED(write_bytes(at(&t, 0, 1, 30, second, 700)));
-    CHECK(t.ops == 239);
-    STEP(play(&t, 219, 18, 2));
-    CHECK(memcmp(t.image + 1536, want, 1024) == 0);
-    memcpy(want + 286, second, 700);
-    CHECK(memcmp(t.image + 512, want, 1024) == 0);
-    STEP(session_is(&t, 1, 14, 0));
+    memcpy(saved, want, 1024);
+    STEP(write_long(&t, 2, 1, &copying, 14, want, saved));
     SERVED(checkpoint(&t));
     STEP(play(&t, 9, 14, 3));
 
     /* its three dirty blocks are copied to its own backup segment */
-    SERVED(write_bytes(at(&t, 0, 0, 30, third, 700)));
-    CHECK(t.ops == 201);
-    STEP(play(&t, 186, 13, 2));
-    CHECK(memcmp(t.image + 1536, want, 1024) == 0);
-    memcpy(want + 30, third, 700);
-    CHECK(memcmp(t.image + 512, want, 1024) == 0);
-    STEP(session_is(&t, 1, 7, 0));
-
-    /* where a span may end */
-    RETURNS(write_bytes(at(&t, 0, 2, 30, first, 700)), CRPM_BAD_SPAN, 8);
-    RETURNS(write_bytes(at(&t, 0, 0, 256, first, 1)), CRPM_BAD_SPAN, 8);
-    SERVED(write_bytes(at(&t, 0, 0, 30, first, 994)));
-    STEP(play(&t, 125, 0, 0));
-    STEP(session_is(&t, 1, 15, 0));
-    RETURNS(write_bytes(at(&t, 0, 0, 30, first, 995)), CRPM_BAD_SPAN, 8);
-    SERVED(write_bytes(at(&t, 0, 3, 255, first, 1)));
-    CHECK(t.ops == 1 && t.trace[1] == 1528);
-    RETURNS(write_bytes(at(&t, 0, 3, 255, first, 2)), CRPM_BAD_SPAN, 8);
-    RETURNS(write_bytes(at(&t, 0, 0, UINT64_MAX - 6, first, 8)), CRPM_BAD_SPAN, 8);
+    memcpy(saved, want, 1024);
+    STEP(write_long(&t, 3, 0, &copying_dirty, 7, want, saved));
+    span_ends(&t, want);
     finish(&t);
 }
 
@@ -528,8 +541,10 @@ static void longer_than_4_gib(void)
     const size_t length = (size_t)1 << 32;
     uint8_t *bytes = (uint8_t *)calloc(length + 1, 1);
     struct bench t;
-    if (bytes == NULL)
+    if (bytes == NULL) {
+        fprintf(stderr, "header: left out, no memory: bytes that 32 bits do not count\n");
         return;
+    }
     start(&t, 1, 1, 1);
     SERVED(open_image(&t));
     RETURNS(write_bytes(at(&t, 0, 0, 0, bytes, length)), CRPM_BAD_SPAN, 8);
@@ -664,15 +679,38 @@ static const struct lengths LENGTHS[] = {
     {CRPM_MOST, CRPM_MOST, CRPM_MOST, 2097664, 442371, 13074, 49194},
 };
 
+/* The last main segment, in state 1 and unpaired, is written whole: then every block is dirty, and no other
+   main segment changed. Then all of it but its first 255 bytes, and from block 1 on what may be. */
+static void longest_writes(struct bench *t, const struct lengths *of)
+{
+    static uint8_t bytes[16384];
+    const size_t size = 256 * (size_t)of->blocks, last = 512 + size * ((size_t)of->mains - 1);
+    size_t k;
+    for (k = 0; k < sizeof bytes; k++)
+        bytes[k] = (uint8_t)(k % 251 + 1);
+    at(t, of->mains - 1, 0, 0, bytes, size);
+    STEP(needs(t, write_bytes, CRPM_WRITE_TRACE(of->blocks), of->write));
+    if (of->write > of->opening)
+        STEP(needs(t, write_bytes, CRPM_TRACE(of->mains, of->blocks), of->write));
+    SERVED(write_bytes(t));
+    CHECK(t->session.dirty_blocks[of->mains - 1] == UINT64_MAX >> (64 - of->blocks));
+    STEP(play(t, 64 * of->blocks + 2, 4 * of->blocks + 2, 2));
+    CHECK(memcmp(t->image + last, bytes, size) == 0);
+    CHECK(of->mains == 1 || (t->image[last - size] == 1 && all(t->image + last - size + 1, 255, 0)));
+    if (of->blocks == 1)
+        return;
+    SERVED(write_bytes(at(t, of->mains - 1, 0, 255, bytes, size - 255)));
+    STEP(play(t, 32 * of->blocks - 31, 0, 0));
+    CHECK(memcmp(t->image + last, bytes, 255) == 0);
+    CHECK(memcmp(t->image + last + 255, bytes, size - 255) == 0);
+    RETURNS(write_bytes(at(t, of->mains - 1, 1, 255, bytes, size - 510)), CRPM_BAD_SPAN, 8);
+    SERVED(write_bytes(at(t, of->mains - 1, 1, 255, bytes, size - 511)));
+}
+
 static void trace_lengths_of(const struct lengths *of)
 {
-    static uint8_t segment_bytes[16384];
-    const size_t size = 256 * (size_t)of->blocks, last = 512 + size * ((size_t)of->mains - 1);
     struct bench t;
     uint64_t i, b, played;
-    size_t k;
-    for (k = 0; k < sizeof segment_bytes; k++)
-        segment_bytes[k] = (uint8_t)(k % 251 + 1);
     start(&t, of->mains, of->backups, of->blocks);
     CHECK(t.image_length == of->image);
 
@@ -695,26 +733,7 @@ static void trace_lengths_of(const struct lengths *of)
     SERVED(checkpoint(&t));
     STEP(play(&t, 9, 4 * of->mains * of->blocks + 2, 3));
 
-    /* a main segment written whole that has to be copied first */
-    at(&t, of->mains - 1, 0, 0, segment_bytes, size);
-    STEP(needs(&t, write_bytes, CRPM_WRITE_TRACE(of->blocks), of->write));
-    if (of->write > of->opening)
-        STEP(needs(&t, write_bytes, CRPM_TRACE(of->mains, of->blocks), of->write));
-    SERVED(write_bytes(&t));
-    CHECK(t.session.dirty_blocks[of->mains - 1] == UINT64_MAX >> (64 - of->blocks));
-    STEP(play(&t, 64 * of->blocks + 2, 4 * of->blocks + 2, 2));
-    CHECK(memcmp(t.image + last, segment_bytes, size) == 0);
-    CHECK(of->mains == 1 || (t.image[last - size] == 1 && all(t.image + last - size + 1, 255, 0)));
-
-    /* all of it again but its first 255 bytes; and how long a span from block 1 on may be */
-    if (of->blocks > 1) {
-        SERVED(write_bytes(at(&t, of->mains - 1, 0, 255, segment_bytes, size - 255)));
-        STEP(play(&t, 32 * of->blocks - 31, 0, 0));
-        CHECK(memcmp(t.image + last, segment_bytes, 255) == 0);
-        CHECK(memcmp(t.image + last + 255, segment_bytes, size - 255) == 0);
-        RETURNS(write_bytes(at(&t, of->mains - 1, 1, 255, segment_bytes, size - 510)), CRPM_BAD_SPAN, 8);
-        SERVED(write_bytes(at(&t, of->mains - 1, 1, 255, segment_bytes, size - 511)));
-    }
+    longest_writes(&t, of);
     finish(&t);
 }
 

@@ -1,10 +1,10 @@
 // The bench cases P1 to P10 of SPECIFICATION 17, run on the library; R1 to R7, a restart with four levels restored from all spares and
-// the first save after it (SPECIFICATION 17.4), which crate `cases` computes (`RestoredStory`); and L1 to L7, registrations of 700
-// bytes (SPECIFICATION 17.5), which it computes too (`LongStory`) and which are read back here, byte by byte. Each line has what
+// the first save after it (SPECIFICATION 17.4), which crate `cases` computes (`RestoredStory`); and L1 to L7, long writes of 700 bytes
+// (SPECIFICATION 17.5), which it has too (`LongStory`) and which are read back here, byte by byte. Each line has what
 // was measured. The file `stdout` has the expected lines, worked out by hand from the specification; where it leaves the spare open
 // (10.7), a spare without a level is taken before others, and else the lowest. The cuts of P4, and those of a restart like this one, are
 // tried by the second program (rust/, `bench cases` and `restored levels`), over every permitted image, and those of the long
-// registrations too (`long writes`).
+// writes (`long writes`) over every image where there are 256 or fewer, and over samples where there are more.
 use libc::STDOUT_FILENO;
 use model::Answer;
 use model::Layout;
@@ -18,7 +18,7 @@ const BACKUPS: u64 = 1;
 
 const BLOCKS: u64 = 1;
 
-// The bytes of its image, and of the image of P10 and of the long registrations (one level, one spare, four frames).
+// The bytes of its image, and of the image of P10 and of the long writes (one level, one spare, four frames).
 const IMAGE: usize = 1280;
 
 const IMAGE_LONG: usize = 2560;
@@ -43,7 +43,7 @@ const BYTES: [u8; 8] = [0xa1, 0xb2, 0xc3, 0xd4, 0xe5, 0xf6, 0x07, 0x18];
 
 const MOST_BYTES: usize = 995;
 
-// The number of the last case of a restart, R7; those behind it are of the long registrations.
+// The number of the last case of a restart, R7; those behind it are of the long writes.
 const LAST_RESTART: u64 = 17;
 
 // ---- printed lines
@@ -120,7 +120,7 @@ fn print_metadata(image: &[u8]) {
     print_number(b" at256=", byte_at(image, 256));
 }
 
-// Prints the metadata and the saved reads of levels 0 and 1, and for a long registration what is read back; of the restart's image, the
+// Prints the metadata and the saved reads of levels 0 and 1, and for a long write what is read back; of the restart's image, the
 // board.
 fn print_image(image: &[u8], layout: Layout, case: u64) {
     if layout.mains == BOARD_MAINS {
@@ -137,7 +137,7 @@ fn print_image(image: &[u8], layout: Layout, case: u64) {
     print(b"\n");
 }
 
-// Prints how many bytes a read gives back: zeros, and of the long registrations those of L2, of L4, of L6 and of the one of L7 that is
+// Prints how many bytes a read gives back: zeros, and of the long writes those of L2, of L4, of L6 and of the one of L7 that is
 // served.
 fn print_back(name: &[u8], image: &[u8], layout: Layout, saved: bool) {
     print_number(name, back(image, layout, saved, row(40)));
@@ -233,7 +233,7 @@ fn first_of(bytes: &[u8], n: u64) -> &[u8] {
 
 // ---- the bytes of writes, and what is read back of them
 
-// Byte i of a case's writes. Of a long registration it is 1 to 251, and where two of them stand in the same place their bytes differ;
+// Byte i of a case's writes. Of a long write it is 1 to 251, and where those of two cases stand in the same place their bytes differ;
 // L1 has zeros.
 fn byte_of(case: u64, i: u64) -> u8 {
     if case <= LAST_RESTART {
@@ -333,7 +333,7 @@ struct Call {
 }
 
 // The calls of P3 to P9, which are one history, of P10, which are another, of the restart: those before it (case 11) and those
-// after it, and of the long registrations. Case, 1 for a save, level, frame, offset, length.
+// after it, and of the long writes. Case, 1 for a save, level, frame, offset, length.
 const CALLS: [[u64; 6]; 40] = [
     [3, 0, 0, 0, 6, 4],
     [4, 1, 0, 0, 0, 0],
@@ -563,7 +563,7 @@ fn restart() {
     restarted(image, layout, restored);
 }
 
-// ---- the long registrations
+// ---- the long writes
 
 // The save of L3 cut after n orders, every store of which has arrived; what stands is opened and read. A cut after 24 or 25 may leave the
 // epoch's line as it was too, which is what a cut after 23 leaves.
@@ -575,8 +575,8 @@ fn cut_long(before: [u8; IMAGE_LONG], layout: Layout, saved: &[u64], n: u64) {
     reopen(&mut image, layout, &mut trace, 20);
 }
 
-// Both reads give L2's bytes back where the write of L4 was cut after n orders, every store of which has arrived, and what stood was
-// opened.
+// Both reads give L2's bytes back, and zeros around them, where the write of L4 was cut after n orders, every store of which has
+// arrived, and what stood was opened.
 fn keeps(before: [u8; IMAGE_LONG], layout: Layout, written: &[u64], n: u64) -> bool {
     let mut image = before;
     let mut trace = [0u64; TAPE];
@@ -590,7 +590,9 @@ fn keeps(before: [u8; IMAGE_LONG], layout: Layout, written: &[u64], n: u64) -> b
     );
     let working = back(&image, layout, false, row(31));
     let kept = back(&image, layout, true, row(31));
-    working == 700 && kept == 700
+    let working_zeros = back(&image, layout, false, row(40));
+    let kept_zeros = back(&image, layout, true, row(40));
+    (working == 700) & (kept == 700) & (working_zeros == 324) & (kept_zeros == 324)
 }
 
 // After how many of the numbers of orders from 0 to 239 it is so.

@@ -1,4 +1,4 @@
--- The long registrations, call by call: image, session and pages before each of them and after it. What a checkpoint answers and
+-- The long writes, call by call: image, session and pages before each of them and after it. What a checkpoint answers and
 -- leaves is computed. Of a write its words are not: its status and its number of operations follow from the law that counts them
 -- (`length-write`), what it leaves from the laws of copies and of spans, and only the numbers and the lists that these speak of are computed.
 -- The crashes follow from demand 3, and in the window from two computed images.

@@ -1,9 +1,10 @@
--- Long registrations (SPECIFICATION 17.5): 1 main segment, 1 backup segment, 4 blocks.
+-- Long writes (SPECIFICATION 17.5): 1 main segment, 1 backup segment, 4 blocks.
 --
 -- A formatted image is opened (L1). 700 bytes are written from block 0 on (L2); a checkpoint (L3); 700 bytes are written from block 1 on,
 -- which copies the main segment to the backup segment first (L4); a checkpoint (L5); 700 bytes are written from block 0 on again, which
 -- copies the three blocks that L4 made dirty (L6); and four writes at the bounds of refusal 8 (L7). The bytes of one write are all
--- alike, and each write has others. Proved in proofs/Long.antt.
+-- alike, and each write has others; that bytes keep their order is not for this story to show, but for the definitions (`over-the-end`
+-- in model/proofs/Anchors.antt) and for programs (`bench`). Proved in proofs/Long.antt.
 use Prim.Native.Nat.{ℕ, _*_, _<_}
 use mathlib.Core.Path.{_≡_}
 use mathlib.Core.List.{List, [], _∷_, _++_}
@@ -25,7 +26,7 @@ use Rattle.cases.specs.Cut.{OnlyShows, CutCheckpoint}
 abbrev pub l114 : Layout
 l114 = sizes 1 1 4
 
--- a trace, long enough for every opening and every write
+-- a trace, long enough for every call of the story
 abbrev pub longestTrace : Trace
 longestTrace = replicate 717 0
 

@@ -164,8 +164,9 @@ taken-not-chosen c = ⊎-elim (λ e. omega (arith, e)) (λ k. k refl) (c refl re
 
 -- ---- spans
 
--- two bytes at the last place of a block: the second is the first of the next block; other bytes of their words stay, here as zeros
-pub over-the-end : spanOps (layoutOf 1 1 2) [] (writeArgsOf 0 0 255 (7 ∷ 8 ∷ [])) ≡ store 760 0x0700000000000000 ∷ store 768 8 ∷ []
+-- two bytes at the last place of a block: the second is the first of the next block; the other bytes of their words stay
+pub over-the-end : spanOps (layoutOf 1 1 2) (replicate 1536 9) (writeArgsOf 0 0 255 (7 ∷ 8 ∷ []))
+    ≡ store 760 0x0709090909090909 ∷ store 768 0x0909090909090908 ∷ []
 unfolding spanOps stores cat wordOf littleEndian overlay
 over-the-end = refl
 

@@ -42,9 +42,9 @@ BlocksMet =
     (l : Layout) (w : WriteArgs) → spanBad l w ≡ false
     → ((b : ℕ) → MeetsBlock w b ↔ OneFrom (w .block) (spanBlocks w) b) × ((b : ℕ) → MeetsBlock w b → b < l .blocks)
 
--- after a write a block of its main segment is dirty exactly if it holds one of the bytes, or was dirty and the segment was not copied
-abbrev pub MarksMet : Type 0
-MarksMet =
-    (s : Session) (I : Image) (w : WriteArgs) → w .main < length (s .«dirty_blocks») → spanBad (s .layout) w ≡ false → (b : ℕ)
-    → (dirtyBlock (writeSession s I w) (w .main) b ≡ true)
-    ↔ (MeetsBlock w b ⊎ ((needsCopy s I (w .main) ≡ false) × (dirtyBlock s (w .main) b ≡ true)))
+-- after a write block b of main segment i is dirty exactly if it holds one of the bytes, or was dirty and its segment was not copied
+abbrev pub DirtyMet : Type 0
+DirtyMet =
+    (s : Session) (I : Image) (w : WriteArgs) → w .main < length (s .«dirty_blocks») → spanBad (s .layout) w ≡ false → (i b : ℕ)
+    → (dirtyBlock (writeSession s I w) i b ≡ true)
+    ↔ (((i ≡ w .main) × MeetsBlock w b) ⊎ ((i ≡ w .main → needsCopy s I (w .main) ≡ false) × (dirtyBlock s i b ≡ true)))

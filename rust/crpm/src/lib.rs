@@ -170,9 +170,9 @@ pub fn open<'t>(image: &[u8], layout: Layout, trace: &'t mut [u64]) -> Result<(S
 ///
 /// They may run on through the following blocks, to the end of the main segment:
 /// the offset is 0 to 255, and offset and length together at most
-/// [`BLOCK_SIZE`] times the blocks from this one on. The main segment is copied
-/// once at most, however long the write is, and every block that it meets becomes
-/// dirty.
+/// [`BLOCK_SIZE`] times the blocks from this one on. Byte k of a main segment has
+/// block k / 256 and offset k % 256. The main segment is copied once at most,
+/// however long the write is, and every block that it meets becomes dirty.
 ///
 /// ```
 /// # fn main() -> Result<(), crpm::Refusal> {
@@ -184,15 +184,15 @@ pub fn open<'t>(image: &[u8], layout: Layout, trace: &'t mut [u64]) -> Result<(S
 /// crpm::replay(&mut image, ops, ops.len())?; // stands for carrying out
 ///
 /// // from byte 30 of block 0 over blocks 0, 1 and 2
-/// let registration: Vec<u8> = (0..700).map(|i| i as u8).collect();
-/// let ops = crpm::write(&image, &mut session, 0, 0, 30, &registration, &mut trace)?;
+/// let bytes: Vec<u8> = (0..700).map(|i| i as u8).collect();
+/// let ops = crpm::write(&image, &mut session, 0, 0, 30, &bytes, &mut trace)?;
 /// assert_eq!(ops.len(), 89); // one store for each word that it meets
 /// assert_eq!(session.words().dirty_blocks[0], 0b0111);
 /// crpm::replay(&mut image, ops, ops.len())?;
 /// let blocks = [0, 1, 2].map(|block| crpm::read_working(&image, layout, 0, block));
-/// assert_eq!(blocks[0]?[30..], registration[..226]);
-/// assert_eq!(blocks[1]?[..], registration[226..482]);
-/// assert_eq!(blocks[2]?[..218], registration[482..]);
+/// assert_eq!(blocks[0]?[30..], bytes[..226]);
+/// assert_eq!(blocks[1]?[..], bytes[226..482]);
+/// assert_eq!(blocks[2]?[..218], bytes[482..]);
 ///
 /// // one byte more than the main segment has from there on
 /// let refused = crpm::write(&image, &mut session, 0, 0, 30, &[0; 995], &mut trace);

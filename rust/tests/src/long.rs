@@ -1,9 +1,9 @@
 //! The group of long writes: the registrations of 700 bytes of section 17.5, at
-//! every cut.
+//! every cut, or at those that the plan chooses.
 //!
 //! The steps L1 to L7 stand in a table with what section 17.5 expects of them.
 //! They are gone through by numbers first: orders, marks, the stores of the
-//! spans, both reads byte by byte. Then power goes at every cut of each, and
+//! spans, both reads byte by byte. Then power goes at the cuts of each, and
 //! opening again shows a page of the table whole, never a mixture: the page last
 //! saved, or either of two in a save's window. `after_cuts` goes on from there;
 //! `longest_writes` tries the tape that always suffices (section 6.4).

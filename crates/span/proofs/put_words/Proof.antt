@@ -33,7 +33,7 @@ put-store-requires : tie.Need-put-store-requires Inv-loop μ-loop
 unfolding stores
 put-store-requires c κs =
     let l = c .before .before .before .loop in
-    rw (c .word-at .ensures) (fits-each (l .k) _ _ (c .before .before .loop-test .taken) (c .before .before .before .before .before .before .pre .1) (l .inv .1))
+    rw (c .word-at .ensures) (fits-each (l .k) _ _ (omega arith) (c .before .before .before .before .before .before .pre .1) (l .inv .1))
 
 add-k : tie.Need-add-k Inv-loop μ-loop
 add-k c = search needs
