@@ -130,7 +130,8 @@ pub fn put_byte(image: &[u8], at: usize, byte: u8, trace: &mut [u64], n: usize) 
 {
     let place = WORD_SIZE * (at / WORD_SIZE);
     let one = [byte];
-    put_overlaid(image, at, &one, place, trace, n)
+    let word = overlaid_word(image, at, &one, place);
+    trace::put_store(trace, n, place as u64, word)
 }
 
 // Stores the words that lie whole among bytes, from a place on, upward; they are not written back.
