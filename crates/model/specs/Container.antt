@@ -4,7 +4,7 @@
 use Prim.Native.Nat.{ℕ, zero, suc, _+_, _≤_, _<_}
 use mathlib.Core.Path.{_≡_}
 use mathlib.Core.Logic.{_≢_, _⊎_}
-use mathlib.Core.Bool.{Bool, not, _&&_, _||_}
+use mathlib.Core.Bool.{Bool, not, cond, _&&_, _||_}
 use mathlib.Core.List.{List, [], _∷_, _++_}
 use lib.Dec.{leb, ltb, eqb}
 use lib.ListN.{length, take, drop, replicate}
@@ -13,7 +13,7 @@ use Rattle.model.specs.declared.Located.{Located}
 use Rattle.model.specs.declared.Located.the-variants.{Nowhere, At}
 use Rattle.model.specs.Range.{cat, allB, anyB, firstB}
 use Rattle.model.specs.Words.{Image, byteAt, wordAt}
-use Rattle.model.specs.Layout.{most, epochAt, mainsAt, backupsAt, blocksAt, pairsAt, unpaired, ssInitial, ssBackup, stateLine, segmentSize, mainAt, backupAt, sizesOk, imageSize}
+use Rattle.model.specs.Layout.{most, epochAt, mainsAt, backupsAt, blocksAt, pairsAt, unpaired, ssInitial, ssMain, ssBackup, stateLine, segmentSize, mainAt, backupAt, sizesOk, imageSize}
 use Rattle.model.specs.Status.{Errors}
 
 -- the number of checkpoints (the trade: epoch)
@@ -87,6 +87,14 @@ isFree st pr j = eqb (pr j) unpaired || not (eqb (st (pr j)) ssBackup)
 
 unfoldable pub anyFree : Layout → (ℕ → ℕ) → (ℕ → ℕ) → Bool
 anyFree l st pr = anyB (l .backups) (isFree st pr)
+
+-- the new backup segment, for a main segment that needs one (SPECIFICATION 3.4; the trade: a new spare): the lowest that is unpaired; if
+-- all are paired, the lowest whose main segment is in state 1; their number where there is none. NewBackup.antt says it in plain words
+unfoldable pub newBackup : Layout → (ℕ → ℕ) → (ℕ → ℕ) → ℕ
+newBackup l st pr =
+    cond (anyB (l .backups) (λ j. eqb (pr j) unpaired))
+    (firstB (l .backups) (λ j. eqb (pr j) unpaired))
+    (firstB (l .backups) (λ j. eqb (st (pr j)) ssMain))
 
 -- ---- the checkpoint state (SPECIFICATION 2.6; the trade: saved bytes)
 

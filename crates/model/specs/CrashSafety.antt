@@ -48,7 +48,7 @@ pub data Moment : Type 0 where
 -- the call is one that a history may have
 abbrev pub PermittedAt : Device → Moment → Type 0
 PermittedAt d between = Unit {0}
-PermittedAt d (during c p) = Permitted d c × (p < length (outcome d c .ops))
+PermittedAt d (during c p) = Permitted c × (p < length (outcome d c .ops))
 
 -- the operations played since all was durable
 abbrev pub playedAt : Device → Moment → Ops
@@ -70,11 +70,11 @@ MayShow s between Q = Q ≡ s .model .checkpoint
 MayShow s (during c p) Q = (Q ≡ s .model .checkpoint) ⊎ (Window (s .device) c p × (Q ≡ s .model .working))
 
 -- P holds of the state of every history: it starts at any image that an opening serves, with any sizes and any trace, and
--- has any list of calls from there, refused ones included, with any arguments, traces and choices of free backups
+-- has any list of calls from there, refused ones included, with any arguments and traces
 abbrev pub InEveryHistory : (State → Type 0) → Type 0
 InEveryHistory P =
     (l : Layout) (I : Image) (t : Trace) → Bytes I → openStatus l I t ≡ 0
-    → (cs : List Call) → AllPermitted (start l I t) cs → P (run (start l I t) cs)
+    → (cs : List Call) → AllPermitted cs → P (run (start l I t) cs)
 
 -- ---- demand 3, for a relation R between what was durable, the operations played since and what a crash may leave
 

@@ -27,5 +27,5 @@ checkpoints s (c ∷ cs) = oneIf (isCheckpoint (c .args) && served (outcome (s .
 -- the epoch is the start's epoch and one more for each served checkpoint; nothing else changes it
 abbrev pub EpochCounts : Type 0
 EpochCounts =
-    (l : Layout) (I : Image) (t : Trace) → Bytes I → openStatus l I t ≡ 0 → (cs : List Call) → AllPermitted (start l I t) cs
+    (l : Layout) (I : Image) (t : Trace) → Bytes I → openStatus l I t ≡ 0 → (cs : List Call) → AllPermitted cs
     → committedEpoch (run (start l I t) cs .device .image) ≡ committedEpoch I + checkpoints (start l I t) cs

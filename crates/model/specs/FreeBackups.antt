@@ -45,8 +45,8 @@ InUseCounted =
 -- segments are in state 2 as there are backup segments: its own then has no backup segment either
 abbrev pub NineExactly : Type 0
 NineExactly =
-    (s : Session) (I : Image) (w : WriteArgs) (j : ℕ) (t : Trace)
-    → (writeStatus s I w j t ≡ 9)
+    (s : Session) (I : Image) (w : WriteArgs) (t : Trace)
+    → (writeStatus s I w t ≡ 9)
     ↔ ((firstError (earlyErrors s I w) ≡ 0) × (needsCopy s I (w .main) ≡ true) × (mainsInBackup (s .layout) (activeState I) ≡ s .layout .backups))
 
 -- ---- a history
@@ -60,7 +60,7 @@ inUse d = backupsInUse (d .layout) (activeState (d .image)) (backupToMain (d .im
 
 -- no write is refused with 9 there
 abbrev pub NoNine : Device → Type 0
-NoNine d = (w : WriteArgs) (t : Trace) (j : ℕ) → outcome d (callWrite w t j) .status ≢ 9
+NoNine d = (w : WriteArgs) (t : Trace) → outcome d (callWrite w t) .status ≢ 9
 
 -- after a served checkpoint no main segment is in state 2 and every backup segment is free, so no write is refused with 9
 abbrev pub Frees : Device → Type 0
@@ -73,7 +73,7 @@ CheckpointFrees = InEveryHistory (λ s.
 -- 9 is given only where as many main segments are in state 2 as there are backup segments
 abbrev pub NineOnlyFull : Type 0
 NineOnlyFull = InEveryHistory (λ s.
-    (w : WriteArgs) (t : Trace) (j : ℕ) → outcome (s .device) (callWrite w t j) .status ≡ 9 → inBackup (s .device) ≡ s .device .layout .backups)
+    (w : WriteArgs) (t : Trace) → outcome (s .device) (callWrite w t) .status ≡ 9 → inBackup (s .device) ≡ s .device .layout .backups)
 
 -- a call is a copying write: it must copy its main segment first
 abbrev pub isCopying : Session → Image → CallArgs → Bool
@@ -93,13 +93,13 @@ copyingWrites s (c ∷ cs) =
 abbrev pub SinceOpening : (Device → ℕ → Type 0) → Type 0
 SinceOpening P =
     (l : Layout) (I : Image) (t : Trace) → Bytes I → openStatus l I t ≡ 0
-    → (cs : List Call) → AllPermitted (start l I t) cs → checkpoints (start l I t) cs ≡ 0
+    → (cs : List Call) → AllPermitted cs → checkpoints (start l I t) cs ≡ 0
     → P (run (start l I t) cs .device) (mainsInBackup l (activeState I) + copyingWrites (start l I t) cs)
 
 abbrev pub SinceCheckpoint : (Device → ℕ → Type 0) → Type 0
 SinceCheckpoint P = InEveryHistory (λ s.
     (t : Trace) → outcome (s .device) (callCheckpoint t) .status ≡ 0
-    → (cs : List Call) → AllPermitted (step s (callCheckpoint t)) cs → checkpoints (step s (callCheckpoint t)) cs ≡ 0
+    → (cs : List Call) → AllPermitted cs → checkpoints (step s (callCheckpoint t)) cs ≡ 0
     → P (run (step s (callCheckpoint t)) cs .device) (copyingWrites (step s (callCheckpoint t)) cs))
 
 -- n main segments are in state 2, and n backup segments in use: neither an opening nor a refused call changes that

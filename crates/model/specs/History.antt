@@ -13,25 +13,23 @@ use Rattle.model.specs.Ops.{opNumbers, Ops, Trace, written}
 use Rattle.model.specs.Outcome.{Outcome}
 use Rattle.model.specs.Replay.{replayOutcome, replayedOps}
 use Rattle.model.specs.Open.{openOutcome}
-use Rattle.model.specs.Write.{WriteArgs, writeOutcome, Chosen}
+use Rattle.model.specs.Write.{WriteArgs, writeOutcome}
 use Rattle.model.specs.Checkpoint.{checkpointOutcome}
 use Rattle.model.specs.Reference.{Model, CallArgs, openArgs, writeArgs, checkpointArgs, modelStep}
 
--- a call (the trade: openings, writes and saves): its arguments, which are all of it that the model is fed; its trace; and
--- the backup segment that a write takes if it needs a new one, which the other calls do not look at
+-- a call (the trade: openings, writes and saves): its arguments, which are all of it that the model is fed, and its trace
 pub record Call : Type 0 where
   pub args : CallArgs
   pub trace : Trace
-  pub choice : ℕ
 
 abbrev pub callOpen : Layout → Trace → Call
-callOpen l t = record { args = openArgs l; trace = t; choice = 0 }
+callOpen l t = record { args = openArgs l; trace = t }
 
-abbrev pub callWrite : WriteArgs → Trace → ℕ → Call
-callWrite w t j = record { args = writeArgs w; trace = t; choice = j }
+abbrev pub callWrite : WriteArgs → Trace → Call
+callWrite w t = record { args = writeArgs w; trace = t }
 
 abbrev pub callCheckpoint : Trace → Call
-callCheckpoint t = record { args = checkpointArgs; trace = t; choice = 0 }
+callCheckpoint t = record { args = checkpointArgs; trace = t }
 
 -- where a module stands in a history
 pub record Device : Type 0 where
@@ -50,14 +48,14 @@ pub record State : Type 0 where
   pub model : Model
 
 -- what a call answers on an image and a session
-abbrev pub answers : Session → Image → CallArgs → Trace → ℕ → Outcome
-answers s I (openArgs l) t j = openOutcome l I t
-answers s I (writeArgs w) t j = writeOutcome s I w j t
-answers s I checkpointArgs t j = checkpointOutcome s I t
+abbrev pub answers : Session → Image → CallArgs → Trace → Outcome
+answers s I (openArgs l) t = openOutcome l I t
+answers s I (writeArgs w) t = writeOutcome s I w t
+answers s I checkpointArgs t = checkpointOutcome s I t
 
 -- and where a module stands
 abbrev pub outcome : Device → Call → Outcome
-outcome d c = answers (d .session) (d .image) (c .args) (c .trace) (c .choice)
+outcome d c = answers (d .session) (d .image) (c .args) (c .trace)
 
 -- the part of the trace that holds the reported operations O, which a call leaves on the trace t: it is `encode O` whatever t is
 -- (`reported-is`)
@@ -115,15 +113,15 @@ start l I t = record {
   model = record { working = checkpointBytes l I (activeLine I); checkpoint = checkpointBytes l I (activeLine I) };
 }
 
--- what is asked of a call: a write's bytes are bytes, and the backup segment that it takes is a permitted choice
-abbrev pub PermittedOn : Session → Image → CallArgs → Trace → ℕ → Type 0
-PermittedOn s I (openArgs l) t j = Unit {0}
-PermittedOn s I (writeArgs w) t j = Bytes (w .bytes) × Chosen s I w t j
-PermittedOn s I checkpointArgs t j = Unit {0}
+-- what is asked of a call: a write's bytes are bytes
+abbrev pub PermittedArgs : CallArgs → Type 0
+PermittedArgs (openArgs l) = Unit {0}
+PermittedArgs (writeArgs w) = Bytes (w .bytes)
+PermittedArgs checkpointArgs = Unit {0}
 
-abbrev pub Permitted : Device → Call → Type 0
-Permitted d c = PermittedOn (d .session) (d .image) (c .args) (c .trace) (c .choice)
+abbrev pub Permitted : Call → Type 0
+Permitted c = PermittedArgs (c .args)
 
-abbrev pub AllPermitted : State → List Call → Type 0
-AllPermitted s [] = Unit {0}
-AllPermitted s (c ∷ cs) = Permitted (s .device) c × AllPermitted (step s c) cs
+abbrev pub AllPermitted : List Call → Type 0
+AllPermitted [] = Unit {0}
+AllPermitted (c ∷ cs) = Permitted c × AllPermitted cs

@@ -54,8 +54,8 @@ numbers (e ∷ es) = e .0 ∷ numbers es
 pub record Knows : Type 0 where
   pub format : (l : Layout) (I : Image) → numbers (sizeErrors l I) ≡ 1 ∷ 2 ∷ []
   pub opening : (l : Layout) (I : Image) (t : Trace) → numbers (openErrors l I t) ≡ 1 ∷ 2 ∷ 3 ∷ 4 ∷ 11 ∷ []
-  pub write : (s : Session) (I : Image) (w : WriteArgs) (j : ℕ) (t : Trace)
-      → numbers (writeErrors s I w j t) ≡ 1 ∷ 2 ∷ 3 ∷ 4 ∷ 5 ∷ 6 ∷ 7 ∷ 8 ∷ 9 ∷ 11 ∷ []
+  pub write : (s : Session) (I : Image) (w : WriteArgs) (t : Trace)
+      → numbers (writeErrors s I w t) ≡ 1 ∷ 2 ∷ 3 ∷ 4 ∷ 5 ∷ 6 ∷ 7 ∷ 8 ∷ 9 ∷ 11 ∷ []
   pub checkpoint : (s : Session) (I : Image) (t : Trace) → numbers (checkpointErrors s I t) ≡ 1 ∷ 2 ∷ 3 ∷ 4 ∷ 5 ∷ 10 ∷ 11 ∷ []
   pub replay : (I : Image) (t : Trace) (n : ℕ) → numbers (replayErrors I t n) ≡ 2 ∷ 12 ∷ []
   pub read : (l : Layout) (I : Image) (i b : ℕ) → numbers (readErrors l I i b) ≡ 1 ∷ 2 ∷ 3 ∷ 4 ∷ 6 ∷ 7 ∷ []
@@ -88,6 +88,6 @@ LowestGiven = (k : ℕ) (es : Errors) → Ascending k es → (n : ℕ) → Appli
 
 abbrev pub AllAscend : Type 0
 AllAscend =
-    (l : Layout) (s : Session) (I : Image) (w : WriteArgs) (i b j n : ℕ) (t : Trace)
-    → Ascending 0 (sizeErrors l I) × Ascending 0 (openErrors l I t) × Ascending 0 (readErrors l I i b) × Ascending 0 (writeErrors s I w j t)
+    (l : Layout) (s : Session) (I : Image) (w : WriteArgs) (i b n : ℕ) (t : Trace)
+    → Ascending 0 (sizeErrors l I) × Ascending 0 (openErrors l I t) × Ascending 0 (readErrors l I i b) × Ascending 0 (writeErrors s I w t)
     × Ascending 0 (checkpointErrors s I t) × Ascending 0 (replayErrors I t n)

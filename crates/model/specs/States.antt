@@ -38,7 +38,7 @@ pub record StatesFollow : Type 0 where
   pub opening : (l : Layout) (I : Image) (t : Trace) → Bytes I → openStatus l I t ≡ 0
       → (i : ℕ) → i < l .mains → activeState (openedImage l I t) i ≡ activeState I i
   pub calls : InEveryHistory (λ s.
-      (c : Call) → Permitted (s .device) c → (i : ℕ) → i < s .device .layout .mains → activeState (step s c .device .image) i ≡ stateAfter (s .device) c i)
+      (c : Call) → Permitted c → (i : ℕ) → i < s .device .layout .mains → activeState (step s c .device .image) i ≡ stateAfter (s .device) c i)
 
 -- ---- empty stays empty
 
@@ -61,5 +61,5 @@ pub record Empty (d : Device) (i : ℕ) : Type 0 where
 -- such a segment stays so until a write to it is served, and its checkpoint read gives nothing
 abbrev pub EmptyStays : Type 0
 EmptyStays = InEveryHistory (λ s.
-    (i : ℕ) → i < s .device .layout .mains → Empty (s .device) i → (cs : List Call) → AllPermitted s cs → writesTo i s cs ≡ 0
+    (i : ℕ) → i < s .device .layout .mains → Empty (s .device) i → (cs : List Call) → AllPermitted cs → writesTo i s cs ≡ 0
     → Empty (run s cs .device) i × ((b : ℕ) → checkpointBlock (s .device .layout) (run s cs .device .image) i b ≡ []))

@@ -39,7 +39,7 @@ TraceSuffices = (l : Layout) (I : Image) (t : Trace) → opNumbers * mostOpenOps
 
 abbrev pub WriteTraceSuffices : Type 0
 WriteTraceSuffices =
-    (s : Session) (I : Image) (w : WriteArgs) (j : ℕ) (t : Trace) → opNumbers * mostWriteOps (s .layout) ≤ length t → writeStatus s I w j t ≢ 11
+    (s : Session) (I : Image) (w : WriteArgs) (t : Trace) → opNumbers * mostWriteOps (s .layout) ≤ length t → writeStatus s I w t ≢ 11
 
 abbrev pub CheckpointTraceSuffices : Type 0
 CheckpointTraceSuffices =

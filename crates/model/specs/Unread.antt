@@ -10,7 +10,7 @@ use Rattle.model.specs.Layout.{wordSize, lineSize, metadataSize, epochAt
 use Rattle.model.specs.Container.{inactiveLine, checkpointBytes}
 use Rattle.model.specs.Ops.{Trace}
 use Rattle.model.specs.Open.{openOutcome}
-use Rattle.model.specs.Write.{WriteArgs, writeOutcome, Chosen}
+use Rattle.model.specs.Write.{WriteArgs, writeOutcome}
 use Rattle.model.specs.Checkpoint.{checkpointOutcome}
 use Rattle.model.specs.Reads.{readStatus, workingPart, checkpointPart, workingBlock, checkpointBlock}
 use Rattle.model.specs.Same.{sameOutcome}
@@ -26,10 +26,10 @@ pub record AgreeNamed (I J : Image) : Type 0 where
   pub bytes : (i : ℕ) → Outside (epochAt + wordSize) mainsAt i → Outside headerEnd statesAt i → Outside pairsEnd metadataSize i
       → Outside (inactiveLine I) (inactiveLine I + lineSize) i → byteAt I i ≡ byteAt J i
 
--- what every call answers on two such images; a write whatever backup segment it takes
+-- what every call answers on two such images
 pub record SameAnswers (I J : Image) : Type 0 where
   pub opening : (l : Layout) (t : Trace) → openOutcome l I t ≡ openOutcome l J t
-  pub write : (s : Session) (w : WriteArgs) (j : ℕ) (t : Trace) → Chosen s I w t j → writeOutcome s I w j t ≡ writeOutcome s J w j t
+  pub write : (s : Session) (w : WriteArgs) (t : Trace) → writeOutcome s I w t ≡ writeOutcome s J w t
   pub checkpoint : (s : Session) (t : Trace) → checkpointOutcome s I t ≡ checkpointOutcome s J t
   -- the reads: their number, the parts that they find, and the bytes there
   pub read : (l : Layout) (i b : ℕ) → readStatus l I i b ≡ readStatus l J i b

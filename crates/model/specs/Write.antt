@@ -1,8 +1,5 @@
--- Write (SPECIFICATION 10). The backup segment that a write takes when it needs a new one is left open: it is the
--- argument j of the plan and of what is made of the plan, `Chosen` says what holds of it, and all else follows from it.
--- Assumes nothing.
+-- Write (SPECIFICATION 10). Assumes nothing.
 use Prim.Native.Nat.{ℕ, _+_, _-_, _*_, _/_}
-use mathlib.Core.Path.{_≡_}
 use mathlib.Core.Bool.{Bool, true, false, not, cond, _&&_, _||_}
 use mathlib.Core.List.{List, [], _∷_, _++_}
 use lib.Dec.{leb, ltb, eqb}
@@ -14,7 +11,7 @@ use Rattle.model.specs.declared.Plan.the-variants.{NoCopy, OwnBackup, Ne
 use Rattle.model.specs.Words.{Image, byteAt, wordOf, overlay}
 use Rattle.model.specs.Layout.{wordSize, blockSize, pairsAt, ssMain, ssBackup, mainAt, backupAt}
 use Rattle.model.specs.Status.{Errors, firstError}
-use Rattle.model.specs.Container.{activeState, activeLine, backupToMain, isPaired, pairedBackup, Free, anyFree, mainErrors, blockErrors}
+use Rattle.model.specs.Container.{activeState, activeLine, backupToMain, isPaired, pairedBackup, anyFree, newBackup, mainErrors, blockErrors}
 use Rattle.model.specs.Session.{dirtySegment, dirtyWord, withDirty, contextErrors}
 use Rattle.model.specs.Ops.{clwb, sfence, Ops, Trace, traceErrors, stores, persistCopy, copySegment, eachDirty, wordPlace, storeByte}
 use Rattle.model.specs.Outcome.{Outcome, outcomeOf}
@@ -38,12 +35,12 @@ needsCopy s I i = not (dirtySegment s i) && eqb (activeState I i) ssMain
 unfoldable pub needsBackup : Session → Image → ℕ → Bool
 needsBackup s I i = needsCopy s I i && not (isPaired (s .layout) (backupToMain I) i)
 
--- the plan of the copy: none; to its own backup segment; to the new one j; or none is free
-unfoldable pub copyPlan : Session → Image → ℕ → ℕ → Plan
-copyPlan s I i j =
+-- the plan of the copy: none; to its own backup segment; to a new one; or none is free
+unfoldable pub copyPlan : Session → Image → ℕ → Plan
+copyPlan s I i =
     cond (needsCopy s I i)
     (cond (isPaired (s .layout) (backupToMain I) i) (OwnBackup (pairedBackup (s .layout) (backupToMain I) i))
-    (cond (anyFree (s .layout) (activeState I) (backupToMain I)) (NewBackup j) NoneFree))
+    (cond (anyFree (s .layout) (activeState I) (backupToMain I)) (NewBackup (newBackup (s .layout) (activeState I) (backupToMain I))) NoneFree))
     NoCopy
 
 -- the plan copies the segment
@@ -104,9 +101,9 @@ spanStores I a bs = stores (spanWords a (length bs)) (wordPlace a) (λ k. wordOf
 unfoldable pub spanOps : Layout → Image → WriteArgs → Ops
 spanOps l I w = spanStores I (spanAt l w) (w .bytes)
 
-unfoldable pub writeOps : Session → Image → WriteArgs → ℕ → Ops
-writeOps s I w j =
-    copyOnWriteOps (s .layout) I (dirtyWord s (w .main)) (w .main) (copyPlan s I (w .main) j) ++ spanOps (s .layout) I w
+unfoldable pub writeOps : Session → Image → WriteArgs → Ops
+writeOps s I w =
+    copyOnWriteOps (s .layout) I (dirtyWord s (w .main)) (w .main) (copyPlan s I (w .main)) ++ spanOps (s .layout) I w
 
 -- the session afterwards: a copy clears the segment's dirty blocks; then the segment and the blocks of the span are dirty
 unfoldable pub writeSession : Session → Image → WriteArgs → Session
@@ -135,19 +132,11 @@ earlyErrors s I w =
 abbrev pub lateErrors : Plan → Ops → Trace → Errors
 lateErrors p O t = backupErrors p ++ traceErrors O t
 
--- j stands here only through the plan, and neither whether that is `NoneFree` nor the number of operations depends on it
--- (write-status-chosen)
-abbrev pub writeErrors : Session → Image → WriteArgs → ℕ → Trace → Errors
-writeErrors s I w j t = earlyErrors s I w ++ lateErrors (copyPlan s I (w .main) j) (writeOps s I w j) t
+abbrev pub writeErrors : Session → Image → WriteArgs → Trace → Errors
+writeErrors s I w t = earlyErrors s I w ++ lateErrors (copyPlan s I (w .main)) (writeOps s I w) t
 
-unfoldable pub writeStatus : Session → Image → WriteArgs → ℕ → Trace → ℕ
-writeStatus s I w j t = firstError (writeErrors s I w j t)
+unfoldable pub writeStatus : Session → Image → WriteArgs → Trace → ℕ
+writeStatus s I w t = firstError (writeErrors s I w t)
 
-unfoldable pub writeOutcome : Session → Image → WriteArgs → ℕ → Trace → Outcome
-writeOutcome s I w j t = outcomeOf (writeStatus s I w j t) s (writeSession s I w) (writeOps s I w j)
-
--- what holds of the backup segment j that a served write takes: if it needs a new one, j is free by the active line
-abbrev pub Chosen : Session → Image → WriteArgs → Trace → ℕ → Type 0
-Chosen s I w t j =
-    writeStatus s I w j t ≡ 0 → needsBackup s I (w .main) ≡ true
-    → Free (s .layout) (activeState I) (backupToMain I) j
+unfoldable pub writeOutcome : Session → Image → WriteArgs → Trace → Outcome
+writeOutcome s I w t = outcomeOf (writeStatus s I w t) s (writeSession s I w) (writeOps s I w)
