@@ -13,10 +13,10 @@ use Rattle.model.specs.Words.{Image, Bytes}
 use Rattle.model.specs.Layout.{blockSize}
 use Rattle.model.specs.Ops.{Trace}
 use Rattle.model.specs.Open.{openStatus, openOutcome}
-use Rattle.model.specs.Write.{WriteArgs, writeStatus}
+use Rattle.model.specs.Write.{WriteArgs}
 use Rattle.model.specs.Crash.{CrashImage}
 use Rattle.model.specs.Reference.{Page, pageAt, pageBlock}
-use Rattle.model.specs.History.{Call, callWrite, Device, State, playedOps, step, Permitted, AllPermitted}
+use Rattle.model.specs.History.{Call, callWrite, Device, State, playedOps, Permitted, AllPermitted}
 use Rattle.model.specs.CrashSafety.{ReadsBlock, between, during, Window, MayShow, CutOpenings, again}
 
 -- ---- the pages that may be shown
@@ -60,11 +60,10 @@ one-more-opening d H J t p long cut rest = let c = again t p long cut rest in c
 
 -- ---- the calls of a history
 
--- a refused write is one of them, with any choice of backup segment
-pub refused-write-permitted : (d : Device) (w : WriteArgs) (t : Trace) (j : ℕ) → Bytes (w .bytes) → writeStatus (d .session) (d .image) w j t ≢ 0
-    → Permitted d (callWrite w t j)
-refused-write-permitted d w t j small refused = (small, λ h. absurd (refused h))
+-- every write of bytes is one of them, served or refused
+pub write-permitted : (w : WriteArgs) (t : Trace) → Bytes (w .bytes) → Permitted (callWrite w t)
+write-permitted w t small = small
 
--- a call is permitted by itself, served or refused
-pub call-permitted : (s : State) (c : Call) (cs : List Call) → Permitted (s .device) c → AllPermitted (step s c) cs → AllPermitted s (c ∷ cs)
-call-permitted s c cs here later = (here, later)
+-- and a call is permitted by itself, whatever comes before it
+pub call-permitted : (c : Call) (cs : List Call) → Permitted c → AllPermitted cs → AllPermitted (c ∷ cs)
+call-permitted c cs here later = (here, later)

@@ -4,25 +4,24 @@
 -- refused here, with the two sides that then differ.
 use Prim.Native.Nat.{ℕ, suc, _+_, _*_, _/_, _≤_}
 use mathlib.Core.Path.{_≡_, refl, sym, ap, _∙_}
-use mathlib.Core.Logic.{⊎-elim}
 use mathlib.Core.Bool.{true, false}
-use mathlib.Core.List.{[], _∷_, _++_}
+use mathlib.Core.List.{List, [], _∷_, _++_}
 use native.Mathlib.Omega.{arith}
-use lib.ListN.{length, take, drop, replicate, length-append, List·getD-append}
+use lib.ListN.{length, take, drop, getD, replicate, length-append, List·getD-append}
 use Rattle.model.specs.declared.Layout.{Layout}
-use Rattle.model.specs.declared.Plan.the-variants.{OwnBackup, NoneFree}
-use Rattle.model.specs.Range.{cat, allB, anyB}
+use Rattle.model.specs.declared.Plan.the-variants.{OwnBackup, NewBackup, NoneFree}
+use Rattle.model.specs.Range.{cat, allB, anyB, orNext, firstB}
 use Rattle.model.specs.Words.{Image, littleEndian, wordOf, wordAt, bytesOf, overlay}
 use Rattle.model.specs.Layout.{lineSize, unpaired, ssMain, layoutOf, inRange, sizesOk, imageSize, stateLine, epochAt}
 use Rattle.model.specs.Status.{firstError}
-use Rattle.model.specs.Container.{committedEpoch, activeLine, inactiveLine, isPaired, validMetadata, isFree, anyFree, byState, headerOk}
+use Rattle.model.specs.Container.{committedEpoch, activeLine, inactiveLine, isPaired, validMetadata, isFree, anyFree, newBackup, byState, headerOk}
 use Rattle.model.specs.Session.{bit, setBit, setBits, dirtyWord, dirtySegment, freshSession, zeroSession, withDirty, withCheckpoint, validSession}
 use Rattle.model.specs.Ops.{store, clwb, sfence, Trace, encode, traceShort, replay, stores, clwbs, putBlock, persistCopy, copySegment, storeByte}
 use Rattle.model.specs.Outcome.{outcomeOf}
 use Rattle.model.specs.Replay.{wellFormed, allWellFormed, replayCount, replayStatus}
 use Rattle.model.specs.Format.{container, formatted}
 use Rattle.model.specs.Open.{recoveryAction, actionOps, openStatus, openOutcome}
-use Rattle.model.specs.Write.{WriteArgs, writeArgsOf, needsCopy, needsBackup, copyPlan, pairOps, copyDirty, backupOps, stateOps, copyOnWriteOps, spanOps, writeOps, spanBad, writeStatus, Chosen}
+use Rattle.model.specs.Write.{WriteArgs, writeArgsOf, needsCopy, copyPlan, copyDirty, backupOps, stateOps, copyOnWriteOps, spanOps, spanBad}
 use Rattle.model.specs.Checkpoint.{flushDirty, statesOps, epochOps, checkpointOps}
 use Rattle.model.specs.Reads.{readStatus}
 use Rattle.model.specs.Crash.{KeepsDurable, Stage, CrashImage}
@@ -149,18 +148,22 @@ taken backups =
     container (layoutOf 2 backups 1) 0 (2 ∷ 1 ∷ replicate 62 0) (1 ∷ 1 ∷ replicate 62 0) (0 ∷ replicate 63 unpaired)
     (replicate (256 * (2 + backups)) 0)
 
-abbrev second : WriteArgs
-second = writeArgsOf 1 0 0 (7 ∷ [])
+-- with no other backup segment a write to the second main segment finds none free, and with another one it takes that
+pub none-free : (copyPlan (freshSession (layoutOf 2 1 1)) (taken 1) 1 ≡ NoneFree) × (copyPlan (freshSession (layoutOf 2 2 1)) (taken 2) 1 ≡ NewBackup 1)
+unfolding copyPlan needsCopy dirtySegment freshSession bit isPaired anyFree isFree newBackup anyB firstB orNext container bytesOf stateLine wordOf littleEndian
+none-free = (refl, refl)
 
--- with no other backup segment a write to the second main segment finds none free
-pub none-free : copyPlan (freshSession (layoutOf 2 1 1)) (taken 1) 1 0 ≡ NoneFree
-unfolding copyPlan needsCopy dirtySegment freshSession bit isPaired anyFree isFree anyB container bytesOf stateLine wordOf littleEndian
-none-free = refl
+-- states and pairs from a list
+abbrev from : List ℕ → ℕ → ℕ
+from xs i = getD xs i 0
 
--- and with another one it does not take that one
-pub taken-not-chosen : Chosen (freshSession (layoutOf 2 2 1)) (taken 2) second (replicate 129 0) 0 → ⊥
-unfolding writeStatus firstError sizesOk inRange imageSize headerOk validMetadata allB isPaired validSession spanBad traceShort writeOps copyOnWriteOps backupOps pairOps copySegment persistCopy putBlock stores clwbs cat stateOps spanOps copyPlan needsCopy needsBackup dirtySegment freshSession bit anyFree isFree anyB container bytesOf stateLine wordOf littleEndian
-taken-not-chosen c = ⊎-elim (λ e. omega (arith, e)) (λ k. k refl) (c refl refl .1)
+-- of four backup segments, whose main segments are in state 1 and in state 2 where they are paired: the lowest that is unpaired, though a
+-- lower one is free; where all are paired, the lowest whose main segment is in state 1; else none, which is their number
+pub new-lowest : (newBackup (layoutOf 4 4 1) (from (1 ∷ 2 ∷ 1 ∷ 1 ∷ [])) (from (0 ∷ 1 ∷ unpaired ∷ unpaired ∷ [])) ≡ 2)
+    × (newBackup (layoutOf 4 4 1) (from (2 ∷ 1 ∷ 2 ∷ 1 ∷ [])) (from (0 ∷ 3 ∷ 2 ∷ 1 ∷ [])) ≡ 1)
+    × (newBackup (layoutOf 4 4 1) (from (2 ∷ 2 ∷ 2 ∷ 2 ∷ [])) (from (0 ∷ 3 ∷ 2 ∷ 1 ∷ [])) ≡ 4)
+unfolding newBackup anyB firstB orNext
+new-lowest = (refl, refl, refl)
 
 -- ---- spans
 

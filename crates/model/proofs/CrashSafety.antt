@@ -8,7 +8,7 @@ use Rattle.model.specs.Ops.{Ops, Trace}
 use Rattle.model.specs.Open.{openStatus}
 use Rattle.model.specs.Crash.{CrashImage}
 use Rattle.model.specs.Reference.{CallArgs, openArgs, writeArgs, checkpointArgs}
-use Rattle.model.specs.History.{Call, State, step, run, start, PermittedOn, Permitted, AllPermitted}
+use Rattle.model.specs.History.{Call, State, step, run, start, PermittedArgs, Permitted, AllPermitted}
 use Rattle.model.specs.CrashSafety.{Moment, between, during, PermittedAt, playedAt, CrashModel, CutOpenings, none, again, CrashSafety, CrashSafetyWithin}
 use Rattle.model.proofs.Argument.Pages.{contentsOf}
 use Rattle.model.proofs.Argument.Stands.{Stands, Leaves, Argument, rest-crash}
@@ -18,21 +18,20 @@ use Rattle.model.proofs.Argument.CheckpointCall.{checkpoint-argument}
 use Rattle.model.proofs.Argument.Openings.{openings-keep, recovers, start-stands}
 
 -- EVERY CALL meets its argument
-pub argument : (s : State) → Stands s → (c : Call) → Permitted (s .device) c → Argument s c
+pub argument : (s : State) → Stands s → (c : Call) → Permitted c → Argument s c
 argument s st c = go (c .args)
   where
-    go : (a : CallArgs) → PermittedOn (s .device .session) (s .device .image) a (c .trace) (c .choice)
-        → Argument s (record { args = a; trace = c .trace; choice = c .choice })
-    go (openArgs k) h = open-argument s st k (c .trace) (c .choice)
-    go (writeArgs w) h = write-argument s st w (c .trace) (c .choice) (h .0) (h .1)
-    go checkpointArgs h = checkpoint-argument s st (c .trace) (c .choice)
+    go : (a : CallArgs) → PermittedArgs a → Argument s (record { args = a; trace = c .trace })
+    go (openArgs k) h = open-argument s st k (c .trace)
+    go (writeArgs w) h = write-argument s st w (c .trace) h
+    go checkpointArgs h = checkpoint-argument s st (c .trace)
 
-pub run-stands : (s : State) (cs : List Call) → Stands s → AllPermitted s cs → Stands (run s cs)
+pub run-stands : (s : State) (cs : List Call) → Stands s → AllPermitted cs → Stands (run s cs)
 unfolding run
 run-stands s [] st permitted = st
 run-stands s (c ∷ cs) st permitted = run-stands (step s c) cs (argument s st c (permitted .0) .stands) (permitted .1)
 
-pub history-stands : (l : Layout) (I : Image) (t : Trace) → Bytes I → openStatus l I t ≡ 0 → (cs : List Call) → AllPermitted (start l I t) cs → Stands (run (start l I t) cs)
+pub history-stands : (l : Layout) (I : Image) (t : Trace) → Bytes I → openStatus l I t ≡ 0 → (cs : List Call) → AllPermitted cs → Stands (run (start l I t) cs)
 history-stands l I t b h cs permitted = run-stands (start l I t) cs (start-stands l I t b h) permitted
 
 -- A CRASH at any moment

@@ -48,15 +48,15 @@ module _ (s : State) (st : Stands s) where
   in-use = in-use-counted (there .layout) _ _ (st .inv .recovers .fit .sizes) valid .0
 
   -- a write that is refused with 9 has the session of the last served call, so the module's states tell
-  nine-full : (w : WriteArgs) (t : Trace) (j : ℕ) → outcome there (callWrite w t j) .status ≡ 9 → inBackup there ≡ there .layout .backups
+  nine-full : (w : WriteArgs) (t : Trace) → outcome there (callWrite w t) .status ≡ 9 → inBackup there ≡ there .layout .backups
   unfolding writeOutcome outcomeOf
-  nine-full w t j h =
-      let q = session-known s st (λ x. writeStatus x (there .image) w j t) (zero-write (there .image) w j t) (λ x. omega (arith, h, x)) in
+  nine-full w t h =
+      let q = session-known s st (λ x. writeStatus x (there .image) w t) (zero-write (there .image) w t) (λ x. omega (arith, h, x)) in
       subst (λ (l : Layout). mainsInBackup l (activeState (there .image)) ≡ l .backups) (ap (λ (x : Session). x .layout) q ∙ st .sized)
-      (nine-exactly (there .session) (there .image) w j t .0 h .2)
+      (nine-exactly (there .session) (there .image) w t .0 h .2)
 
   no-nine : inBackup there < there .layout .backups → NoNine there
-  no-nine h w t j e = omega (arith, h, nine-full w t j e)
+  no-nine h w t e = omega (arith, h, nine-full w t e)
 
 pub nine-only-full : NineOnlyFull
 nine-only-full l I t b h cs permitted = nine-full _ (history-stands l I t b h cs permitted)
@@ -82,7 +82,7 @@ copied-served l s I (writeArgs w) st e inside h = go (needsCopy s I (w .main)) r
     go false c g = omega (arith, in-backup-same l (activeState I) st g)
 copied-served l s I checkpointArgs st e inside h = absurd (true≢false e)
 
-module _ (s : State) (st : Stands s) (c : Call) (p : Permitted (s .device) c) where
+module _ (s : State) (st : Stands s) (c : Call) (p : Permitted c) where
   abbrev d : Device
   d = s .device
 
@@ -90,11 +90,11 @@ module _ (s : State) (st : Stands s) (c : Call) (p : Permitted (s .device) c) wh
   write-inside : outcome d c .status ≡ 0 → (w : WriteArgs) → c .args ≡ writeArgs w → w .main < d .layout .mains
   unfolding writeOutcome outcomeOf writeStatus
   write-inside h w e =
-      let z : writeStatus (d .session) (d .image) w (c .choice) (c .trace) ≡ 0 =
-      subst (λ (a : CallArgs). answers (d .session) (d .image) a (c .trace) (c .choice) .status ≡ 0) e h in
+      let z : writeStatus (d .session) (d .image) w (c .trace) ≡ 0 =
+      subst (λ (a : CallArgs). answers (d .session) (d .image) a (c .trace) .status ≡ 0) e h in
       let q : d .session ≡ st .session =
-      session-known s st (λ x. writeStatus x (d .image) w (c .choice) (c .trace)) (zero-write (d .image) w (c .choice) (c .trace)) (λ x. omega arith) in
-      let m = leb-false (d .session .layout .mains) (w .main) (served-condition (writeErrors (d .session) (d .image) w (c .choice) (c .trace)) (omega arith) z 6) in
+      session-known s st (λ x. writeStatus x (d .image) w (c .trace)) (zero-write (d .image) w (c .trace)) (λ x. omega arith) in
+      let m = leb-false (d .session .layout .mains) (w .main) (served-condition (writeErrors (d .session) (d .image) w (c .trace)) (omega arith) z 6) in
       omega (arith, m, ap (λ (x : Session). x .layout .mains) q, ap (λ (x : Layout). x .mains) (st .sized))
 
   copied-step : (isCheckpoint (c .args) && served (outcome d c .status)) ≡ false
@@ -110,7 +110,7 @@ module _ (s : State) (st : Stands s) (c : Call) (p : Permitted (s .device) c) wh
           ∙ ap (λ (b : Bool). inBackup d + oneIf b) (sym (and-true (isCopying (d .session) (d .image) (c .args))))
       go false q e h = in-backup-same (d .layout) (activeState (d .image)) _ h ∙ rw (and-false (isCopying (d .session) (d .image) (c .args))) (omega arith)
 
-run-copied : (s : State) (cs : List Call) → Stands s → AllPermitted s cs → checkpoints s cs ≡ 0 → inBackup (run s cs .device) ≡ inBackup (s .device) + copyingWrites s cs
+run-copied : (s : State) (cs : List Call) → Stands s → AllPermitted cs → checkpoints s cs ≡ 0 → inBackup (run s cs .device) ≡ inBackup (s .device) + copyingWrites s cs
 unfolding run checkpoints copyingWrites
 run-copied s [] st permitted none = omega arith
 run-copied s (c ∷ cs) st permitted none =
@@ -162,7 +162,7 @@ module _ (s : State) (st : Stands s) (n : ℕ) (is : inBackup (s .device) ≡ n)
 
 -- what holds there holds with n counted from the opening, and from a served checkpoint, which leaves none
 module _ (P : Device → ℕ → Type 0) (holds : (s : State) → Stands s → (n : ℕ) → inBackup (s .device) ≡ n → P (s .device) n) where
-  from-state : (s : State) → Stands s → (cs : List Call) → AllPermitted s cs → checkpoints s cs ≡ 0 → (n : ℕ) → inBackup (s .device) + copyingWrites s cs ≡ n → P (run s cs .device) n
+  from-state : (s : State) → Stands s → (cs : List Call) → AllPermitted cs → checkpoints s cs ≡ 0 → (n : ℕ) → inBackup (s .device) + copyingWrites s cs ≡ n → P (run s cs .device) n
   from-state s st cs permitted none n is = holds (run s cs) (run-stands s cs st permitted) n (run-copied s cs st permitted none ∙ is)
 
   since-opening : SinceOpening P

@@ -17,6 +17,7 @@ pub mod Replay
 pub mod Format
 pub mod Open
 pub mod Write
+pub mod NewBackup
 pub mod Span
 pub mod FreeBackups
 pub mod Checkpoint

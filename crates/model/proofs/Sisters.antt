@@ -46,7 +46,7 @@ opening-safety l I t b h H openings t′ ne =
     (recovers l H t′ P (starting-whole l I t b h) r ne, r .fit .bytes)
 
 -- every call raises the epoch by the checkpoints that it is
-run-epoch : (s : State) (cs : List Call) → Stands s → AllPermitted s cs → committedEpoch (run s cs .device .image) ≡ committedEpoch (s .device .image) + checkpoints s cs
+run-epoch : (s : State) (cs : List Call) → Stands s → AllPermitted cs → committedEpoch (run s cs .device .image) ≡ committedEpoch (s .device .image) + checkpoints s cs
 unfolding run checkpoints
 run-epoch s [] st permitted = omega arith
 run-epoch s (c ∷ cs) st permitted =

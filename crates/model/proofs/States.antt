@@ -57,26 +57,26 @@ empty-served s I (writeArgs w) i e d n = rw (ne-eqb i (w .main) (λ q. eqb-false
 empty-served s I checkpointArgs i e d n = ap₂ nextState e d ∙ next-clean
 
 -- a call that does not, or is refused, does not make it dirty
-not-dirtied : (s : Session) (I : Image) (a : CallArgs) (t : Trace) (j i : ℕ) → dirtySegment s i ≡ false
-    → (isWriteTo i a && served (answers s I a t j .status)) ≡ false → dirtySegment (answers s I a t j .session) i ≡ false
+not-dirtied : (s : Session) (I : Image) (a : CallArgs) (t : Trace) (i : ℕ) → dirtySegment s i ≡ false
+    → (isWriteTo i a && served (answers s I a t .status)) ≡ false → dirtySegment (answers s I a t .session) i ≡ false
 unfolding openOutcome writeOutcome checkpointOutcome outcomeOf
-not-dirtied s I (openArgs l) t j i d n = go (served (openStatus l I t))
+not-dirtied s I (openArgs l) t i d n = go (served (openStatus l I t))
   where
     go : (b : Bool) → dirtySegment (cond b (freshSession l) zeroSession) i ≡ false
     go true = fresh-segment l i
     go false = unfold zeroSession in (fresh-segment (layoutOf 0 0 0) i)
-not-dirtied s I (writeArgs w) t j i d n = go (served (writeStatus s I w j t)) n
+not-dirtied s I (writeArgs w) t i d n = go (served (writeStatus s I w t)) n
   where
     go : (b : Bool) → (eqb (w .main) i && b) ≡ false → dirtySegment (cond b (writeSession s I w) s) i ≡ false
     go true q = unfold writeSession in (dirty-segment-other s (w .main) (w .block) (spanBlocks w) _ i (λ e. eqb-false _ _ (sym (and-true _) ∙ q) (sym e)) ∙ d)
     go false q = d
-not-dirtied s I checkpointArgs t j i d n = go (served (checkpointStatus s I t))
+not-dirtied s I checkpointArgs t i d n = go (served (checkpointStatus s I t))
   where
     go : (b : Bool) → dirtySegment (cond b (withCheckpoint s) s) i ≡ false
     go true = checkpoint-segment s i
     go false = d
 
-run-empty : (s : State) (cs : List Call) (i : ℕ) → Stands s → AllPermitted s cs → i < s .device .layout .mains → Empty (s .device) i → writesTo i s cs ≡ 0
+run-empty : (s : State) (cs : List Call) (i : ℕ) → Stands s → AllPermitted cs → i < s .device .layout .mains → Empty (s .device) i → writesTo i s cs ≡ 0
     → Empty (run s cs .device) i
 unfolding run writesTo step deviceStep
 run-empty s [] i st permitted m e none = e
@@ -85,7 +85,7 @@ run-empty s (c ∷ cs) i st permitted m e none =
     run-empty (step s c) cs i (a .stands) (permitted .1) m
     (record {
       state = a .states i m ∙ go (served (outcome (s .device) c .status)) clear;
-      clean = not-dirtied (s .device .session) (s .device .image) (c .args) (c .trace) (c .choice) i (e .clean) clear;
+      clean = not-dirtied (s .device .session) (s .device .image) (c .args) (c .trace) i (e .clean) clear;
     })
     (omega (arith, none))
   where

@@ -24,7 +24,7 @@ ReadsFollowModel = InEveryHistory (λ s. Reads (s .device .layout) (s .device .i
 -- and plays all of it, or the first p where it is stopped there; so it is for openings before, in and after a history
 abbrev pub ReplayServesAll : Type 0
 ReplayServesAll =
-    (d : Device) (c : Call) → length (d .image) % lineSize ≡ 0 → Permitted c → (p : ℕ)
+    (d : Device) (c : Call) → length (d .image) % lineSize ≡ 0 → (p : ℕ)
     → (replayOutcome (d .image) (reported (outcome d c .ops) (c .trace)) p .status ≡ 0)
     × (calledOps d c p ≡ take p (outcome d c .ops))
 

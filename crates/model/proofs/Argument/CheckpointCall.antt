@@ -43,7 +43,7 @@ epoch-fits s I t b h =
     let ne : committedEpoch I ≢ 2 ^ 64 - 1 = eqb-false _ _ (served-condition (checkpointErrors s I t) (omega arith) h 10) in
     omega (arith, ne, word-lt (byteAt I) 0 b)
 
-module _ (s : State) (st : Stands s) (t : Trace) (j : ℕ) where
+module _ (s : State) (st : Stands s) (t : Trace) where
   abbrev d : Device
   d = s .device
 
@@ -54,7 +54,7 @@ module _ (s : State) (st : Stands s) (t : Trace) (j : ℕ) where
   σ = st .session
 
   abbrev c : Call
-  c = record { args = checkpointArgs; trace = t; choice = j }
+  c = record { args = checkpointArgs; trace = t }
 
   appends : checkpointStatus (d .session) (d .image) t ≡ 0 → Answered (outcome d c) true (withCheckpoint (d .session)) (checkpointOps (d .session) (d .image)) → Appends s c
   appends h a =
@@ -84,7 +84,7 @@ module _ (s : State) (st : Stands s) (t : Trace) (j : ℕ) where
             (checkpoint-crash (d .played) (d .durable) σ _ _ (st .bytes) inv p H fits x);
       }
 
-  pub checkpoint-argument : Argument s (record { args = checkpointArgs; trace = t; choice = j })
+  pub checkpoint-argument : Argument s (record { args = checkpointArgs; trace = t })
   unfolding checkpointOutcome modelStep
   checkpoint-argument =
       by-status s st c (checkpoint-outcome-ok (d .session) (d .image) t) (checkpointStatus (d .session) (d .image) t) (d .session) (withCheckpoint (d .session)) (checkpointOps (d .session) (d .image)) refl (inl refl) refl appends

@@ -39,7 +39,7 @@ fresh-sized l = (refl, refl)
 layout-path : (k l : Layout) → k .mains ≡ l .mains → k .backups ≡ l .backups → k .blocks ≡ l .blocks → k ≡ l
 layout-path k l p q r = λ i. record { mains = p i; backups = q i; blocks = r i }
 
-module _ (s : State) (st : Stands s) (k : Layout) (t : Trace) (j : ℕ) where
+module _ (s : State) (st : Stands s) (k : Layout) (t : Trace) where
   abbrev d : Device
   d = s .device
 
@@ -47,7 +47,7 @@ module _ (s : State) (st : Stands s) (k : Layout) (t : Trace) (j : ℕ) where
   I = imageOf (s .device)
 
   abbrev c : Call
-  c = record { args = openArgs k; trace = t; choice = j }
+  c = record { args = openArgs k; trace = t }
 
   abbrev E : Ops
   E = recoveryOps k I (activeLine I)
@@ -83,6 +83,6 @@ module _ (s : State) (st : Stands s) (k : Layout) (t : Trace) (j : ℕ) where
         crash = λ p H x. inl (reopen-crash k (d .played) (d .durable) (st .session) _ _ (st .bytes) inv p H x);
       }
 
-  pub open-argument : Argument s (record { args = openArgs k; trace = t; choice = j })
+  pub open-argument : Argument s (record { args = openArgs k; trace = t })
   unfolding openOutcome modelStep
   open-argument = by-status s st c (open-ok k (d .image) t) (openStatus k (d .image) t) zeroSession (freshSession k) (recoveryOps k (d .image) (activeLine (d .image))) refl (inr refl) refl appends

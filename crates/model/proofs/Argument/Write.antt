@@ -37,7 +37,8 @@ use Rattle.model.proofs.Argument.Copy.FirstPart.{Ready, Copying}
 use Rattle.model.proofs.Argument.Copy.NewBackup.{ready-new}
 use Rattle.model.proofs.Argument.Copy.OwnBackup.{ready-old}
 use Rattle.model.proofs.Argument.Copy.Crash.{copy-crash, state-clear, state-crash}
-use Rattle.model.proofs.Laws.Write.{copy-needed, plan-none, plan-own, plan-new}
+use Rattle.model.proofs.Laws.Write.{copy-needed, newOf, someFree, plan-none, plan-own, plan-new}
+use Rattle.model.proofs.Laws.NewBackup.{new-free}
 use Rattle.model.proofs.Argument.SpanWords.{SpanOk, span-within, span-inside, spanFirst, spanWide, span-bounds, span-puts, laid-outside}
 
 -- a write that copies, then marks: no block of the segment is dirty but those of its span
@@ -46,10 +47,10 @@ unfolding withDirty
 copied-session s i b c h = rw (getD-set-same (s .«dirty_blocks») i 0 0 h, set-set (s .«dirty_blocks») i 0 (setBits 0 b c))
 
 -- the span of a served write
-pub span-ok : (s : Session) (I : Image) (w : WriteArgs) (j : ℕ) (t : Trace) → Bytes (w .bytes) → writeStatus s I w j t ≡ 0 → SpanOk (s .layout) w
+pub span-ok : (s : Session) (I : Image) (w : WriteArgs) (t : Trace) → Bytes (w .bytes) → writeStatus s I w t ≡ 0 → SpanOk (s .layout) w
 unfolding writeStatus
-span-ok s I w j t small h =
-    let r = served-condition (writeErrors s I w j t) (omega arith) h in
+span-ok s I w t small h =
+    let r = served-condition (writeErrors s I w t) (omega arith) h in
     span-within (s .layout) w (leb-false _ _ (r 6)) (leb-false _ _ (r 7)) (r 8) small
 
 module _ (O : Ops) (I₀ : Image) (s : Session) (P W : Contents) (held : Bytes I₀) (inv : Invariant (s .layout) O (replay O I₀) s P W)
@@ -120,17 +121,17 @@ module _ (O : Ops) (I₀ : Image) (s : Session) (P W : Contents) (held : Bytes I
     copies : copies p ≡ true
     ready : Ready l I i backup (backupOps l I word i p ++ sfence ∷ [])
 
-  prepared : (j : ℕ) → needsCopy s I i ≡ true → (needsBackup s I i ≡ true → Free l (activeState I) (backupToMain I) j) → Prepared (copyPlan s I i j)
+  prepared : needsCopy s I i ≡ true → (needsBackup s I i ≡ true → someFree s I ≡ true) → Prepared (copyPlan s I i)
   unfolding backupOps
-  prepared j e free = go (isPaired l (backupToMain I) i) refl
+  prepared e free = go (isPaired l (backupToMain I) i) refl
     where
       sizes64 : (k : ℕ) → k < l .backups → k < 64
       sizes64 k h = omega (arith, inv .recovers .fit .sizes .1)
 
-      go : (b : Bool) → isPaired l (backupToMain I) i ≡ b → Prepared (copyPlan s I i j)
+      go : (b : Bool) → isPaired l (backupToMain I) i ≡ b → Prepared (copyPlan s I i)
       go true q =
           let p = paired-at l (backupToMain I) i q in
-          subst Prepared (sym (plan-own s I i j e q)) (record {
+          subst Prepared (sym (plan-own s I i e q)) (record {
             backup = pairedBackup l (backupToMain I) i;
             givable = givable-own e q;
             copies = refl;
@@ -138,17 +139,19 @@ module _ (O : Ops) (I₀ : Image) (s : Session) (P W : Contents) (held : Bytes I
                 (λ x h d. inv .twin i (pairedBackup l (backupToMain I) i) x (ok .main) (p .0) h (p .1) (unfold dirtyBlock in d));
           })
       go false q =
-          let f : Free l (activeState I) (backupToMain I) j = free (unfold needsBackup in (both e (ap not q))) in
-          subst Prepared (sym (plan-new s I i j e q f)) (record {
+          let n : needsBackup s I i ≡ true = unfold needsBackup in (both e (ap not q)) in
+          let j : ℕ = newOf s I in
+          let f : Free l (activeState I) (backupToMain I) j = new-free l (activeState I) (backupToMain I) (inv .recovers .holds .valid) (free n) in
+          subst Prepared (sym (plan-new s I i n (free n))) (record {
             backup = j;
             givable = givable-new j e q f;
             copies = refl;
             ready = ready-new l I i j small (inv .recovers .fit .long) (sizes64 j (f .0)) (omega (arith, i64)) (ok .main) (f .0);
           })
 
-  module _ (j : ℕ) (free : needsBackup s I i ≡ true → Free l (activeState I) (backupToMain I) j) where
+  module _ (free : needsBackup s I i ≡ true → someFree s I ≡ true) where
     abbrev plan : Plan
-    plan = copyPlan s I i j
+    plan = copyPlan s I i
 
     abbrev A : Ops
     A = backupOps l I word i plan ++ sfence ∷ []
@@ -157,11 +160,11 @@ module _ (O : Ops) (I₀ : Image) (s : Session) (P W : Contents) (held : Bytes I
     X = A ++ statePhase I i
 
     -- the operations, in either case
-    plain-ops : needsCopy s I i ≡ false → writeOps s I w j ≡ U
+    plain-ops : needsCopy s I i ≡ false → writeOps s I w ≡ U
     unfolding writeOps copyOnWriteOps
-    plain-ops e = rw (plan-none s I i j e)
+    plain-ops e = rw (plan-none s I i e)
 
-    copy-ops : Prepared plan → writeOps s I w j ≡ X ++ U
+    copy-ops : Prepared plan → writeOps s I w ≡ X ++ U
     unfolding writeOps
     copy-ops p = rw (copy-phases, p .copies)
 
@@ -180,15 +183,15 @@ module _ (O : Ops) (I₀ : Image) (s : Session) (P W : Contents) (held : Bytes I
     span-low k h = puts-clear (span-puts l I w ok small) k (inl (omega (arith, span-bounds l w ok)))
 
     -- the epoch's line is not stored to
-    pub write-low : (k : ℕ) → k < 64 → Clear k (writeOps s I w j)
+    pub write-low : (k : ℕ) → k < 64 → Clear k (writeOps s I w)
     write-low k h = go (needsCopy s I i) refl
       where
         span : Clear k U
         span = span-low k (omega arith)
 
-        go : (b : Bool) → needsCopy s I i ≡ b → Clear k (writeOps s I w j)
+        go : (b : Bool) → needsCopy s I i ≡ b → Clear k (writeOps s I w)
         go true e =
-            let p = prepared j e free in
+            let p = prepared e free in
             subst (λ (Y : Ops). Clear k Y) (sym (copy-ops p))
             (each-append (Misses k) X U
             (each-append (Misses k) A (statePhase I i) (p .ready .clear k (inl (omega arith)))
@@ -196,7 +199,7 @@ module _ (O : Ops) (I₀ : Image) (s : Session) (P W : Contents) (held : Bytes I
         go false e = subst (λ (Y : Ops). Clear k Y) (sym (plain-ops e)) span
 
     -- the state of the segment that is copied becomes 2, and all others stay
-    pub write-states : (u : ℕ) → u < l .mains → activeState (replay (O ++ writeOps s I w j) I₀) u ≡ cond (needsCopy s I i && eqb u i) ssBackup (activeState I u)
+    pub write-states : (u : ℕ) → u < l .mains → activeState (replay (O ++ writeOps s I w) I₀) u ≡ cond (needsCopy s I i && eqb u i) ssBackup (activeState I u)
     write-states u h = go (needsCopy s I i) refl
       where
         u64 : u < 64
@@ -206,16 +209,16 @@ module _ (O : Ops) (I₀ : Image) (s : Session) (P W : Contents) (held : Bytes I
         copied p (yes e) = rw (eq-eqb u i e) (subst (λ (k : ℕ). activeState (replay (O ++ X) I₀) k ≡ 2) (sym e) (state-two (cow p)))
         copied p (no e) = rw (ne-eqb u i e) (state-kept (cow p) u u64 e)
 
-        go : (b : Bool) → needsCopy s I i ≡ b → activeState (replay (O ++ writeOps s I w j) I₀) u ≡ cond (b && eqb u i) ssBackup (activeState I u)
+        go : (b : Bool) → needsCopy s I i ≡ b → activeState (replay (O ++ writeOps s I w) I₀) u ≡ cond (b && eqb u i) ssBackup (activeState I u)
         go true e =
-            let p = prepared j e free in
+            let p = prepared e free in
             ap (λ (Y : Ops). activeState (replay Y I₀) u) (ap (λ (Y : Ops). O ++ Y) (copy-ops p) ∙ sym (append-assoc O X U))
             ∙ low-states I₀ (O ++ X) U (λ k x. span-low k (omega arith)) u u64 ∙ copied p (ℕ-discrete u i)
         go false e =
             ap (λ (Y : Ops). activeState (replay (O ++ Y) I₀) u) (plain-ops e) ∙ low-states I₀ O U (λ k x. span-low k (omega arith)) u u64
 
     -- CRASHED: the same contents
-    pub write-crash : (n : ℕ) (H : Image) → CrashImage I₀ (O ++ take n (writeOps s I w j)) H → Recoverable l H P
+    pub write-crash : (n : ℕ) (H : Image) → CrashImage I₀ (O ++ take n (writeOps s I w)) H → Recoverable l H P
     write-crash n H crash = go (needsCopy s I i) refl
       where
         copied : Prepared plan → CrashImage I₀ (O ++ take n (X ++ U)) H → Recoverable l H P
@@ -229,20 +232,20 @@ module _ (O : Ops) (I₀ : Image) (s : Session) (P W : Contents) (held : Bytes I
             (crash-seq I₀ H O X U n x)
 
         go : (b : Bool) → needsCopy s I i ≡ b → Recoverable l H P
-        go true e = let p = prepared j e free in copied p (subst (λ (Y : Ops). CrashImage I₀ (O ++ take n Y) H) (copy-ops p) crash)
+        go true e = let p = prepared e free in copied p (subst (λ (Y : Ops). CrashImage I₀ (O ++ take n Y) H) (copy-ops p) crash)
         go false e = span-crash l O I₀ s P W held inv i (w .block) c (ok .main) (span-inside l w ok) (not-main e)
             U _ _ _ (span-puts l I w ok small) (span-bounds l w ok .0) (span-bounds l w ok .1) n H (subst (λ (Y : Ops). CrashImage I₀ (O ++ take n Y) H) (plain-ops e) crash)
 
     -- PLAYED WHOLE: the bytes are laid over the working contents
     pub write-done : (W′ : Contents) → ((u x : ℕ) → u < l .mains → x < segmentSize l → W′ u x ≡ overlay (byteAt I) (spanAt l w) (w .bytes) (mainAt l u + x))
-        → Invariant l (O ++ writeOps s I w j) (replay (O ++ writeOps s I w j) I₀) (writeSession s I w) P W′
+        → Invariant l (O ++ writeOps s I w) (replay (O ++ writeOps s I w) I₀) (writeSession s I w) P W′
     write-done W′ given = go (needsCopy s I i) refl
       where
         outside : (u x : ℕ) → u < l .mains → x < segmentSize l → (mainAt l u + x < spanFirst l w) ⊎ (spanFirst l w + spanWide l w ≤ mainAt l u + x) → W′ u x ≡ W u x
         outside u x h k y = given u x h k ∙ laid-outside l I w ok (mainAt l u + x) y ∙ inv .working u x h k
 
-        result : (Y : Ops) (t : Session) → Invariant l (O ++ Y) (replay (O ++ Y) I₀) t P W′ → writeOps s I w j ≡ Y → writeSession s I w ≡ t
-            → Invariant l (O ++ writeOps s I w j) (replay (O ++ writeOps s I w j) I₀) (writeSession s I w) P W′
+        result : (Y : Ops) (t : Session) → Invariant l (O ++ Y) (replay (O ++ Y) I₀) t P W′ → writeOps s I w ≡ Y → writeSession s I w ≡ t
+            → Invariant l (O ++ writeOps s I w) (replay (O ++ writeOps s I w) I₀) (writeSession s I w) P W′
         result Y t h p q = subst (λ (Z : Ops). Invariant l (O ++ Z) (replay (O ++ Z) I₀) (writeSession s I w) P W′) (sym p)
             (subst (λ (u : Session). Invariant l (O ++ Y) (replay (O ++ Y) I₀) u P W′) (sym q) h)
 
@@ -251,8 +254,8 @@ module _ (O : Ops) (I₀ : Image) (s : Session) (P W : Contents) (held : Bytes I
             (span-done l (O ++ X) I₀ (unmarked s i) P W held (after-copy p) i (w .block) c (ok .main) (span-inside l w ok) (turned p)
             U _ _ _ (span-puts l I w ok small) (span-bounds l w ok .0) (span-bounds l w ok .1) (omega (arith, room, length-set (s .«dirty_blocks») i 0)) W′ outside (λ u x h k y z. sym (given u x h k)))
 
-        go : (b : Bool) → needsCopy s I i ≡ b → Invariant l (O ++ writeOps s I w j) (replay (O ++ writeOps s I w j) I₀) (writeSession s I w) P W′
-        go true e = let p = prepared j e free in result (X ++ U) _ (copied p) (copy-ops p) (unfold writeSession in (rw e (sym (copied-session s i (w .block) c room))))
+        go : (b : Bool) → needsCopy s I i ≡ b → Invariant l (O ++ writeOps s I w) (replay (O ++ writeOps s I w) I₀) (writeSession s I w) P W′
+        go true e = let p = prepared e free in result (X ++ U) _ (copied p) (copy-ops p) (unfold writeSession in (rw e (sym (copied-session s i (w .block) c room))))
         go false e = result U (marked s i (w .block) c)
             (span-done l O I₀ s P W held inv i (w .block) c (ok .main) (span-inside l w ok) (not-main e)
             U _ _ _ (span-puts l I w ok small) (span-bounds l w ok .0) (span-bounds l w ok .1) room W′ outside (λ u x h k y z. sym (given u x h k)))

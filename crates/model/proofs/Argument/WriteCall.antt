@@ -11,14 +11,15 @@ use Rattle.model.specs.declared.Layout.{Layout}
 use Rattle.model.specs.declared.Session.{Session}
 use Rattle.model.specs.Words.{Image, byteAt, Bytes, overlay}
 use Rattle.model.specs.Layout.{ssBackup, segmentSize, mainAt}
-use Rattle.model.specs.Container.{activeState, backupToMain, Free}
+use Rattle.model.specs.Container.{activeState}
 use Rattle.model.specs.Session.{withDirty}
 use Rattle.model.specs.Ops.{Trace}
-use Rattle.model.specs.Write.{WriteArgs, needsCopy, needsBackup, spanAt, writeOps, writeSession, writeStatus, writeOutcome, Chosen}
+use Rattle.model.specs.Write.{WriteArgs, needsCopy, needsBackup, spanAt, writeOps, writeSession, writeStatus, writeOutcome}
 use Rattle.model.specs.Reference.{Page, Model, modelStep, writeArgs, pageAt}
 use Rattle.model.specs.History.{Call, Device, State, outcome}
 use Rattle.model.proofs.Laws.Open.{zero-write}
 use Rattle.model.proofs.Laws.Words.{overlay-sets, overlay-shift}
+use Rattle.model.proofs.Laws.Write.{someFree, served-free}
 use Rattle.model.proofs.Laws.Replay.{write-outcome-ok}
 use Rattle.model.proofs.Argument.Invariant.{Invariant}
 use Rattle.model.proofs.Argument.SpanWords.{SpanOk}
@@ -38,7 +39,7 @@ write-sized : (s : Session) (I : Image) (w : WriteArgs) → (writeSession s I w 
 unfolding writeSession withDirty
 write-sized s I w = (refl, length-set (s .«dirty_blocks») (w .main) _)
 
-module _ (s : State) (st : Stands s) (w : WriteArgs) (t : Trace) (j : ℕ) (small : Bytes (w .bytes)) (chosen : Chosen (s .device .session) (s .device .image) w t j) where
+module _ (s : State) (st : Stands s) (w : WriteArgs) (t : Trace) (small : Bytes (w .bytes)) where
   abbrev d : Device
   d = s .device
 
@@ -52,7 +53,7 @@ module _ (s : State) (st : Stands s) (w : WriteArgs) (t : Trace) (j : ℕ) (smal
   σ = st .session
 
   abbrev c : Call
-  c = record { args = writeArgs w; trace = t; choice = j }
+  c = record { args = writeArgs w; trace = t }
 
   abbrev page : Page
   page = sets (s .model .working) (pageAt l (w .main) (w .block) + w .offset) (w .bytes)
@@ -70,18 +71,18 @@ module _ (s : State) (st : Stands s) (w : WriteArgs) (t : Trace) (j : ℕ) (smal
       place : ℕ
       place = 256 * (u * l .blocks) + x
 
-  appends : writeStatus (d .session) (d .image) w j t ≡ 0 → Answered (outcome d c) true (writeSession (d .session) (d .image) w) (writeOps (d .session) (d .image) w j) → Appends s c
+  appends : writeStatus (d .session) (d .image) w t ≡ 0 → Answered (outcome d c) true (writeSession (d .session) (d .image) w) (writeOps (d .session) (d .image) w) → Appends s c
   appends h a =
-      let e : d .session ≡ σ = session-known s st (λ x. writeStatus x (d .image) w j t) (zero-write (d .image) w j t) (λ x. omega arith) in
+      let e : d .session ≡ σ = session-known s st (λ x. writeStatus x (d .image) w t) (zero-write (d .image) w t) (λ x. omega arith) in
       let inv : Invariant (σ .layout) (d .played) I σ (checkpointOf s) (workingOf s) = inv-at s st (σ .layout) (st .sized) in
-      let free : needsBackup σ I (w .main) ≡ true → Free (σ .layout) (activeState I) (backupToMain I) j =
-      subst₂ (λ (x : Session) (J : Image). needsBackup x J (w .main) ≡ true → Free (x .layout) (activeState J) (backupToMain J) j) e (st .image) (chosen h) in
-      let ok : SpanOk (σ .layout) w = span-ok σ I w j t small (subst₂ (λ (x : Session) (J : Image). writeStatus x J w j t ≡ 0) e (st .image) h) in
+      let z : writeStatus σ I w t ≡ 0 = subst₂ (λ (x : Session) (J : Image). writeStatus x J w t ≡ 0) e (st .image) h in
+      let free : needsBackup σ I (w .main) ≡ true → someFree σ I ≡ true = served-free σ I w t z in
+      let ok : SpanOk (σ .layout) w = span-ok σ I w t small z in
       let given = subst (λ (k : Layout). (u x : ℕ) → u < k .mains → x < segmentSize k → contentsOf l page u x ≡ overlay (byteAt I) (spanAt k w) (w .bytes) (mainAt k u + x))
       (sym (st .sized)) (laid-page (subst (λ (k : Layout). SpanOk k w) (st .sized) ok)) in
       record {
-        ops = writeOps σ I w j;
-        opsAre = a .ops ∙ ap₂ (λ (x : Session) (J : Image). writeOps x J w j) e (st .image);
+        ops = writeOps σ I w;
+        opsAre = a .ops ∙ ap₂ (λ (x : Session) (J : Image). writeOps x J w) e (st .image);
         model = record { working = page; checkpoint = s .model .checkpoint };
         modelIs = ap (λ (b : Bool). modelStep l (writeArgs w) b (s .model)) (a .status) ∙ model-write l w (s .model);
         layout = σ .layout;
@@ -92,14 +93,14 @@ module _ (s : State) (st : Stands s) (w : WriteArgs) (t : Trace) (j : ℕ) (smal
         known = inl (a .session ∙ ap₂ (λ (x : Session) (J : Image). writeSession x J w) e (st .image));
         wholeWorking = length-sets (s .model .working) (pageAt l (w .main) (w .block) + w .offset) (w .bytes) ∙ st .wholeWorking;
         wholeCheckpoint = st .wholeCheckpoint;
-        inv = write-done (d .played) (d .durable) σ _ _ (st .bytes) inv w ok (st .wide) j free (contentsOf l page) given;
-        epoch = low-epoch (d .durable) (d .played) (writeOps σ I w j) (write-low (d .played) (d .durable) σ _ _ (st .bytes) inv w ok (st .wide) j free) ∙ omega arith;
-        states = λ i h. write-states (d .played) (d .durable) σ _ _ (st .bytes) inv w ok (st .wide) j free i h
+        inv = write-done (d .played) (d .durable) σ _ _ (st .bytes) inv w ok (st .wide) free (contentsOf l page) given;
+        epoch = low-epoch (d .durable) (d .played) (writeOps σ I w) (write-low (d .played) (d .durable) σ _ _ (st .bytes) inv w ok (st .wide) free) ∙ omega arith;
+        states = λ i h. write-states (d .played) (d .durable) σ _ _ (st .bytes) inv w ok (st .wide) free i h
             ∙ sym (rw (a .status) (ap₂ (λ (x : Session) (J : Image). cond (needsCopy x J (w .main) && eqb i (w .main)) ssBackup (activeState J i)) e (st .image)));
-        crash = λ p H x. inl (write-crash (d .played) (d .durable) σ _ _ (st .bytes) inv w ok (st .wide) j free p H x);
+        crash = λ p H x. inl (write-crash (d .played) (d .durable) σ _ _ (st .bytes) inv w ok (st .wide) free p H x);
       }
 
-  pub write-argument : Argument s (record { args = writeArgs w; trace = t; choice = j })
+  pub write-argument : Argument s (record { args = writeArgs w; trace = t })
   unfolding writeOutcome modelStep
   write-argument =
-      by-status s st c (write-outcome-ok (d .session) (d .image) w t j chosen) (writeStatus (d .session) (d .image) w j t) (d .session) (writeSession (d .session) (d .image) w) (writeOps (d .session) (d .image) w j) refl (inl refl) refl appends
+      by-status s st c (write-outcome-ok (d .session) (d .image) w t) (writeStatus (d .session) (d .image) w t) (d .session) (writeSession (d .session) (d .image) w) (writeOps (d .session) (d .image) w) refl (inl refl) refl appends

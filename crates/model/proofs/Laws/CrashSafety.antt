@@ -51,10 +51,10 @@ module _ (l : Layout) (I : Image) (i b : ℕ) where
   read-seven h = leb-true _ _ (given-condition 7 (readErrors l I i b) (omega arith) h)
 
 -- a write: 9 only if it needs a new backup segment and none is free by the active line
-module _ (s : Session) (I : Image) (w : WriteArgs) (j : ℕ) (t : Trace) (h : writeStatus s I w j t ≡ 9) where
+module _ (s : Session) (I : Image) (w : WriteArgs) (t : Trace) (h : writeStatus s I w t ≡ 9) where
   nine : (needsBackup s I (w .main) && not (anyFree (s .layout) (activeState I) (backupToMain I))) ≡ true
   unfolding writeStatus
-  nine = sym (plan-none-free s I (w .main) j) ∙ given-condition 9 (writeErrors s I w j t) (omega arith) h
+  nine = sym (plan-none-free s I (w .main)) ∙ given-condition 9 (writeErrors s I w t) (omega arith) h
 
   pub nine-needs : needsBackup s I (w .main) ≡ true
   nine-needs = and-left _ _ nine

@@ -120,9 +120,9 @@ module _ (s : Session) (I : Image) (w : WriteArgs) (early : firstError (earlyErr
           any-free l _ _ .1 (pairedBackup l (backupToMain I) i, (p .0, inr (λ two. let q = ap (activeState I) (p .1) in omega (arith, one, q, two)))) in
           absurd (true≢false (sym some ∙ free-is ∙ ap not f))
 
-  needs-free : (j : ℕ) → noneFree (copyPlan s I i j) ≡ (needsCopy s I i && full)
+  needs-free : noneFree (copyPlan s I i) ≡ (needsCopy s I i && full)
   unfolding needsBackup
-  needs-free j = plan-none-free s I i j ∙ go (needsCopy s I i) full refl refl
+  needs-free = plan-none-free s I i ∙ go (needsCopy s I i) full refl refl
     where
       go : (c f : Bool) → needsCopy s I i ≡ c → full ≡ f
           → ((needsCopy s I i && not (isPaired l (backupToMain I) i)) && not (anyFree l (activeState I) (backupToMain I))) ≡ (c && f)
@@ -132,9 +132,9 @@ module _ (s : Session) (I : Image) (w : WriteArgs) (early : firstError (earlyErr
 
 pub nine-exactly : NineExactly
 unfolding writeStatus
-nine-exactly s I w j t = (given, gives)
+nine-exactly s I w t = (given, gives)
   where
-    given : firstError (earlyErrors s I w ++ lateErrors (copyPlan s I (w .main) j) (writeOps s I w j) t) ≡ 9
+    given : firstError (earlyErrors s I w ++ lateErrors (copyPlan s I (w .main)) (writeOps s I w) t) ≡ 9
         → (firstError (earlyErrors s I w) ≡ 0) × (needsCopy s I (w .main) ≡ true) × (mainsInBackup (s .layout) (activeState I) ≡ s .layout .backups)
     given h = go (ℕ-discrete (firstError (earlyErrors s I w)) 0)
       where
@@ -142,11 +142,11 @@ nine-exactly s I w j t = (given, gives)
             → (firstError (earlyErrors s I w) ≡ 0) × (needsCopy s I (w .main) ≡ true) × (mainsInBackup (s .layout) (activeState I) ≡ s .layout .backups)
         go (yes z) =
             let both : (needsCopy s I (w .main) && eqb (mainsInBackup (s .layout) (activeState I)) (s .layout .backups)) ≡ true =
-            sym (needs-free s I w z j) ∙ given-condition 9 _ (omega arith) h in
+            sym (needs-free s I w z) ∙ given-condition 9 _ (omega arith) h in
             (z, and-left _ _ both, eqb-true _ _ (and-right (needsCopy s I (w .main)) _ both))
         go (no n) = absurd (false≢true (given-condition 9 (earlyErrors s I w) (omega arith) (sym (before-refused (earlyErrors s I w) _ n) ∙ h)))
 
     gives : (firstError (earlyErrors s I w) ≡ 0) × (needsCopy s I (w .main) ≡ true) × (mainsInBackup (s .layout) (activeState I) ≡ s .layout .backups)
-        → firstError (earlyErrors s I w ++ lateErrors (copyPlan s I (w .main) j) (writeOps s I w j) t) ≡ 9
+        → firstError (earlyErrors s I w ++ lateErrors (copyPlan s I (w .main)) (writeOps s I w) t) ≡ 9
     gives (z, c, f) = after-served (earlyErrors s I w) _ (omega arith) z
-        ∙ sym (first-holds 9 _ _ (needs-free s I w z j ∙ both c (eq-eqb _ _ f)))
+        ∙ sym (first-holds 9 _ _ (needs-free s I w z ∙ both c (eq-eqb _ _ f)))

@@ -18,9 +18,9 @@ pub refused-session : (l : Layout) (I : Image) (t : Trace) → openStatus l I t 
 unfolding openOutcome outcomeOf
 refused-session l I t h = rw (ne-eqb _ _ h)
 
-pub zero-write : (I : Image) (w : WriteArgs) (j : ℕ) (t : Trace) → writeStatus zeroSession I w j t ≡ 1
+pub zero-write : (I : Image) (w : WriteArgs) (t : Trace) → writeStatus zeroSession I w t ≡ 1
 unfolding writeStatus zeroSession freshSession firstError sizesOk inRange
-zero-write I w j t = refl
+zero-write I w t = refl
 
 pub zero-checkpoint : (I : Image) (t : Trace) → checkpointStatus zeroSession I t ≡ 1
 unfolding checkpointStatus zeroSession freshSession firstError sizesOk inRange

@@ -1,14 +1,14 @@
 -- Laws of what is said of 0, 1, .. n - 1, and of tests in a row.
 use Prim.Native.Nat.{ℕ, zero, suc, _+_, _*_, _<_, _≤_}
 use mathlib.Core.Path.{_≡_, refl, sym, ap, ap₂, _∙_, subst}
-use mathlib.Core.Bool.{Bool, true, false, not, _&&_, _||_, true≢false}
+use mathlib.Core.Bool.{Bool, true, false, not, cond, _&&_, _||_, true≢false}
 use mathlib.Core.Logic.{_≢_}
 use mathlib.Core.List.{List, _++_}
 use native.Mathlib.Omega.{arith}
 use native.Mathlib.Decide.{decLt, ℕ-discrete}
 use native.Mathlib.Nat.{zero-mul, suc-mul, mul-one, mul-add}
 use lib.Bits.{bitOr, or-add-and, and-le-l, and-le-r}
-use lib.Dec.{eqb}
+use lib.Dec.{ltb, eqb}
 use lib.ListN.{length, length-append}
 use borrow.Author.Tests.{lt-ltb, le-ltb, eq-eqb, ne-eqb}
 use native.Mathlib.Numerals.{add-one}
@@ -128,6 +128,20 @@ first-none (suc n) P h =
     let e : firstB n P ≡ n = first-none n P (λ k l. h k (omega arith)) in
     rw (e, le-ltb n n (omega arith), h n (omega arith))
 
+-- where it is, for a loop that finds it
+pub first-found : (n : ℕ) (P : ℕ → Bool) (i : ℕ) → i < n → ((k : ℕ) → k < i → P k ≡ false) → P i ≡ true → firstB n P ≡ i
+unfolding firstB orNext
+first-found zero P i l h p = omega arith
+first-found (suc n) P i l h p =
+    elim (decLt i n) [
+      | yes b ↦ (let e : firstB n P ≡ i = first-found n P i b h p in rw (e, lt-ltb i n b))
+      | no b ↦
+          (let q : i ≡ n = omega arith in
+          let e : firstB n P ≡ n = first-none n P (λ k m. h k (omega arith)) in
+          let w : P n ≡ true = rw q at p in
+          rw (e, le-ltb n n (omega arith), w) (sym q))
+    ]
+
 -- where there is one, it is found
 pub first-some : (n : ℕ) (P : ℕ → Bool) → anyB n P ≡ true → (firstB n P < n) × (P (firstB n P) ≡ true)
 unfolding firstB anyB orNext
@@ -141,6 +155,41 @@ first-some (suc n) P h = go (anyB n P) (P n) refl refl (first-some n P)
         let f : firstB n P ≡ n = first-none n P (λ k l. any-none n P e k l) in
         rw (f, le-ltb n n (omega arith), q) (omega arith, q)
     go false false e q ih = absurd (true≢false (sym h ∙ ap₂ (λ (x y : Bool). x || y) e q))
+
+none-any : (n : ℕ) (P : ℕ → Bool) → anyB n P ≡ false → firstB n P ≡ n
+none-any n P h = first-none n P (any-none n P h)
+
+-- some number passes exactly if the first is below the bound
+pub any-first : (n : ℕ) (P : ℕ → Bool) → anyB n P ≡ ltb (firstB n P) n
+any-first n P = go (anyB n P) refl
+  where
+    go : (a : Bool) → anyB n P ≡ a → anyB n P ≡ ltb (firstB n P) n
+    go true e = e ∙ sym (lt-ltb _ _ (first-some n P e .0))
+    go false e = e ∙ sym (le-ltb (firstB n P) n (omega (arith, none-any n P e)))
+
+pub first-most : (n : ℕ) (P : ℕ → Bool) → firstB n P ≤ n
+first-most n P = go (anyB n P) refl
+  where
+    go : (a : Bool) → anyB n P ≡ a → firstB n P ≤ n
+    go true e = omega (arith, first-some n P e .0)
+    go false e = omega (arith, none-any n P e)
+
+-- no number before it passes
+pub first-before : (n : ℕ) (P : ℕ → Bool) (k : ℕ) → k < firstB n P → P k ≡ false
+unfolding firstB orNext
+first-before zero P k l = let z : ⊥ = omega arith in absurd z
+first-before (suc n) P k l = go (decLt (firstB n P) n) (first-before n P k)
+  where
+    last : Dec (k < n) → firstB n P ≡ n → (k < firstB n P → P k ≡ false) → (b : Bool) → P n ≡ b → k < cond b n (suc n) → P k ≡ false
+    last (yes m) q ih b e x = ih (omega (arith, q))
+    last (no m) q ih true e x = absurd (m x)
+    last (no m) q ih false e x = let same : k ≡ n = omega arith in rw same e
+
+    go : Dec (firstB n P < n) → (k < firstB n P → P k ≡ false) → P k ≡ false
+    go (yes h) ih = ih (rw (lt-ltb (firstB n P) n h) at l)
+    go (no h) ih =
+        let q : firstB n P ≡ n = omega (arith, first-most n P) in
+        last (decLt k n) q ih (P n) refl (rw (q, le-ltb n n (omega arith)) at l)
 
 pub first-ext : (n : ℕ) (P Q : ℕ → Bool) → ((i : ℕ) → i < n → P i ≡ Q i) → firstB n P ≡ firstB n Q
 unfolding firstB

@@ -32,7 +32,7 @@ pub knows : Knows
 knows = record {
   format = λ l I. refl;
   opening = λ l I t. refl;
-  write = λ s I w j t. refl;
+  write = λ s I w t. refl;
   checkpoint = λ s I t. refl;
   replay = λ I t n. refl;
   read = λ l I i b. refl;
@@ -65,4 +65,4 @@ lowest-given k (e ∷ es) a n p = go (e .1) p (lowest-given (e .0) es (a .1) n)
     go false p ih = ⊎-elim (λ x. absurd (false≢true (x .1))) (λ x. (inr (ih x .0), ih x .1)) p
 
 pub all-ascend : AllAscend
-all-ascend l s I w i b j n t = (omega arith, omega arith, omega arith, omega arith, omega arith, omega arith)
+all-ascend l s I w i b n t = (omega arith, omega arith, omega arith, omega arith, omega arith, omega arith)

@@ -16,13 +16,14 @@ use Rattle.model.specs.Container.{activeLine}
 use Rattle.model.specs.Ops.{Ops, Trace}
 use Rattle.model.specs.Outcome.{outcomeOf}
 use Rattle.model.specs.Open.{recoveryOps, openStatus, openOutcome}
-use Rattle.model.specs.Write.{WriteArgs, writeOps, writeErrors, writeStatus, writeOutcome, Chosen}
+use Rattle.model.specs.Write.{WriteArgs, writeOps, writeErrors, writeStatus, writeOutcome}
 use Rattle.model.specs.Checkpoint.{checkpointOps, checkpointStatus, checkpointOutcome}
 use Rattle.model.specs.Reference.{CallArgs, openArgs, writeArgs, checkpointArgs}
-use Rattle.model.specs.History.{Call, Device, answers, outcome, PermittedOn, Permitted}
+use Rattle.model.specs.History.{Call, Device, answers, outcome}
 use Rattle.model.specs.Sisters.{ReplayServesAll}
 use Rattle.model.proofs.Laws.Status.{served-condition}
 use Rattle.model.proofs.Laws.Write.{span-good}
+use Rattle.model.proofs.Laws.NewBackup.{new-free}
 use Rattle.model.proofs.Laws.Container.{container-then}
 use Rattle.model.proofs.Laws.Ops.{OpOk, AllOk, all-when, replay-serves, played-ops}
 use Rattle.model.proofs.Laws.Replay.WellFormed.{recovery-ok, write-ok, checkpoint-ok}
@@ -38,18 +39,18 @@ open-ok l I t =
     served-ok (length I / lineSize) (openStatus l I t) (recoveryOps l I (activeLine I))
     (λ h. subst (λ (n : ℕ). AllOk (n / lineSize) (recoveryOps l I (activeLine I))) (sym (container-then l I _ h .0 .long)) (recovery-ok l I (activeLine I)))
 
-pub write-outcome-ok : (s : Session) (I : Image) (w : WriteArgs) (t : Trace) (j : ℕ) → Chosen s I w t j → AllOk (length I / lineSize) (writeOutcome s I w j t .ops)
+pub write-outcome-ok : (s : Session) (I : Image) (w : WriteArgs) (t : Trace) → AllOk (length I / lineSize) (writeOutcome s I w t .ops)
 unfolding writeOutcome outcomeOf writeStatus
-write-outcome-ok s I w t j chosen = served-ok (length I / lineSize) (writeStatus s I w j t) (writeOps s I w j) go
+write-outcome-ok s I w t = served-ok (length I / lineSize) (writeStatus s I w t) (writeOps s I w) go
   where
-    go : writeStatus s I w j t ≡ 0 → AllOk (length I / lineSize) (writeOps s I w j)
+    go : writeStatus s I w t ≡ 0 → AllOk (length I / lineSize) (writeOps s I w)
     go h =
         let c = container-then (s .layout) I _ h in
-        let r = served-condition (writeErrors s I w j t) (omega arith) h in
+        let r = served-condition (writeErrors s I w t) (omega arith) h in
         let g = span-good (s .layout) w (r 8) in
-        subst (λ (n : ℕ). AllOk (n / lineSize) (writeOps s I w j)) (sym (c .0 .long))
-        (write-ok s I w j (c .0 .sizes .0 .1) (c .0 .sizes .1 .1) (leb-false _ _ (r 6)) (leb-false _ _ (r 7)) (g .0)
-        (g .2) (λ e. chosen h e .0))
+        subst (λ (n : ℕ). AllOk (n / lineSize) (writeOps s I w)) (sym (c .0 .long))
+        (write-ok s I w (c .0 .sizes .0 .1) (c .0 .sizes .1 .1) (leb-false _ _ (r 6)) (leb-false _ _ (r 7)) (g .0)
+        (g .2) (λ e. new-free (s .layout) _ _ (c .0 .valid) e .0))
 
 pub checkpoint-outcome-ok : (s : Session) (I : Image) (t : Trace) → AllOk (length I / lineSize) (checkpointOutcome s I t .ops)
 unfolding checkpointOutcome outcomeOf checkpointStatus
@@ -59,14 +60,13 @@ checkpoint-outcome-ok s I t =
 
 -- ---- what a call of a history writes
 
-pub call-ok : (d : Device) (c : Call) → Permitted d c → AllOk (length (d .image) / lineSize) (outcome d c .ops)
+pub call-ok : (d : Device) (c : Call) → AllOk (length (d .image) / lineSize) (outcome d c .ops)
 call-ok d c = go (c .args)
   where
-    go : (a : CallArgs) → PermittedOn (d .session) (d .image) a (c .trace) (c .choice)
-        → AllOk (length (d .image) / lineSize) (answers (d .session) (d .image) a (c .trace) (c .choice) .ops)
-    go (openArgs l) h = open-ok l (d .image) (c .trace)
-    go (writeArgs w) h = write-outcome-ok (d .session) (d .image) w (c .trace) (c .choice) (h .1)
-    go checkpointArgs h = checkpoint-outcome-ok (d .session) (d .image) (c .trace)
+    go : (a : CallArgs) → AllOk (length (d .image) / lineSize) (answers (d .session) (d .image) a (c .trace) .ops)
+    go (openArgs l) = open-ok l (d .image) (c .trace)
+    go (writeArgs w) = write-outcome-ok (d .session) (d .image) w (c .trace)
+    go checkpointArgs = checkpoint-outcome-ok (d .session) (d .image) (c .trace)
 
 pub replay-serves-all : ReplayServesAll
-replay-serves-all d c whole permitted p = (replay-serves _ _ _ p whole (call-ok d c permitted), played-ops _ _ _ p whole (call-ok d c permitted))
+replay-serves-all d c whole p = (replay-serves _ _ _ p whole (call-ok d c), played-ops _ _ _ p whole (call-ok d c))

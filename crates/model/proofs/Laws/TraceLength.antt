@@ -54,15 +54,15 @@ copy-most l word (OwnBackup j) = omega (arith, dirty-most word (l .blocks))
 copy-most l word (NewBackup j) = omega arith
 copy-most l word NoneFree = omega arith
 
-write-most : (s : Session) (I : Image) (w : WriteArgs) (j : ℕ) → spanBad (s .layout) w ≡ false
-    → length (writeOps s I w j) ≤ 36 * s .layout .blocks + 6 + blockWords * s .layout .blocks
-write-most s I w j h = omega (arith, span-most (s .layout) w h, length-write s I w j, copy-most (s .layout) (dirtyWord s (w .main)) (copyPlan s I (w .main) j))
+write-most : (s : Session) (I : Image) (w : WriteArgs) → spanBad (s .layout) w ≡ false
+    → length (writeOps s I w) ≤ 36 * s .layout .blocks + 6 + blockWords * s .layout .blocks
+write-most s I w h = omega (arith, span-most (s .layout) w h, length-write s I w, copy-most (s .layout) (dirtyWord s (w .main)) (copyPlan s I (w .main)))
 
 pub write-trace-suffices : WriteTraceSuffices
 unfolding writeStatus
-write-trace-suffices s I w j t h e =
-    long-enough (writeOps s I w j) t (omega (arith, write-most s I w j (given-earlier 11 (writeErrors s I w j t) (omega arith) e 8)))
-    (given-condition 11 (writeErrors s I w j t) (omega arith) e)
+write-trace-suffices s I w t h e =
+    long-enough (writeOps s I w) t (omega (arith, write-most s I w (given-earlier 11 (writeErrors s I w t) (omega arith) e 8)))
+    (given-condition 11 (writeErrors s I w t) (omega arith) e)
 
 -- ---- checkpoint
 

@@ -1,5 +1,4 @@
--- How many operations a write has, by its plan, and that the choice of a new backup segment changes neither their number nor the
--- status.
+-- How many operations a write has, by its plan.
 use Prim.Native.Nat.{ℕ, _+_, _*_}
 use mathlib.Core.Path.{_≡_, refl, sym, _∙_, ap, ap₂}
 use mathlib.Core.Bool.{Bool, true, false, cond}
@@ -56,34 +55,8 @@ module _ (s : Session) (I : Image) (w : WriteArgs) where
   unfolding spanOps
   length-span = length-stores _ _ _
 
-  abbrev planCount : Plan → ℕ
-  planCount p = copyCount (s .layout) (dirtyWord s (w .main)) p
-
-  pub length-write : (j : ℕ) → length (writeOps s I w j) ≡ copyCount (s .layout) (dirtyWord s (w .main)) (copyPlan s I (w .main) j) + spanCount (s .layout) w
+  pub length-write : length (writeOps s I w) ≡ copyCount (s .layout) (dirtyWord s (w .main)) (copyPlan s I (w .main)) + spanCount (s .layout) w
   unfolding writeOps
-  length-write j =
-      length-append (copyOnWriteOps (s .layout) I (dirtyWord s (w .main)) (w .main) (copyPlan s I (w .main) j)) (spanOps (s .layout) I w)
-      ∙ ap₂ _+_ (length-copy (s .layout) I (dirtyWord s (w .main)) (w .main) (copyPlan s I (w .main) j)) length-span
-
-  -- the choice of a new backup segment changes neither the number of operations nor the status
-  abbrev planBy : ℕ → Bool → Bool → Bool → Plan
-  planBy j a b c = cond a (cond b (OwnBackup (pairedBackup (s .layout) (backupToMain I) (w .main))) (cond c (NewBackup j) NoneFree)) NoCopy
-
-  plan-count-chosen : (j k : ℕ) → (planCount (copyPlan s I (w .main) j) ≡ planCount (copyPlan s I (w .main) k))
-      × (noneFree (copyPlan s I (w .main) j) ≡ noneFree (copyPlan s I (w .main) k))
-  unfolding copyPlan
-  plan-count-chosen j k =
-      go (needsCopy s I (w .main)) (isPaired (s .layout) (backupToMain I) (w .main)) (anyFree (s .layout) (activeState I) (backupToMain I))
-    where
-      go : (a b c : Bool) → (planCount (planBy j a b c) ≡ planCount (planBy k a b c)) × (noneFree (planBy j a b c) ≡ noneFree (planBy k a b c))
-      go false b c = (refl, refl)
-      go true true c = (refl, refl)
-      go true false true = (refl, refl)
-      go true false false = (refl, refl)
-
-  pub write-length-chosen : (j k : ℕ) → length (writeOps s I w j) ≡ length (writeOps s I w k)
-  write-length-chosen j k = length-write j ∙ ap (λ (n : ℕ). n + spanCount (s .layout) w) (plan-count-chosen j k .0) ∙ sym (length-write k)
-
-  pub write-status-chosen : (t : Trace) (j k : ℕ) → writeStatus s I w j t ≡ writeStatus s I w k t
-  unfolding writeStatus traceShort
-  write-status-chosen t j k = rw (write-length-chosen j k, plan-count-chosen j k .1)
+  length-write =
+      length-append (copyOnWriteOps (s .layout) I (dirtyWord s (w .main)) (w .main) (copyPlan s I (w .main))) (spanOps (s .layout) I w)
+      ∙ ap₂ _+_ (length-copy (s .layout) I (dirtyWord s (w .main)) (w .main) (copyPlan s I (w .main))) length-span

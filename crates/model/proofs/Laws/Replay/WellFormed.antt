@@ -14,13 +14,14 @@ use Rattle.model.specs.declared.Plan.the-variants.{NoCopy, OwnBackup, Ne
 use Rattle.model.specs.Range.{cat}
 use Rattle.model.specs.Words.{Image, wordOf}
 use Rattle.model.specs.Layout.{wordSize, lineSize, blockSize, metadataSize, blockWords, blockLines, lineWords, most, pairsAt, ssBackup, imageSize, segmentSize}
-use Rattle.model.specs.Container.{committedEpoch, activeState, anyFree, activeLine, inactiveLine, segState, backupToMain, isPaired, pairedBackup, byState}
+use Rattle.model.specs.Container.{committedEpoch, activeState, activeLine, inactiveLine, segState, backupToMain, isPaired, pairedBackup, byState}
 use Rattle.model.specs.Session.{isDirty, dirtyWord}
 use Rattle.model.specs.Ops.{clwb, sfence, stores, clwbs, putBlock, persistCopy, persistZero, copySegment, zeroSegment, storeByte}
 use Rattle.model.specs.Open.{recoveryAction, actionOps, recoverSegment, recoveryOps}
-use Rattle.model.specs.Write.{WriteArgs, needsCopy, needsBackup, copyPlan, copies, pairOps, copyDirty, backupOps, copyOnWriteOps, spanOps, writeOps}
+use Rattle.model.specs.Write.{WriteArgs, needsCopy, copyPlan, copies, pairOps, copyDirty, backupOps, copyOnWriteOps, spanOps, writeOps}
 use Rattle.model.specs.Checkpoint.{flushDirty, nextStates, statesOps, checkpointOps}
 use Rattle.model.proofs.Laws.Container.{paired-at}
+use Rattle.model.proofs.Laws.Write.{newOf, someFree}
 use Rattle.model.proofs.Laws.Layout.{metadata-inside, image-lines, segment-in-image, state-line-low, state-line-high, state-line-whole}
 use Rattle.model.proofs.Argument.Phases.{backupPhase, statePhase, copy-phases, blocksPhase, statesPhase, epochPhase, beforeEpoch, checkpoint-phases}
 use Rattle.model.proofs.Laws.Ops.{OpOk, AllOk, all-cat, all-when, all-ok-append}
@@ -138,15 +139,15 @@ module _ (s : Session) (I : Image) where
       (ok-store-byte (s .layout) I (activeLine I + i) ssBackup (omega arith), ((state-line-whole (committedEpoch I), omega arith), (omega arith, tt)))))
 
   -- the plan of a write names its own backup segment, or the new one
-  plan-named : (i j : ℕ) → (needsBackup s I i ≡ true → j < s .layout .backups) → Named (copyPlan s I i j)
-  unfolding copyPlan needsBackup
-  plan-named i j h = go (needsCopy s I i) (isPaired (s .layout) (backupToMain I) i) (anyFree (s .layout) (activeState I) (backupToMain I)) refl refl
+  plan-named : (i : ℕ) → (someFree s I ≡ true → newOf s I < s .layout .backups) → Named (copyPlan s I i)
+  unfolding copyPlan
+  plan-named i h = go (needsCopy s I i) (isPaired (s .layout) (backupToMain I) i) (someFree s I) refl refl
     where
-      go : (a b c : Bool) → needsCopy s I i ≡ a → isPaired (s .layout) (backupToMain I) i ≡ b
-          → Named (cond a (cond b (OwnBackup (pairedBackup (s .layout) (backupToMain I) i)) (cond c (NewBackup j) NoneFree)) NoCopy)
+      go : (a b c : Bool) → isPaired (s .layout) (backupToMain I) i ≡ b → someFree s I ≡ c
+          → Named (cond a (cond b (OwnBackup (pairedBackup (s .layout) (backupToMain I) i)) (cond c (NewBackup (newOf s I)) NoneFree)) NoCopy)
       go false b c e q = tt
-      go true true c e q = paired-at (s .layout) (backupToMain I) i q .0
-      go true false true e q = h (rw (e, q) refl)
+      go true true c e q = paired-at (s .layout) (backupToMain I) i e .0
+      go true false true e q = h q
       go true false false e q = tt
 
   -- a span inside its main segment
@@ -158,13 +159,13 @@ module _ (s : Session) (I : Image) where
       let whole = image-lines (s .layout) in
       ok-stores size _ _ _ (omega arith) (inside-lines (s .layout) _ (omega arith))
 
-  pub write-ok : (w : WriteArgs) (j : ℕ) → s .layout .mains ≤ most → s .layout .backups ≤ most → w .main < s .layout .mains
+  pub write-ok : (w : WriteArgs) → s .layout .mains ≤ most → s .layout .backups ≤ most → w .main < s .layout .mains
       → w .block < s .layout .blocks → 0 < length (w .bytes)
-      → w .offset + length (w .bytes) ≤ blockSize * (s .layout .blocks - w .block) → (needsBackup s I (w .main) ≡ true → j < s .layout .backups) → AllOk (imageLines (s .layout)) (writeOps s I w j)
+      → w .offset + length (w .bytes) ≤ blockSize * (s .layout .blocks - w .block) → (someFree s I ≡ true → newOf s I < s .layout .backups) → AllOk (imageLines (s .layout)) (writeOps s I w)
   unfolding writeOps
-  write-ok w j m n h k a b c =
-      all-ok-append size (copyOnWriteOps (s .layout) I (word (w .main)) (w .main) (copyPlan s I (w .main) j)) _
-      (ok-copy-on-write (w .main) (copyPlan s I (w .main) j) m n h (plan-named (w .main) j c)) (ok-span w h k a b)
+  write-ok w m n h k a b c =
+      all-ok-append size (copyOnWriteOps (s .layout) I (word (w .main)) (w .main) (copyPlan s I (w .main))) _
+      (ok-copy-on-write (w .main) (copyPlan s I (w .main)) m n h (plan-named (w .main) c)) (ok-span w h k a b)
 
   -- ---- checkpoint
 

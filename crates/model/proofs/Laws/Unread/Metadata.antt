@@ -6,7 +6,7 @@ use mathlib.Core.Logic.{⊎-elim}
 use mathlib.Core.Bool.{Bool, true, false, not, cond, _&&_, _||_}
 use mathlib.Core.List.{[], _∷_, _++_}
 use native.Mathlib.Omega.{arith}
-use borrow.Author.Tests.{not-false, eq-eqb}
+use borrow.Author.Tests.{not-false, eqb-false, eq-eqb}
 use lib.Dec.{leb, ltb, eqb}
 use lib.ListN.{take, drop, length-drop}
 use lib.Seq.{ext-getD, getD-drop}
@@ -14,12 +14,13 @@ use Rattle.model.specs.declared.Layout.{Layout}
 use Rattle.model.specs.declared.Session.{Session}
 use Rattle.model.specs.Words.{Image, byteAt, wordAt}
 use Rattle.model.specs.Layout.{wordSize, lineSize, metadataSize, most, epochAt, mainsAt, backupsAt, blocksAt, pairsAt, unpaired, ssInitial, ssMain, ssBackup, SizesOk, imageSize, stateLine}
+use Rattle.model.specs.Range.{anyB}
 use Rattle.model.specs.Status.{Errors, firstError}
-use Rattle.model.specs.Container.{committedEpoch, activeLine, segState, backupToMain, Valid, isPaired, validMetadata, pairedBackup, isFree, anyFree, headerOk, containerErrors}
+use Rattle.model.specs.Container.{committedEpoch, activeLine, segState, backupToMain, Valid, isPaired, validMetadata, pairedBackup, isFree, anyFree, newBackup, headerOk, containerErrors}
 use Rattle.model.specs.Session.{dirtySegment, validSession}
 use Rattle.model.specs.Ops.{store, stores}
 use Rattle.model.specs.Unread.{AgreeNamed}
-use Rattle.model.proofs.Laws.Range.{cat-ext, all-ext, any-ext, first-ext}
+use Rattle.model.proofs.Laws.Range.{cat-ext, all-ext, any-none, any-ext, first-ext}
 use Rattle.model.proofs.Laws.Words.{word-cong}
 use Rattle.model.proofs.Laws.Container.{sizes-ok, valid-means}
 use Rattle.model.proofs.Laws.Layout.{state-line-is, state-line-low, state-line-high, state-line-next}
@@ -117,6 +118,23 @@ module _ {I J : Image} (same : AgreeNamed I J) where
         → anyFree l (segState I (activeLine I)) (backupToMain I) ≡ anyFree l (segState J (activeLine J)) (backupToMain J)
     unfolding anyFree
     any-free-same v = any-ext (l .backups) _ _ (free-same v)
+
+    -- where all are paired, each pair is a main segment
+    pub new-same : Valid l (segState I (activeLine I)) (backupToMain I)
+        → newBackup l (segState I (activeLine I)) (backupToMain I) ≡ newBackup l (segState J (activeLine J)) (backupToMain J)
+    unfolding newBackup
+    new-same v = cond-cong _ _ (any-ext (l .backups) _ _ alone) (λ a. first-ext (l .backups) _ _ alone) (λ a. first-ext (l .backups) _ _ (settled a))
+      where
+        alone : (j : ℕ) → j < l .backups → eqb (backupToMain I j) unpaired ≡ eqb (backupToMain J j) unpaired
+        alone j h = ap (λ (n : ℕ). eqb n unpaired) (pair-same j (omega arith))
+
+        settled : anyB (l .backups) (λ k. eqb (backupToMain I k) unpaired) ≡ false → (j : ℕ) → j < l .backups
+            → eqb (segState I (activeLine I) (backupToMain I j)) ssMain ≡ eqb (segState J (activeLine J) (backupToMain J j)) ssMain
+        settled a j h =
+            ⊎-elim
+            (λ q. absurd (eqb-false _ _ (any-none (l .backups) _ a j h) q))
+            (λ q. ap (λ (n : ℕ). eqb n ssMain) (state-same (backupToMain I j) (omega arith) ∙ ap (segState J (activeLine J)) (pair-same j (omega arith))))
+            (v .pairs j h)
 
   pub session-same : (s : Session) → SizesOk (s .layout) → validSession s (segState I (activeLine I)) ≡ validSession s (segState J (activeLine J))
   unfolding validSession

@@ -1,4 +1,4 @@
--- Write answers the same on two images that agree on the named bytes, whatever backup segment it takes.
+-- Write answers the same on two images that agree on the named bytes.
 use Prim.Native.Nat.{ℕ, _+_, _<_}
 use mathlib.Core.Path.{_≡_, refl, ap, ap₂, _∙_}
 use mathlib.Core.Bool.{Bool, true, false, not, cond, _&&_}
@@ -12,19 +12,20 @@ use Rattle.model.specs.declared.Plan.{Plan}
 use Rattle.model.specs.declared.Plan.the-variants.{NoCopy, OwnBackup, NewBackup, NoneFree}
 use Rattle.model.specs.Words.{Image, byteAt, wordOf, overlay}
 use Rattle.model.specs.Layout.{most, pairsAt, ssMain, ssBackup, SizesOk, stateLine}
-use Rattle.model.specs.Container.{committedEpoch, activeLine, segState, backupToMain, Valid, isPaired, pairedBackup, anyFree}
+use Rattle.model.specs.Container.{committedEpoch, activeLine, segState, backupToMain, Valid, isPaired, pairedBackup}
 use Rattle.model.specs.Session.{isDirty, dirtySegment, dirtyWord, withDirty}
 use Rattle.model.specs.Ops.{store, clwb, sfence, Ops, Trace, traceShort, wordPlace}
-use Rattle.model.specs.Write.{WriteArgs, needsCopy, needsBackup, copyPlan, copies, noneFree, pairOps, copyDirty, backupOps, stateOps, copyOnWriteOps, spanAt, spanBlocks, spanOps, writeOps, writeSession, writeErrors, writeStatus, writeOutcome, Chosen}
+use Rattle.model.specs.Write.{WriteArgs, needsCopy, copyPlan, copies, noneFree, pairOps, copyDirty, backupOps, stateOps, copyOnWriteOps, spanAt, spanBlocks, spanOps, writeOps, writeSession, writeErrors, writeStatus, writeOutcome}
 use Rattle.model.specs.Unread.{AgreeNamed}
 use Rattle.model.proofs.Laws.Range.{cat-ext}
 use Rattle.model.proofs.Laws.Words.{word-cong, overlay-cong}
 use Rattle.model.proofs.Laws.Status.{served-condition}
 use Rattle.model.proofs.Laws.Container.{ContainerOk, container-then}
 use Rattle.model.proofs.Laws.Layout.{state-line-whole}
-use Rattle.model.proofs.Laws.Counts.Write.{write-status-chosen}
+use Rattle.model.proofs.Laws.Write.{newOf, someFree}
+use Rattle.model.proofs.Laws.NewBackup.{new-free}
 use Rattle.model.proofs.Laws.Outcome.{outcome-same}
-use Rattle.model.proofs.Laws.Unread.Metadata.{cond-cong, stores-ext, error-ext, epoch-same, active-byte, pair-byte, segment-byte, state-same, session-same, errors-same, paired-same, backup-same, any-free-same}
+use Rattle.model.proofs.Laws.Unread.Metadata.{cond-cong, stores-ext, error-ext, epoch-same, active-byte, pair-byte, segment-byte, state-same, session-same, errors-same, paired-same, backup-same, any-free-same, new-same}
 use Rattle.model.proofs.Laws.Unread.Open.{copy-same, copy-segment-same}
 
 module _ {I J : Image} (same : AgreeNamed I J) where
@@ -63,60 +64,56 @@ module _ {I J : Image} (same : AgreeNamed I J) where
   backup-ops-same l word i (NewBackup j) h = ap₂ (λ (O E : Ops). O ++ E) (pair-ops-same i j h) (copy-segment-same same l _ _ (omega arith))
   backup-ops-same l word i NoneFree h = refl
 
-  plan-same : (s : Session) (i j : ℕ) → SizesOk (s .layout) → Valid (s .layout) (segState I (activeLine I)) (backupToMain I) → i < most
-      → copyPlan s I i j ≡ copyPlan s J i j
+  plan-same : (s : Session) (i : ℕ) → SizesOk (s .layout) → Valid (s .layout) (segState I (activeLine I)) (backupToMain I) → i < most
+      → copyPlan s I i ≡ copyPlan s J i
   unfolding copyPlan
-  plan-same s i j sizes v h = cond-cong _ _ (needs-copy-same s i h)
+  plan-same s i sizes v h = cond-cong _ _ (needs-copy-same s i h)
       (λ a. cond-cong _ _ (paired-same same (s .layout) sizes i) (λ b. ap OwnBackup (backup-same same (s .layout) sizes i))
-      (λ b. cond-cong _ _ (any-free-same same (s .layout) sizes v) (λ c. refl) (λ c. refl)))
+      (λ b. cond-cong _ _ (any-free-same same (s .layout) sizes v) (λ c. ap NewBackup (new-same same (s .layout) sizes v)) (λ c. refl)))
       (λ a. refl)
 
-  plan-below : (s : Session) (i j : ℕ) → (needsBackup s I i ≡ true → j < most) → NewBelow (copyPlan s I i j)
-  unfolding copyPlan needsBackup
-  plan-below s i j h = go (needsCopy s I i) (isPaired (s .layout) (backupToMain I) i) (anyFree (s .layout) (segState I (activeLine I)) (backupToMain I)) refl refl
+  plan-below : (s : Session) (i : ℕ) → SizesOk (s .layout) → Valid (s .layout) (segState I (activeLine I)) (backupToMain I) → NewBelow (copyPlan s I i)
+  unfolding copyPlan
+  plan-below s i sizes v = go (needsCopy s I i) (isPaired (s .layout) (backupToMain I) i) (someFree s I) refl
     where
-      go : (a b c : Bool) → needsCopy s I i ≡ a → isPaired (s .layout) (backupToMain I) i ≡ b
-          → NewBelow (cond a (cond b (OwnBackup (pairedBackup (s .layout) (backupToMain I) i)) (cond c (NewBackup j) NoneFree)) NoCopy)
-      go false b c e q = tt
-      go true true c e q = tt
-      go true false true e q = h (rw (e, q) refl)
-      go true false false e q = tt
+      go : (a b c : Bool) → someFree s I ≡ c
+          → NewBelow (cond a (cond b (OwnBackup (pairedBackup (s .layout) (backupToMain I) i)) (cond c (NewBackup (newOf s I)) NoneFree)) NoCopy)
+      go false b c e = tt
+      go true true c e = tt
+      go true false true e = omega (arith, sizes .1 .1, new-free (s .layout) _ _ v e .0)
+      go true false false e = tt
 
   span-same : (l : Layout) (w : WriteArgs) → spanOps l I w ≡ spanOps l J w
   unfolding spanOps
   span-same l w = stores-ext _ _ _ _ (λ k h. word-cong _ _ _ (λ x a b. overlay-cong (byteAt I) (byteAt J) (spanAt l w) (w .bytes) x (segment-byte same x (omega arith))))
 
-  write-ops-same : (s : Session) (w : WriteArgs) (j : ℕ) → SizesOk (s .layout) → Valid (s .layout) (segState I (activeLine I)) (backupToMain I)
-      → w .main < s .layout .mains → (needsBackup s I (w .main) ≡ true → j < most) → writeOps s I w j ≡ writeOps s J w j
+  write-ops-same : (s : Session) (w : WriteArgs) → SizesOk (s .layout) → Valid (s .layout) (segState I (activeLine I)) (backupToMain I)
+      → w .main < s .layout .mains → writeOps s I w ≡ writeOps s J w
   unfolding writeOps copyOnWriteOps
-  write-ops-same s w j sizes v m h = ap₂ (λ (O E : Ops). O ++ E)
-      (ap₂ (λ (O E : Ops). cond (copies (copyPlan s I (w .main) j)) (O ++ sfence ∷ E ++ sfence ∷ []) [])
-      (backup-ops-same (s .layout) (dirtyWord s (w .main)) (w .main) (copyPlan s I (w .main) j) (plan-below s (w .main) j h)) (state-ops-same (w .main) (omega arith))
-      ∙ ap (copyOnWriteOps (s .layout) J (dirtyWord s (w .main)) (w .main)) (plan-same s (w .main) j sizes v (omega arith)))
+  write-ops-same s w sizes v m = ap₂ (λ (O E : Ops). O ++ E)
+      (ap₂ (λ (O E : Ops). cond (copies (copyPlan s I (w .main))) (O ++ sfence ∷ E ++ sfence ∷ []) [])
+      (backup-ops-same (s .layout) (dirtyWord s (w .main)) (w .main) (copyPlan s I (w .main)) (plan-below s (w .main) sizes v)) (state-ops-same (w .main) (omega arith))
+      ∙ ap (copyOnWriteOps (s .layout) J (dirtyWord s (w .main)) (w .main)) (plan-same s (w .main) sizes v (omega arith)))
       (span-same (s .layout) w)
 
-  pub write-status-unread : (s : Session) (w : WriteArgs) (j : ℕ) (t : Trace) → writeStatus s I w j t ≡ writeStatus s J w j t
+  pub write-status-unread : (s : Session) (w : WriteArgs) (t : Trace) → writeStatus s I w t ≡ writeStatus s J w t
   unfolding writeStatus
-  write-status-unread s w j t = write-status-chosen s I w t j 0 ∙ first ∙ write-status-chosen s J w t 0 j
-    where
-      first : writeStatus s I w 0 t ≡ writeStatus s J w 0 t
-      first = errors-same same (s .layout) _ _ (λ sizes v.
-          error-ext 5 _ _ _ _ (ap not (session-same same s sizes)) (λ a.
-          error-ext 6 _ _ _ _ refl (λ b. let m : w .main < s .layout .mains = leb-false _ _ b in
-          error-ext 7 _ _ _ _ refl (λ c.
-          error-ext 8 _ _ _ _ refl (λ d.
-          error-ext 9 _ _ _ _ (ap (λ (p : Plan). noneFree p) (plan-same s (w .main) 0 sizes v (omega arith))) (λ e.
-          error-ext 11 _ _ _ _ (ap (λ (O : Ops). traceShort O t) (write-ops-same s w 0 sizes v m (λ f. omega arith))) (λ f. refl)))))))
+  write-status-unread s w t = errors-same same (s .layout) _ _ (λ sizes v.
+      error-ext 5 _ _ _ _ (ap not (session-same same s sizes)) (λ a.
+      error-ext 6 _ _ _ _ refl (λ b. let m : w .main < s .layout .mains = leb-false _ _ b in
+      error-ext 7 _ _ _ _ refl (λ c.
+      error-ext 8 _ _ _ _ refl (λ d.
+      error-ext 9 _ _ _ _ (ap (λ (p : Plan). noneFree p) (plan-same s (w .main) sizes v (omega arith))) (λ e.
+      error-ext 11 _ _ _ _ (ap (λ (O : Ops). traceShort O t) (write-ops-same s w sizes v m)) (λ f. refl)))))))
 
-  -- whatever backup segment is chosen
-  pub write-unread : (s : Session) (w : WriteArgs) (j : ℕ) (t : Trace) → Chosen s I w t j → writeOutcome s I w j t ≡ writeOutcome s J w j t
+  pub write-unread : (s : Session) (w : WriteArgs) (t : Trace) → writeOutcome s I w t ≡ writeOutcome s J w t
   unfolding writeOutcome writeSession writeStatus
-  write-unread s w j t chosen = outcome-same _ _ s (write-status-unread s w j t)
+  write-unread s w t = outcome-same _ _ s (write-status-unread s w t)
       (λ z. ap (λ (b : Bool). withDirty s (w .main) (w .block) (spanBlocks w) (cond b 0 (dirtyWord s (w .main)))) (needs-copy-same s (w .main) (omega (arith, ok z .sizes, below z))))
-      (λ z. write-ops-same s w j (ok z .sizes) (ok z .valid) (below z) (λ n. omega (arith, ok z .sizes, chosen z n .0)))
+      (λ z. write-ops-same s w (ok z .sizes) (ok z .valid) (below z))
     where
-      ok : writeStatus s I w j t ≡ 0 → ContainerOk (s .layout) I
+      ok : writeStatus s I w t ≡ 0 → ContainerOk (s .layout) I
       ok z = container-then (s .layout) I _ z .0
 
-      below : writeStatus s I w j t ≡ 0 → w .main < s .layout .mains
-      below z = leb-false _ _ (served-condition (writeErrors s I w j t) (omega arith) z 6)
+      below : writeStatus s I w t ≡ 0 → w .main < s .layout .mains
+      below z = leb-false _ _ (served-condition (writeErrors s I w t) (omega arith) z 6)

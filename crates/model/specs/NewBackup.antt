@@ -1,0 +1,51 @@
+-- Which backup segment a write takes where it needs a new one (SPECIFICATION 3.4, 10.3), in plain words of states and pairs. The contract of
+-- write cites `writeOutcome`, which is made by `newBackup` (Container.antt) and `copyPlan` (Write.antt); here stands what these say. Proved
+-- in proofs/Laws/NewBackup.antt. Assumes nothing.
+use Prim.Native.Nat.{ℕ, _<_}
+use mathlib.Core.Path.{_≡_}
+use mathlib.Core.Logic.{_↔_, _≢_, _⊎_}
+use mathlib.Core.Bool.{true}
+use lib.ListN.{take}
+use Rattle.model.specs.declared.Layout.{Layout}
+use Rattle.model.specs.declared.Session.{Session}
+use Rattle.model.specs.Words.{Image}
+use Rattle.model.specs.Layout.{unpaired, ssMain}
+use Rattle.model.specs.Container.{activeState, backupToMain, Valid, Free, newBackup}
+use Rattle.model.specs.Ops.{Trace}
+use Rattle.model.specs.Write.{WriteArgs, needsBackup, pairOps, writeOps, writeStatus}
+
+-- j is the lowest number below n of which P holds
+abbrev pub Lowest : ℕ → (ℕ → Type 0) → ℕ → Type 0
+Lowest n P j = (j < n) × P j × ((k : ℕ) → k < j → P k → ⊥)
+
+-- every backup segment is paired
+abbrev pub AllPaired : Layout → (ℕ → ℕ) → Type 0
+AllPaired l pr = (k : ℕ) → k < l .backups → pr k ≢ unpaired
+
+-- In the customer's words: "A new spare is now the lowest unpaired one. If all are paired it is the lowest whose level is in state 1."
+abbrev pub TakenNew : Layout → (ℕ → ℕ) → (ℕ → ℕ) → ℕ → Type 0
+TakenNew l st pr j =
+    Lowest (l .backups) (λ k. pr k ≡ unpaired) j
+    ⊎ (AllPaired l pr × Lowest (l .backups) (λ k. st (pr k) ≡ ssMain) j)
+
+-- the definition is these two sentences, whatever the states and pairs
+abbrev pub NewBackupExactly : Type 0
+NewBackupExactly =
+    (l : Layout) (st pr : ℕ → ℕ) (j : ℕ) → ((newBackup l st pr ≡ j) × (j < l .backups)) ↔ TakenNew l st pr j
+
+-- in valid metadata a backup segment that is paired is free exactly if its main segment is in state 1; the new one is free, and there is
+-- one exactly if some backup segment is free
+pub record NewBackupFree (l : Layout) (st pr : ℕ → ℕ) : Type 0 where
+  pub paired : (j : ℕ) → j < l .backups → pr j ≢ unpaired → Free l st pr j ↔ (st (pr j) ≡ ssMain)
+  pub free : (j : ℕ) → TakenNew l st pr j → Free l st pr j
+  pub exists : ((j : ℕ) × TakenNew l st pr j) ↔ ((j : ℕ) × Free l st pr j)
+
+abbrev pub FreeWhereValid : Type 0
+FreeWhereValid = (l : Layout) (st pr : ℕ → ℕ) → Valid l st pr → NewBackupFree l st pr
+
+-- a served write that needs a new backup segment takes that one: its first operations are its pair byte stored and written back
+abbrev pub WriteTakesNew : Type 0
+WriteTakesNew =
+    (s : Session) (I : Image) (w : WriteArgs) (t : Trace) → writeStatus s I w t ≡ 0 → needsBackup s I (w .main) ≡ true
+    → (j : ℕ) × TakenNew (s .layout) (activeState I) (backupToMain I) j × Free (s .layout) (activeState I) (backupToMain I) j
+    × (take 2 (writeOps s I w) ≡ pairOps I (w .main) j)
