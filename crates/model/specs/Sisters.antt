@@ -1,9 +1,10 @@
--- Demand 2 over a whole history (`ReadsFollowModel`), and sisters of demand 3: replay serves every trace that a call writes, a
--- finished opening leaves nothing open, openings alone are safe. Proved in proofs/Sisters.antt, `ReplayServesAll` in
--- proofs/Laws/Replay.antt. Assumes what specs/Crash.antt does of the hardware, where a crash is spoken of.
+-- Demand 2 over a whole history (`ReadsFollowModel`); that the same calls on the same board leave the same tape and the same bytes
+-- (`SameBoard`); and sisters of demand 3: replay serves every trace that a call writes, a finished opening leaves nothing open, openings
+-- alone are safe. Proved in proofs/Sisters.antt, `ReplayServesAll` in proofs/Laws/Replay.antt. Assumes what specs/Crash.antt does of the hardware, where a crash is spoken of.
 use Prim.Native.Nat.{ℕ, _%_}
 use mathlib.Core.Path.{_≡_}
 use mathlib.Core.Logic.{_≢_}
+use mathlib.Core.List.{List, [], _∷_}
 use lib.ListN.{length, take}
 use Rattle.model.specs.declared.Layout.{Layout}
 use Rattle.model.specs.Words.{Image, Bytes}
@@ -13,12 +14,29 @@ use Rattle.model.specs.Ops.{Trace}
 use Rattle.model.specs.Replay.{replayOutcome}
 use Rattle.model.specs.Open.{openStatus, openOutcome}
 use Rattle.model.specs.Crash.{CrashImage}
-use Rattle.model.specs.History.{Call, Device, outcome, reported, calledOps, openedImage, Permitted}
+use Rattle.model.specs.History.{Call, Device, outcome, reported, calledOps, run, openedImage, start}
 use Rattle.model.specs.CrashSafety.{Reads, Recovers, InEveryHistory, CutOpenings}
 
 -- demand 2: after every call of a history the two reads give the two pages of the reference model
 abbrev pub ReadsFollowModel : Type 0
 ReadsFollowModel = InEveryHistory (λ s. Reads (s .device .layout) (s .device .image) (s .model .working) (s .model .checkpoint))
+
+-- two lists of the same calls, whatever stood on their traces, which have the same lengths
+abbrev pub SameCalls : List Call → List Call → Type 0
+SameCalls [] [] = Unit {0}
+SameCalls [] (c ∷ cs) = ⊥
+SameCalls (b ∷ bs) [] = ⊥
+SameCalls (b ∷ bs) (c ∷ cs) = (b .args ≡ c .args) × (length (b .trace) ≡ length (c .trace)) × SameCalls bs cs
+
+-- same board, same tape (SPECIFICATION 3.4): two histories that start at the same image with the same sizes, and have the same calls, stand
+-- at the same place after them: image, session, all operations played, and model; and the next call of both answers the same and reports
+-- the same part of the trace
+abbrev pub SameBoard : Type 0
+SameBoard =
+    (l : Layout) (I : Image) (t u : Trace) → length t ≡ length u → (bs cs : List Call) → SameCalls bs cs
+    → (run (start l I t) bs ≡ run (start l I u) cs)
+    × ((d : Device) (b c : Call) → b .args ≡ c .args → length (b .trace) ≡ length (c .trace)
+    → (outcome d b ≡ outcome d c) × (reported (outcome d b .ops) (b .trace) ≡ reported (outcome d c .ops) (c .trace)))
 
 -- every operation that a call writes is well formed, whatever the image and the session: replay serves the reported part
 -- and plays all of it, or the first p where it is stopped there; so it is for openings before, in and after a history
