@@ -12,10 +12,9 @@ use borrow.Author.Tests.{lt-ltb, le-ltb, le-leb, lt-leb, eq-eqb, ne-eqb}
 use Rattle.model.specs.declared.Layout.{Layout}
 use Rattle.model.specs.Range.{allB, anyB, firstB}
 use Rattle.model.specs.Container.{isPaired, pairedBackup}
-use Rattle.model.proofs.Laws.Range.{both, and-left, and-right, or-left, or-right, or-else, all-at, all-from, first-none, all-ext, same-test, first-ext}
+use Rattle.model.proofs.Laws.Range.{both, and-left, and-right, or-left, or-right, or-else, all-at, all-from, first-none, first-found, any-first, all-ext, same-test, first-ext}
 use Rattle.container.specs.declared.Examined.{Examined}
 use Rattle.container.specs.Scan.{pairFits, slotOf, entryOf, slotBackup, ExaminedBy}
-use Rattle.metadata.proofs.FirstLaws.{first-found, any-first}
 use Rattle.metadata.proofs.FindLaws.{is-paired}
 
 -- ---- slots

@@ -5,15 +5,16 @@ use metadata::Found;
 use model::Layout;
 use model::Plan;
 ghost use mathlib.Core.Path.{_≡_};
-ghost use mathlib.Core.List.{[], _∷_, _++_};
+ghost use mathlib.Core.List.{List, [], _∷_, _++_};
 ghost use Prim.Native.Nat.{ℕ, _^_, _≤_, _<_};
 ghost use lib.ListN.{length};
 ghost use Rattle.model.specs.Words.{Image};
 ghost use Rattle.model.specs.Layout.{most, pairsAt, pairsEnd};
 ghost use Rattle.model.specs.Ops.{sfence};
-ghost use Rattle.model.specs.Write.{copies, noneFree, pairOps, backupOps, stateOps, copyOnWriteOps};
+ghost use Rattle.model.specs.Write.{copyPlan, copies, noneFree, pairOps, backupOps, stateOps, copyOnWriteOps};
 ghost use Rattle.trace.specs.Emit.{Fits, Emitted};
-ghost use Rattle.copy.specs.Steps.{Writable, CopiesTo, Planned};
+ghost use Rattle.session.specs.Parts.{sessionOf};
+ghost use Rattle.copy.specs.Steps.{Writable, CopiesTo};
 
 // Operations that give a backup segment its main segment, and that turn a state with the fences around it.
 const PAIR_OPS: u64 = 2;
@@ -29,11 +30,12 @@ pub struct Segment {
 
 // ---- the plan
 
-// Whether a main segment is to be copied, and to which backup segment: its own, or the lowest that is unpaired, else the
-// lowest that is free.
+// Whether a main segment is to be copied, and to which backup segment: its own, or a new one. The plan is that of a session with this
+// layout and this word of dirty segments, whatever its words of dirty blocks.
 pub fn plan_copy(image: &[u8], layout: Layout, segments: u64, main: u64) -> Plan
     requires { ⌜ Writable layout (now image) main ⌝ }
-    ensures { λ r. ⌜ Planned layout segments (now (image .entry)) main r ⌝ }
+    ensures { λ r. ⌜ ((words : List ℕ) → r ≡ copyPlan (sessionOf layout segments words) (now (image .entry)) main) ⌝ }
+    ensures { λ r. ⌜ CopiesTo layout r ⌝ }
 {
     let active = metadata::active_at(image);
     let dirty = session::is_dirty(segments, main);
@@ -45,7 +47,7 @@ pub fn plan_copy(image: &[u8], layout: Layout, segments: u64, main: u64) -> Plan
     match own {
         Found::Backup(backup) => Plan::OwnBackup(backup),
         Found::Missing => {
-            let new = metadata::find_free_backup(image, layout);
+            let new = metadata::find_new_backup(image, layout);
             match new {
                 Found::Backup(backup) => Plan::NewBackup(backup),
                 Found::Missing => Plan::NoneFree,
@@ -122,7 +124,7 @@ fn put_state(image: &[u8], main: u64, trace: &mut [u64], n: usize) -> usize
 // is given to it first.
 fn put_backup(image: &[u8], segment: Segment, plan: Plan, trace: &mut [u64], n: usize) -> usize
     requires { ⌜ Writable (segment .layout) (now image) (segment .main) ⌝ }
-    requires { ⌜ CopiesTo (segment .layout) (now image) plan ⌝ }
+    requires { ⌜ CopiesTo (segment .layout) plan ⌝ }
     requires { ⌜ Fits (now trace) n (backupOps (segment .layout) (now image) (segment .word) (segment .main) plan) ⌝ }
     ensures { λ r. ⌜ Emitted (now (trace .entry)) n (backupOps (segment .layout) (now (image .entry)) (segment .word) (segment .main) plan) (now (trace .exit)) r ⌝ }
 {
@@ -152,7 +154,7 @@ pub fn put_copy_on_write(
     n: usize,
 ) -> usize
     requires { ⌜ Writable (segment .layout) (now image) (segment .main) ⌝ }
-    requires { ⌜ CopiesTo (segment .layout) (now image) plan ⌝ }
+    requires { ⌜ CopiesTo (segment .layout) plan ⌝ }
     requires { ⌜ Fits (now trace) n (copyOnWriteOps (segment .layout) (now image) (segment .word) (segment .main) plan) ⌝ }
     ensures { λ r. ⌜ Emitted (now (trace .entry)) n (copyOnWriteOps (segment .layout) (now (image .entry)) (segment .word) (segment .main) plan) (now (trace .exit)) r ⌝ }
 {

@@ -1,3 +1,2 @@
-pub mod FirstLaws
 pub mod FindLaws
 pub mod LocatedLaws

@@ -1,16 +1,15 @@
-// The metadata of an image: its two lines of states, the backup segment of a main segment, where its checkpoint stands, and a
-// free backup segment.
+// The metadata of an image: its two lines of states, the backup segment of a main segment, where its checkpoint stands, and the
+// new backup segment.
 use model::Layout;
 use model::Located;
 ghost use mathlib.Core.Path.{_≡_};
-ghost use mathlib.Core.Bool.{not};
 ghost use Prim.Native.Nat.{ℕ, _+_, _≤_, _<_};
 ghost use lib.Dec.{eqb};
 ghost use lib.ListN.{length};
 ghost use Rattle.model.specs.Range.{firstB};
-ghost use Rattle.model.specs.Layout.{wordSize, lineSize, most, statesAt, oddStatesAt, pairsEnd, ssBackup, stateLine, SizesOk};
-ghost use Rattle.model.specs.Container.{committedEpoch, activeLine, inactiveLine, activeState, segState, backupToMain, Valid, pairedBackup, checkpointLocated};
-ghost use Rattle.metadata.specs.Find.{foundBelow, freeBackup};
+ghost use Rattle.model.specs.Layout.{wordSize, lineSize, most, statesAt, oddStatesAt, pairsEnd, ssMain, stateLine, SizesOk};
+ghost use Rattle.model.specs.Container.{committedEpoch, activeLine, inactiveLine, activeState, segState, backupToMain, Valid, pairedBackup, newBackup, checkpointLocated};
+ghost use Rattle.metadata.specs.Find.{foundBelow};
 
 // The pair byte of an unpaired backup segment, as a search asks for it.
 const NO_MAIN: u64 = Layout::UNPAIRED as u64;
@@ -86,16 +85,16 @@ fn paired_state(image: &[u8], line: usize, pair: u8) -> u8
     image[line + pair as usize]
 }
 
-// Of backup segments that all have a main segment, the lowest whose main segment is not in state 2.
+// Of backup segments that all have a main segment, the lowest whose main segment is in state 1.
 fn find_unused_backup(image: &[u8], layout: Layout, line: usize) -> Found
     requires { ⌜ (layout .backups ≤ most) × (pairsEnd ≤ length (now image)) × (line + lineSize ≤ length (now image)) ⌝ }
     requires { ⌜ ((j : ℕ) → j < layout .backups → backupToMain (now image) j < most) ⌝ }
-    ensures { λ r. ⌜ r ≡ foundBelow (layout .backups) (firstB (layout .backups) (λ j. not (eqb (segState (now (image .entry)) line (backupToMain (now (image .entry)) j)) ssBackup))) ⌝ }
+    ensures { λ r. ⌜ r ≡ foundBelow (layout .backups) (firstB (layout .backups) (λ j. eqb (segState (now (image .entry)) line (backupToMain (now (image .entry)) j)) ssMain)) ⌝ }
 {
     let backups = layout.backups;
     let mut j = 0;
     while j < backups {
-        if paired_state(image, line, image[(Layout::PAIRS_AT + j) as usize]) != Layout::SS_BACKUP {
+        if paired_state(image, line, image[(Layout::PAIRS_AT + j) as usize]) == Layout::SS_MAIN {
             return Found::Backup(j);
         }
         j += 1;
@@ -103,12 +102,12 @@ fn find_unused_backup(image: &[u8], layout: Layout, line: usize) -> Found
     Found::Missing
 }
 
-// A free backup segment by the active line of states: the lowest that is unpaired, else the lowest whose main segment is not
-// in state 2.
-pub fn find_free_backup(image: &[u8], layout: Layout) -> Found
+// The new backup segment by the active line of states (SPECIFICATION 3.4): the lowest that is unpaired; if all are paired, the lowest
+// whose main segment is in state 1.
+pub fn find_new_backup(image: &[u8], layout: Layout) -> Found
     requires { ⌜ (layout .mains ≤ most) × (layout .backups ≤ most) × (pairsEnd ≤ length (now image)) ⌝ }
     requires { ⌜ Valid layout (activeState (now image)) (backupToMain (now image)) ⌝ }
-    ensures { λ r. ⌜ r ≡ foundBelow (layout .backups) (freeBackup layout (activeState (now (image .entry))) (backupToMain (now (image .entry)))) ⌝ }
+    ensures { λ r. ⌜ r ≡ foundBelow (layout .backups) (newBackup layout (activeState (now (image .entry))) (backupToMain (now (image .entry)))) ⌝ }
 {
     let alone = find_paired_backup(image, layout, NO_MAIN);
     match alone {

@@ -31,8 +31,8 @@ enum-known-own c = search needs
 enum-told : tie.Need-enum-told
 enum-told c = search needs
 
-find-free-backup-requires : tie.Need-find-free-backup-requires
-find-free-backup-requires c κs = search needs
+find-new-backup-requires : tie.Need-find-new-backup-requires
+find-new-backup-requires c κs = search needs
 
 enum-known-new : tie.Need-enum-known-new
 enum-known-new c = search needs
@@ -53,18 +53,20 @@ returns-3 c =
     let f = c .before .before .before in
     let g = f .before .before .before in
     let b = g .before .before .before in
-    let a = b .before .before .before .args in
-    new-backup (a .layout) (a .segments) (a .image .now) (a .main) _ _ (b .before .active-at .ensures .0) (b .is-dirty .ensures) (g .before .if1 .left)
-    (sym (f .before .enum-told .given .1) ∙ g .find-paired-backup .ensures) _ (sym (c .before .new .given .1) ∙ f .find-free-backup .ensures)
+    let e = b .before .before .before in
+    let a = e .args in
+    new-backup (a .layout) (a .segments) (a .image .now) (a .main) _ _ (b .before .active-at .ensures .0) (b .is-dirty .ensures) (g .before .if1 .left) (e .pre .valid)
+    (sym (f .before .enum-told .given .1) ∙ g .find-paired-backup .ensures) _ (sym (c .before .new .given .1) ∙ f .find-new-backup .ensures)
 
 returns-4 : tie.Need-returns-4
 returns-4 c =
     let f = c .before .before in
     let g = f .before .before .before in
     let b = g .before .before .before in
-    let a = b .before .before .before .args in
-    none-free (a .layout) (a .segments) (a .image .now) (a .main) _ _ (b .before .active-at .ensures .0) (b .is-dirty .ensures) (g .before .if1 .left)
-    (sym (f .before .enum-told .given .1) ∙ g .find-paired-backup .ensures) (sym (c .enum-told2 .given .1) ∙ f .find-free-backup .ensures)
+    let e = b .before .before .before in
+    let a = e .args in
+    none-free (a .layout) (a .segments) (a .image .now) (a .main) _ _ (b .before .active-at .ensures .0) (b .is-dirty .ensures) (g .before .if1 .left) (e .pre .valid)
+    (sym (f .before .enum-told .given .1) ∙ g .find-paired-backup .ensures) (sym (c .enum-told2 .given .1) ∙ f .find-new-backup .ensures)
 
 pub plan-copy-spec : {M : Type 1} → statement M
 plan-copy-spec =
@@ -78,7 +80,7 @@ plan-copy-spec =
     find-paired-backup-requires
     enum-known-own
     enum-told
-    find-free-backup-requires
+    find-new-backup-requires
     enum-known-new
     enum-told-2
     returns-2

@@ -6,9 +6,8 @@ use lib.Dec.{eqb}
 use borrow.Author.Tests.{eq-eqb, ne-eqb}
 use borrow.Author.Count.{below-none, below-more}
 use borrow.Author.Needs.{needs}
-use Rattle.model.proofs.Laws.Range.{first-none}
+use Rattle.model.proofs.Laws.Range.{first-none, first-found}
 use Rattle.model.specs.Container.{backupToMain, pairedBackup}
-use Rattle.metadata.proofs.FirstLaws.{first-found}
 use Rattle.metadata.proofs.FindLaws.{found-at, found-none}
 use Rattle.metadata.proofs.find_paired_backup.Statement.{statement}
 use Rattle.metadata.proofs.find_paired_backup.Tie as tie

@@ -1,20 +1,19 @@
 use Prim.Native.Nat.{ℕ, _-_, _≤_, _<_}
-use mathlib.Core.Bool.{false, not}
-use mathlib.Core.Path.{_≡_, _∙_, sym, ap}
+use mathlib.Core.Bool.{false}
+use mathlib.Core.Path.{_≡_, _∙_, sym}
 use native.Mathlib.Omega.{arith}
 use lib.Dec.{eqb}
 use borrow.Author.Tests.{eq-eqb, ne-eqb}
 use borrow.Author.Count.{below-none, below-more}
 use borrow.Author.Needs.{needs}
-use Rattle.model.proofs.Laws.Range.{first-none}
+use Rattle.model.proofs.Laws.Range.{first-none, first-found}
 use Rattle.model.specs.Container.{backupToMain, segState}
-use Rattle.metadata.proofs.FirstLaws.{first-found}
 use Rattle.metadata.proofs.FindLaws.{found-at, found-none}
 use Rattle.metadata.proofs.find_unused_backup.Statement.{statement}
 use Rattle.metadata.proofs.find_unused_backup.Tie as tie
 
 abbrev Inv-loop : tie.InvT-loop
-Inv-loop image line backups j₀ j = (j ≤ backups) × ((k : ℕ) → k < j → not (eqb (segState image line (backupToMain image k)) 2) ≡ false)
+Inv-loop image line backups j₀ j = (j ≤ backups) × ((k : ℕ) → k < j → eqb (segState image line (backupToMain image k)) 1 ≡ false)
 
 abbrev μ-loop : tie.MeasureT-loop
 μ-loop image line backups j₀ j = backups - j
@@ -37,7 +36,7 @@ returns : tie.Need-returns Inv-loop μ-loop
 returns c =
     let b = c .before .before .before .before in
     let l = c .before .before .before .loop-test .taken in
-    found-at _ _ _ l (first-found _ _ (b .loop .j) l (b .loop .inv .1) (ap not (ne-eqb _ _ (λ e. c .if1 .taken (c .before .paired-state .ensures ∙ e)))))
+    found-at _ _ _ l (first-found _ _ (b .loop .j) l (b .loop .inv .1) (eq-eqb _ _ (sym (c .before .paired-state .ensures) ∙ c .if1 .taken)))
 
 add-j : tie.Need-add-j Inv-loop μ-loop
 add-j c = search needs
@@ -48,12 +47,12 @@ loop-less c = search needs
 loop-again : tie.Need-loop-again Inv-loop μ-loop
 loop-again c =
     let b = c .before .before .before .before in
-    (omega arith, below-more _ _ (b .loop .inv .1) (ap not (eq-eqb _ _ (sym (c .before .paired-state .ensures) ∙ c .if1 .left))))
+    (omega arith, below-more _ _ (b .loop .inv .1) (ne-eqb _ _ (λ e. c .if1 .left (c .before .paired-state .ensures ∙ e))))
 
 returns-2 : tie.Need-returns-2 Inv-loop μ-loop
 returns-2 c =
     let a = c .before .before .before .args in
-    let none : (k : ℕ) → k < a .layout .backups → not (eqb (segState (a .image .now) (a .line) (backupToMain (a .image .now) k)) 2) ≡ false = λ k h. c .before .loop .inv .1 k (omega arith) in
+    let none : (k : ℕ) → k < a .layout .backups → eqb (segState (a .image .now) (a .line) (backupToMain (a .image .now) k)) 1 ≡ false = λ k h. c .before .loop .inv .1 k (omega arith) in
     found-none _ _ (omega (arith, first-none _ _ none))
 
 pub find-unused-backup-spec : {M : Type 1} → statement M

@@ -4,16 +4,16 @@ use mathlib.Core.Path.{_≡_, refl, sym, _∙_, subst}
 use mathlib.Core.Logic.{_↔_, _≢_, inl, inr, ⊎-elim}
 use mathlib.Core.Bool.{Bool, true, false, true≢false}
 use native.Mathlib.Omega.{arith}
-use lib.Dec.{eqb}
+use lib.Dec.{ltb, eqb}
 use lib.ListN.{take}
-use borrow.Author.Tests.{lt-ltb, eqb-true, eqb-false, eq-eqb, ne-eqb}
+use borrow.Author.Tests.{lt-ltb, ltb-true, eqb-true, eqb-false, eq-eqb, ne-eqb}
 use Rattle.model.specs.declared.Layout.{Layout}
 use Rattle.model.specs.Range.{anyB, firstB}
 use Rattle.model.specs.Layout.{unpaired, ssMain}
 use Rattle.model.specs.Container.{Valid, Free, anyFree, newBackup}
 use Rattle.model.specs.Write.{pairOps, backupOps, copyOnWriteOps, writeOps, writeStatus}
 use Rattle.model.specs.NewBackup.{Lowest, AllPaired, TakenNew, NewBackupExactly, NewBackupFree, FreeWhereValid, WriteTakesNew}
-use Rattle.model.proofs.Laws.Range.{any-at, any-none, first-found, first-some, first-before, any-first}
+use Rattle.model.proofs.Laws.Range.{same-test, any-at, any-none, first-found, first-some, first-before, any-first}
 use Rattle.model.proofs.Laws.Container.{any-free, container-then}
 use Rattle.model.proofs.Laws.Write.{plan-new, served-free}
 
@@ -120,6 +120,10 @@ module _ (l : Layout) (st pr : ℕ → ℕ) where
     -- where some backup segment is free, the new one is
     pub new-free : anyFree l st pr ≡ true → Free l st pr (newBackup l st pr)
     new-free some = let f = any-free l st pr .0 some in taken-free _ (free-taken (f .0) (f .1))
+
+    -- and there is a new one exactly then
+    pub any-free-new : anyFree l st pr ≡ ltb (newBackup l st pr) (l .backups)
+    any-free-new = same-test _ _ (λ some. lt-ltb _ _ (new-free some .0)) (λ b. any-free l st pr .1 (_, taken-free _ (new-taken (ltb-true _ _ b))))
 
 pub new-backup-exactly : NewBackupExactly
 new-backup-exactly l st pr j = (

@@ -3,13 +3,14 @@ use mathlib.Core.Path.{_≡_, _∙_, sym, ap}
 use native.Mathlib.Omega.{arith}
 use native.Mathlib.Nat.{zero-add}
 use borrow.Author.Needs.{needs}
-use Rattle.model.specs.Layout.{stateLine}
+use lib.Dec.{eqb}
+use Rattle.model.specs.Layout.{ssMain, stateLine}
 use Rattle.model.specs.Range.{firstB}
 use Rattle.model.specs.Container.{activeLine, activeState, backupToMain, segState}
 use Rattle.metadata.specs.Find.{foundBelow}
-use Rattle.metadata.proofs.FindLaws.{found-backup, found-missing, free-alone, free-idle, idle, none-alone}
-use Rattle.metadata.proofs.find_free_backup.Statement.{statement}
-use Rattle.metadata.proofs.find_free_backup.Tie as tie
+use Rattle.metadata.proofs.FindLaws.{found-backup, found-missing, none-alone, first-search, second-search}
+use Rattle.metadata.proofs.find_new_backup.Statement.{statement}
+use Rattle.metadata.proofs.find_new_backup.Tie as tie
 
 find-paired-backup-requires : tie.Need-find-paired-backup-requires
 find-paired-backup-requires c κs = search needs
@@ -43,8 +44,8 @@ returns c =
     let pr = backupToMain I in
     let m = found-missing _ _ (sym (v .before .enum-told .given .1) ∙ d .find-paired-backup .ensures) in
     let a : v .line-at .result ≡ activeLine I = v .line-at .ensures .0 ∙ ap (λ (e : ℕ). stateLine e) (zero-add _) in
-    c .find-unused-backup .ensures ∙ ap (λ (n : ℕ). foundBelow (l .backups) (firstB (l .backups) (idle l (segState I n) pr))) a
-    ∙ ap (foundBelow (l .backups)) (sym (free-idle l st pr m))
+    c .find-unused-backup .ensures ∙ ap (λ (n : ℕ). foundBelow (l .backups) (firstB (l .backups) (λ j. eqb (segState I n (pr j)) ssMain))) a
+    ∙ ap (foundBelow (l .backups)) (sym (second-search l st pr m))
 
 returns-2 : tie.Need-returns-2
 returns-2 c =
@@ -52,10 +53,10 @@ returns-2 c =
     let g = d .before .before .args in
     let I = g .image .now in
     let h = sym (c .before .alone .given .1) ∙ d .find-paired-backup .ensures in
-    h ∙ ap (foundBelow (g .layout .backups)) (sym (free-alone (g .layout) (activeState I) (backupToMain I) (found-backup _ _ _ h .1)))
+    h ∙ ap (foundBelow (g .layout .backups)) (sym (first-search (g .layout) (activeState I) (backupToMain I) (found-backup _ _ _ h .1)))
 
-pub find-free-backup-spec : {M : Type 1} → statement M
-find-free-backup-spec =
+pub find-new-backup-spec : {M : Type 1} → statement M
+find-new-backup-spec =
     tie.close
     (tie.spec
     find-paired-backup-requires
