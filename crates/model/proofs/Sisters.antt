@@ -69,8 +69,12 @@ step-same : (s : State) (b c : Call) → b .args ≡ c .args → length (b .trac
 unfolding step deviceStep
 step-same s b c e h =
     let o = outcomes-same (s .device) b c e h in
-    rw (o, e, played-same (s .device .image) (outcome (s .device) c .ops) (b .trace) (c .trace) (length (outcome (s .device) c .ops)),
-    image-same (s .device .image) (outcome (s .device) c .ops) (b .trace) (c .trace) (length (outcome (s .device) c .ops))) refl
+    rw (
+      o,
+      e,
+      played-same (s .device .image) (outcome (s .device) c .ops) (b .trace) (c .trace) (length (outcome (s .device) c .ops)),
+      image-same (s .device .image) (outcome (s .device) c .ops) (b .trace) (c .trace) (length (outcome (s .device) c .ops)),
+    ) refl
 
 run-same : (s : State) (bs cs : List Call) → SameCalls bs cs → run s bs ≡ run s cs
 unfolding run

@@ -1,12 +1,11 @@
 -- Laws of a whole write: what refusals 1 to 8 leave, the status by its two halves, and the outcome.
 use Prim.Native.Nat.{ℕ, _+_, _*_, _<_}
-use mathlib.Core.Path.{_≡_, refl, sym, ap, ap₂, _∙_, subst}
-use mathlib.Core.Logic.{_≢_}
-use mathlib.Core.Bool.{Bool, true, false, cond, and-eq-true-iff, true≢false}
+use mathlib.Core.Path.{_≡_, refl, sym, ap, ap₂, _∙_}
+use mathlib.Core.Bool.{Bool, true, false, cond, true≢false}
 use mathlib.Core.List.{_++_}
 use native.Mathlib.Omega.{arith}
 use lib.ListN.{length, length-append}
-use borrow.Author.Tests.{ltb-false, leb-false, eqb-true, eqb-false, not-true, not-false}
+use borrow.Author.Tests.{ltb-false, leb-false, eqb-true, not-false}
 use Rattle.model.specs.declared.Session.{Session}
 use Rattle.model.specs.declared.Status.{Status}
 use Rattle.model.specs.declared.Status.the-variants.{Served}
@@ -16,22 +15,22 @@ use Rattle.model.specs.declared.Plan.the-variants.{NoCopy, OwnBackup, NewBackup
 use Rattle.model.specs.Words.{Image}
 use Rattle.model.specs.Layout.{imageSize}
 use Rattle.model.specs.Status.{codeOf, firstError, served}
-use Rattle.model.specs.Container.{activeState, backupToMain, isPaired, pairedBackup, anyFree, Free}
+use Rattle.model.specs.Container.{activeState, backupToMain, isPaired, pairedBackup}
 use Rattle.model.specs.Session.{dirtyWord, withDirty}
 use Rattle.model.specs.Ops.{Ops, Trace, traceShort}
-use Rattle.model.specs.Write.{WriteArgs, needsCopy, needsBackup, copies, noneFree, copyPlan, copyOnWriteOps, spanAt, spanWords, spanBlocks, spanStores, spanOps, writeOps, writeSession, earlyErrors, lateErrors, writeStatus, writeOutcome, Chosen}
+use Rattle.model.specs.Outcome.{Gives}
+use Rattle.model.specs.Write.{WriteArgs, needsCopy, copies, noneFree, copyPlan, copyOnWriteOps, spanAt, spanWords, spanBlocks, spanStores, spanOps, writeOps, writeSession, earlyErrors, lateErrors, writeStatus, writeOutcome}
 use Rattle.model.proofs.Laws.Layout.{image-lines, metadata-inside, segment-in-image}
 use Rattle.model.proofs.Laws.Status.{served-cons, served-condition, after-served, stage-refused}
 use Rattle.model.proofs.Laws.Container.{container-then}
-use Rattle.model.proofs.Laws.Write.{span-good}
+use Rattle.model.proofs.Laws.Write.{newOf, someFree, span-good}
 use Rattle.model.proofs.Laws.Counts.{length-stores}
 use Rattle.trace.specs.Emit.{Fits, Emitted}
 use Rattle.trace.proofs.EmitLaws.{fits-as, emitted-as}
 use Rattle.trace.proofs.CallLaws.{gives-refused, gives-served}
 use Rattle.session.proofs.SessionLaws.{words-within}
 use Rattle.places.proofs.PlaceLaws.{image-bound}
-use Rattle.copy.specs.Steps.{CopiesTo, Planned}
-use Rattle.write.specs.Steps.{Writes, SpanWritable}
+use Rattle.write.specs.Steps.{SpanWritable}
 
 -- ---- refusals 1 to 8
 
@@ -68,16 +67,13 @@ writable s I w n e q =
 -- ---- status and outcome
 
 module _ (s : Session) (I : Image) (w : WriteArgs) (t : Trace) where
-  -- a refusal of the first eight does not depend on the backup segment
+  -- refused by one of the first eight
   pub refused-early : (a : Answer) (k : Status) → codeOf k ≡ firstError (earlyErrors s I w) → served (codeOf k) ≡ false
-      → (a .status ≡ k) × (a .session ≡ s) × (a .ops ≡ 0) → Writes s I w t a t
+      → (a .status ≡ k) × (a .session ≡ s) × (a .ops ≡ 0) → Gives (writeOutcome s I w t) t a t
   unfolding writeOutcome writeStatus
-  refused-early a k e r h =
-      let x : codeOf k ≡ writeStatus s I w 0 t = stage-refused (codeOf k) (earlyErrors s I w) _ e r in
-      let n : writeStatus s I w 0 t ≢ 0 = (λ z. eqb-false _ _ r (x ∙ z)) in
-      (0, λ z. absurd (n z), gives-refused _ s _ _ t a h x r refl)
+  refused-early a k e r h = gives-refused _ s _ _ t a h (stage-refused (codeOf k) (earlyErrors s I w) _ e r) r refl
 
-  module _ (p : Plan) (at : ℕ) (ok : SpanWritable s I w) (plan : Planned (s .layout) (s .«dirty_segments») I (w .main) p) (place : at ≡ spanAt (s .layout) w) where
+  module _ (p : Plan) (at : ℕ) (ok : SpanWritable s I w) (plan : p ≡ copyPlan s I (w .main)) (place : at ≡ spanAt (s .layout) w) where
     -- the operations of the write, as the code writes them
     abbrev pub ops : Ops
     ops = copyOnWriteOps (s .layout) I (dirtyWord s (w .main)) (w .main) p ++ spanStores I at (w .bytes)
@@ -87,54 +83,35 @@ module _ (s : Session) (I : Image) (w : WriteArgs) (t : Trace) where
     length-ops m n x y =
         length-append (copyOnWriteOps (s .layout) I (dirtyWord s (w .main)) (w .main) p) (spanStores I at (w .bytes)) ∙ ap₂ _+_ (sym x) (length-stores _ _ _ ∙ sym y)
 
-    is-plan : p ≡ copyPlan s I (w .main) (plan .backup)
-    is-plan = plan .plan (s .«dirty_blocks»)
-
-    write-ops : ops ≡ writeOps s I w (plan .backup)
+    write-ops : ops ≡ writeOps s I w
     unfolding writeOps spanOps
-    write-ops = rw (place, is-plan)
+    write-ops = rw (place, plan)
 
-    status-late : firstError (lateErrors p ops t) ≡ writeStatus s I w (plan .backup) t
+    status-late : firstError (lateErrors p ops t) ≡ writeStatus s I w t
     unfolding writeStatus
     status-late =
-        ap₂ (λ (q : Plan) (O : Ops). firstError (lateErrors q O t)) is-plan write-ops
-        ∙ sym (after-served (earlyErrors s I w) (lateErrors (copyPlan s I (w .main) (plan .backup)) (writeOps s I w (plan .backup)) t) (omega arith) (ok .none))
+        ap₂ (λ (q : Plan) (O : Ops). firstError (lateErrors q O t)) plan write-ops
+        ∙ sym (after-served (earlyErrors s I w) (lateErrors (copyPlan s I (w .main)) (writeOps s I w) t) (omega arith) (ok .none))
 
     pub refused-late : (a : Answer) (k : Status) → codeOf k ≡ firstError (lateErrors p ops t) → served (codeOf k) ≡ false
-        → (a .status ≡ k) × (a .session ≡ s) × (a .ops ≡ 0) → Writes s I w t a t
+        → (a .status ≡ k) × (a .session ≡ s) × (a .ops ≡ 0) → Gives (writeOutcome s I w t) t a t
     unfolding writeOutcome
-    refused-late a k e r h =
-        let n : writeStatus s I w (plan .backup) t ≢ 0 = (λ z. eqb-false _ _ r (e ∙ status-late ∙ z)) in
-        (plan .backup, λ z. absurd (n z), gives-refused _ s _ _ t a h (e ∙ status-late) r refl)
+    refused-late a k e r h = gives-refused _ s _ _ t a h (e ∙ status-late) r refl
 
     module _ (z : firstError (lateErrors p ops t) ≡ 0) where
-      free : noneFree p ≡ false
-      free = served-cons 8 _ _ z .0
-
       -- what refusals 9 and 11 leave
       pub room : Fits t 0 ops
       unfolding traceShort
       room = record { room = omega (arith, ltb-false (length t) (3 * length ops) (served-cons 10 _ _ (served-cons 8 _ _ z .1) .0)) }
 
-      chosen : Chosen s I w t (plan .backup)
-      unfolding needsBackup copyPlan
-      chosen q n =
-          let k = simp and-eq-true-iff at n in
-          go (anyFree (s .layout) (activeState I) (backupToMain I)) refl (rw (k .0, not-true (isPaired (s .layout) (backupToMain I) (w .main)) (k .1)) at is-plan)
-        where
-          go : (b : Bool) → anyFree (s .layout) (activeState I) (backupToMain I) ≡ b → p ≡ cond (anyFree (s .layout) (activeState I) (backupToMain I)) (NewBackup (plan .backup)) NoneFree
-              → Free (s .layout) (activeState I) (backupToMain I) (plan .backup)
-          go true f e = subst (CopiesTo (s .layout) I) (rw f at e) (plan .to)
-          go false f e = absurd (true≢false (sym (ap noneFree (rw f at e)) ∙ free))
-
       -- model's plan by what it depends on
       abbrev planBy : Bool → Bool → Bool → Plan
-      planBy a b c = cond a (cond b (OwnBackup (pairedBackup (s .layout) (backupToMain I) (w .main))) (cond c (NewBackup (plan .backup)) NoneFree)) NoCopy
+      planBy a b c = cond a (cond b (OwnBackup (pairedBackup (s .layout) (backupToMain I) (w .main))) (cond c (NewBackup (newOf s I)) NoneFree)) NoCopy
 
       -- the segment is copied exactly if it must be
       copied : copies p ≡ needsCopy s I (w .main)
       unfolding copyPlan
-      copied = ap copies is-plan ∙ go (needsCopy s I (w .main)) (isPaired (s .layout) (backupToMain I) (w .main)) (anyFree (s .layout) (activeState I) (backupToMain I)) (sym (ap noneFree is-plan) ∙ free)
+      copied = ap copies plan ∙ go (needsCopy s I (w .main)) (isPaired (s .layout) (backupToMain I) (w .main)) (someFree s I) (sym (ap noneFree plan) ∙ served-cons 8 _ _ z .0)
         where
           go : (a b c : Bool) → noneFree (planBy a b c) ≡ false → copies (planBy a b c) ≡ a
           go false b c h = refl
@@ -144,12 +121,9 @@ module _ (s : Session) (I : Image) (w : WriteArgs) (t : Trace) where
 
       pub served-write : (a : Answer) (next : Session) (count : ℕ) (after : Trace) (r : ℕ) → (a .status ≡ Served) × (a .session ≡ next) × (a .ops ≡ count)
           → next ≡ withDirty s (w .main) (w .block) (spanBlocks w) (cond (copies p) 0 (dirtyWord s (w .main))) → count ≡ length ops
-          → Emitted t 0 ops after r → Writes s I w t a after
+          → Emitted t 0 ops after r → Gives (writeOutcome s I w t) t a after
       unfolding writeOutcome writeSession
-      served-write a next count after r h q m e = (
-        plan .backup,
-        chosen,
-        gives-served _ s _ (writeOps s I w (plan .backup)) t a h (sym status-late ∙ z)
-            (q ∙ ap (λ (b : Bool). withDirty s (w .main) (w .block) (spanBlocks w) (cond b 0 (dirtyWord s (w .main)))) copied) (m ∙ ap length write-ops) (fits-as write-ops room)
-            (emitted-as e write-ops),
-      )
+      served-write a next count after r h q m e =
+          gives-served _ s _ (writeOps s I w) t a h (sym status-late ∙ z)
+          (q ∙ ap (λ (b : Bool). withDirty s (w .main) (w .block) (spanBlocks w) (cond b 0 (dirtyWord s (w .main)))) copied) (m ∙ ap length write-ops) (fits-as write-ops room)
+          (emitted-as e write-ops)

@@ -17,7 +17,7 @@ ghost use Rattle.model.specs.Status.{codeOf, firstError};
 ghost use Rattle.model.specs.Session.{withDirty};
 ghost use Rattle.model.specs.Ops.{Ops, Trace};
 ghost use Rattle.model.specs.Outcome.{Gives};
-ghost use Rattle.model.specs.Write.{writeArgsOf, copies, copyOnWriteOps, spanBlocks, spanStores, earlyErrors, lateErrors, writeOutcome, Chosen};
+ghost use Rattle.model.specs.Write.{writeArgsOf, copies, copyOnWriteOps, spanBlocks, spanStores, earlyErrors, lateErrors, writeOutcome};
 ghost use Rattle.trace.specs.Emit.{Fits, Emitted};
 ghost use Rattle.session.specs.Parts.{sessionOf};
 ghost use Rattle.span.specs.Steps.{argsOf};
@@ -72,7 +72,7 @@ fn put_write(
     trace: &mut [u64],
 ) -> usize
     requires { ⌜ Writable (segment .layout) (now image) (segment .main) ⌝ }
-    requires { ⌜ CopiesTo (segment .layout) (now image) plan ⌝ }
+    requires { ⌜ CopiesTo (segment .layout) plan ⌝ }
     requires { ⌜ (1 ≤ length (now bytes)) × (at + length (now bytes) ≤ length (now image)) ⌝ }
     requires { ⌜ Fits (now trace) 0 (copyOnWriteOps (segment .layout) (now image) (segment .word) (segment .main) plan ++ spanStores (now image) at (now bytes)) ⌝ }
     ensures { λ r. ⌜ Emitted (now (trace .entry)) 0 (copyOnWriteOps (segment .layout) (now (image .entry)) (segment .word) (segment .main) plan ++ spanStores (now (image .entry)) at (now (bytes .entry))) (now (trace .exit)) r ⌝ }
@@ -108,7 +108,7 @@ pub fn crpm_write(
     bytes: &[u8],
     trace: &mut [u64],
 ) -> Answer
-    ensures { λ r. ⌜ ((j : ℕ) × Chosen session (now (image .entry)) (writeArgsOf main block offset (now (bytes .entry))) (now (trace .entry)) j × Gives (writeOutcome session (now (image .entry)) (writeArgsOf main block offset (now (bytes .entry))) j (now (trace .entry))) (now (trace .entry)) r (now (trace .exit))) ⌝ }
+    ensures { λ r. ⌜ Gives (writeOutcome session (now (image .entry)) (writeArgsOf main block offset (now (bytes .entry))) (now (trace .entry))) (now (trace .entry)) r (now (trace .exit)) ⌝ }
 {
     let layout = session.layout;
     let segments = session.dirty_segments;

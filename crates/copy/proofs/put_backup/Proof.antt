@@ -2,7 +2,6 @@ use Prim.Native.Nat.{_<_}
 use mathlib.Core.Path.{sym, ap, subst}
 use native.Mathlib.Omega.{arith}
 use borrow.Author.Needs.{needs}
-use Rattle.model.specs.Container.{activeState, backupToMain, Free}
 use Rattle.model.specs.Write.{backupOps}
 use Rattle.trace.proofs.EmitLaws.{emitted-length, emitted-nil, emitted-as, emitted-then, fits-as, fits-first, fits-then}
 use Rattle.copy.specs.Steps.{CopiesTo}
@@ -23,7 +22,7 @@ backup-at-requires : tie.Need-backup-at-requires
 backup-at-requires c κs =
     let b = c .before .before .before .before .before .before .before in
     let g = c .before .plan .given in
-    let h : g .0 .0 < b .args .segment .layout .backups = subst (CopiesTo (b .args .segment .layout) (b .args .image .now)) (g .1) (b .pre .1 .0) in
+    let h : g .0 .0 < b .args .segment .layout .backups = subst (CopiesTo (b .args .segment .layout)) (g .1) (b .pre .1 .0) in
     omega arith
 
 put-dirty-copies-requires : tie.Need-put-dirty-copies-requires
@@ -43,8 +42,7 @@ backup-at-requires-2 : tie.Need-backup-at-requires-2
 backup-at-requires-2 c κs =
     let b = c .before .before .before .before .before .before .before in
     let g = c .before .plan2 .given in
-    let h : Free (b .args .segment .layout) (activeState (b .args .image .now)) (backupToMain (b .args .image .now)) (g .0 .0) =
-    subst (CopiesTo (b .args .segment .layout) (b .args .image .now)) (g .1) (b .pre .1 .0) in
+    let h : g .0 .0 < b .args .segment .layout .backups = subst (CopiesTo (b .args .segment .layout)) (g .1) (b .pre .1 .0) in
     omega arith
 
 put-pair-requires : tie.Need-put-pair-requires
@@ -52,8 +50,7 @@ put-pair-requires c κs =
     let b = c .before .before .before .before .before .before .before .before .before in
     let a = b .args in
     let g = c .before .before .before .plan2 .given in
-    let h : Free (a .segment .layout) (activeState (a .image .now)) (backupToMain (a .image .now)) (g .0 .0) =
-    subst (CopiesTo (a .segment .layout) (a .image .now)) (g .1) (b .pre .1 .0) in
+    let h : g .0 .0 < a .segment .layout .backups = subst (CopiesTo (a .segment .layout)) (g .1) (b .pre .1 .0) in
     let from = c .before .before .before .before .before .main-at .ensures in
     let to = c .before .backup-at2 .ensures in
     let ops = new-ops (a .segment .layout) (a .image .now) (a .segment .word) (a .segment .main) _ _ (g .0 .0) (a .plan) (from .0) (to .0) (g .1) in

@@ -97,9 +97,10 @@ returns-2 c =
     let l = c .before .before .before in
     let place = l .before .before .before .span-at in
     let plan = l .before .before .before .before .plan-copy in
-    let count = length-ops (a .t2) (a .image .now) w (a .trace .now) (plan .result) (place .result) ok (plan .ensures) (place .ensures) _ _ (l .before .before .copy-count .ensures .0 (a .image .now)) (l .before .span-words .ensures) in
-    let e = l .late-status .ensures (ops (a .t2) (a .image .now) w (a .trace .now) (plan .result) (place .result) ok (plan .ensures) (place .ensures)) (a .trace .now) count refl in
-    refused-late (a .t2) (a .image .now) w (a .trace .now) (plan .result) (place .result) ok (plan .ensures) (place .ensures) _ _ e
+    let «is» = plan .ensures .0 (a .t2 .«dirty_blocks») in
+    let count = length-ops (a .t2) (a .image .now) w (a .trace .now) (plan .result) (place .result) ok «is» (place .ensures) _ _ (l .before .before .copy-count .ensures .0 (a .image .now)) (l .before .span-words .ensures) in
+    let e = l .late-status .ensures (ops (a .t2) (a .image .now) w (a .trace .now) (plan .result) (place .result) ok «is» (place .ensures)) (a .trace .now) count refl in
+    refused-late (a .t2) (a .image .now) w (a .trace .now) (plan .result) (place .result) ok «is» (place .ensures) _ _ e
     (sym (c .before .before .is-served2 .ensures) ∙ not-true _ (c .before .if2 .taken)) (c .refused2 .ensures)
 
 put-write-requires : tie.Need-put-write-requires
@@ -111,10 +112,11 @@ put-write-requires c κs =
     let l = c .before .before .before in
     let place = l .before .before .before .span-at in
     let plan = l .before .before .before .before .plan-copy in
-    let count = length-ops (a .t2) (a .image .now) w (a .trace .now) (plan .result) (place .result) ok (plan .ensures) (place .ensures) _ _ (l .before .before .copy-count .ensures .0 (a .image .now)) (l .before .span-words .ensures) in
-    let e = l .late-status .ensures (ops (a .t2) (a .image .now) w (a .trace .now) (plan .result) (place .result) ok (plan .ensures) (place .ensures)) (a .trace .now) count refl in
+    let «is» = plan .ensures .0 (a .t2 .«dirty_blocks») in
+    let count = length-ops (a .t2) (a .image .now) w (a .trace .now) (plan .result) (place .result) ok «is» (place .ensures) _ _ (l .before .before .copy-count .ensures .0 (a .image .now)) (l .before .span-words .ensures) in
+    let e = l .late-status .ensures (ops (a .t2) (a .image .now) w (a .trace .now) (plan .result) (place .result) ok «is» (place .ensures)) (a .trace .now) count refl in
     let z = sym e ∙ eqb-true _ _ (sym (c .before .before .is-served2 .ensures) ∙ not-false _ (c .before .if2 .left)) in
-    (ok .segment, (plan .ensures .to, (omega (arith, ok, ok .segment, place .ensures), room (a .t2) (a .image .now) w (a .trace .now) (plan .result) (place .result) ok (plan .ensures) (place .ensures) z)))
+    (ok .segment, (plan .ensures .1, (omega (arith, ok, ok .segment, place .ensures), room (a .t2) (a .image .now) w (a .trace .now) (plan .result) (place .result) ok «is» (place .ensures) z)))
 
 written-session-requires : tie.Need-written-session-requires
 written-session-requires c κs =
@@ -139,10 +141,11 @@ returns-3 c =
     let l = c .before .before .before .before .before .before .before .before in
     let place = l .before .before .before .span-at in
     let plan = l .before .before .before .before .plan-copy in
-    let count = length-ops (a .t2) (a .image .now) w (a .trace .now) (plan .result) (place .result) ok (plan .ensures) (place .ensures) _ _ (l .before .before .copy-count .ensures .0 (a .image .now)) (l .before .span-words .ensures) in
-    let e = l .late-status .ensures (ops (a .t2) (a .image .now) w (a .trace .now) (plan .result) (place .result) ok (plan .ensures) (place .ensures)) (a .trace .now) count refl in
+    let «is» = plan .ensures .0 (a .t2 .«dirty_blocks») in
+    let count = length-ops (a .t2) (a .image .now) w (a .trace .now) (plan .result) (place .result) ok «is» (place .ensures) _ _ (l .before .before .copy-count .ensures .0 (a .image .now)) (l .before .span-words .ensures) in
+    let e = l .late-status .ensures (ops (a .t2) (a .image .now) w (a .trace .now) (plan .result) (place .result) ok «is» (place .ensures)) (a .trace .now) count refl in
     let z = sym e ∙ eqb-true _ _ (sym (c .before .before .before .before .before .before .before .is-served2 .ensures) ∙ not-false _ (c .before .before .before .before .before .before .if2 .left)) in
-    served-write (a .t2) (a .image .now) w (a .trace .now) (plan .result) (place .result) ok (plan .ensures) (place .ensures) z _ _ _ _ _ (c .served .ensures)
+    served-write (a .t2) (a .image .now) w (a .trace .now) (plan .result) (place .result) ok «is» (place .ensures) z _ _ _ _ _ (c .served .ensures)
     (c .before .written-session .ensures (a .bytes .now) refl) (sym count) (c .before .before .before .before .put-write .ensures)
 
 pub crpm-write-spec : {M : Type 1} → statement M
