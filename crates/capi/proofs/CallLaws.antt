@@ -17,10 +17,9 @@ use Rattle.model.specs.Outcome.{Outcome, Gives}
 use Rattle.model.specs.Write.{WriteArgs, writeOutcome}
 use Rattle.model.specs.Checkpoint.{checkpointOutcome}
 use Rattle.model.specs.Reads.{Part, noPart, readStatus, workingPart, checkpointPart}
-use Rattle.write.specs.Steps.{Writes}
 use Rattle.reads.specs.declared.Part as code
 use Rattle.reads.specs.Answered.{Answered}
-use Rattle.interface.specs.Interface.{Words, wordsOf, sessionIn, returned, checkpointReturned, Returns, WriteReturns}
+use Rattle.interface.specs.Interface.{Words, wordsOf, sessionIn, returned, writeReturned, checkpointReturned, Returns}
 
 -- ---- opening, write and checkpoint
 
@@ -35,10 +34,9 @@ module _ (t : Trace) (a : Answer) (number : ℕ) (s′ : Words) (t′ : Trace) (
     checkpoint-returned g =
         answer-returned (checkpointOutcome (sessionIn s) I t) (subst (λ (y : Session). Gives (checkpointOutcome y I t) t a t′) r g)
 
-    pub write-returned : (w : WriteArgs) → Writes x I w t a t′ → WriteReturns I s w t number s′ t′ ops
+    pub write-returned : (w : WriteArgs) → Gives (writeOutcome x I w t) t a t′ → Returns (writeReturned I s w t) number s′ t′ ops
     write-returned w g =
-        let h : Writes (sessionIn s) I w t a t′ = subst (λ (y : Session). Writes y I w t a t′) r g in
-        (h .0, h .1, answer-returned (writeOutcome (sessionIn s) I w (h .0) t) (h .2))
+        answer-returned (writeOutcome (sessionIn s) I w t) (subst (λ (y : Session). Gives (writeOutcome y I w t) t a t′) r g)
 
 -- ---- the reads
 

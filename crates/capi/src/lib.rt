@@ -13,7 +13,7 @@ ghost use Rattle.model.specs.Write.{writeArgsOf};
 ghost use Rattle.model.specs.Replay.{replayOutcome};
 ghost use Rattle.model.specs.Reads.{readStatus, workingPart, checkpointPart};
 ghost use Rattle.model.specs.Same.{sameOutcome};
-ghost use Rattle.interface.specs.Interface.{openReturned, checkpointReturned, Returns, WriteReturns};
+ghost use Rattle.interface.specs.Interface.{openReturned, writeReturned, checkpointReturned, Returns};
 
 // Formats an image.
 #[no_mangle]
@@ -54,7 +54,7 @@ pub extern "C" fn crpm_write(
     trace: &mut [u64],
     ops: &mut u64,
 ) -> u64
-    ensures { λ r. ⌜ WriteReturns (now (image .entry)) (now (session .entry)) (writeArgsOf main block offset (now (bytes .entry))) (now (trace .entry)) r (now (session .exit)) (now (trace .exit)) (now (ops .exit)) ⌝ }
+    ensures { λ r. ⌜ Returns (writeReturned (now (image .entry)) (now (session .entry)) (writeArgsOf main block offset (now (bytes .entry))) (now (trace .entry))) r (now (session .exit)) (now (trace .exit)) (now (ops .exit)) ⌝ }
 {
     let before = interface::session_in(*session);
     let written = write::crpm_write(image, before, main, block, offset, bytes, trace);

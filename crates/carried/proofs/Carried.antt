@@ -8,7 +8,7 @@ use Rattle.model.specs.Outcome.{Outcome}
 use Rattle.interface.specs.Interface.{Words, sessionIn, returned, Returns}
 use Rattle.interface.proofs.WordsLaws.{session-words}
 use Rattle.driver.specs.Stepped.{Reports, Called, OfLibrary}
-use Rattle.driver.proofs.Driven.{driven-histories, driven-safety, driven-opening-safety}
+use Rattle.driver.proofs.Driven.{driven-histories, driven-alike, driven-safety, driven-opening-safety}
 use Rattle.carried.specs.Carried.{reportIn, Exported, opens, writes, checkpoints, CarriedSafety, CarriedHistories}
 
 returned-reports : (o : Outcome) (T : Trace) (number : ℕ) (v : Words) (t : Trace) (ops : ℕ) → Returns (returned T o) number v t ops
@@ -18,7 +18,7 @@ returned-reports o T number v t ops r = (r .0, ap sessionIn (r .1) ∙ session-w
 exported-called : OfLibrary Exported
 exported-called I s _ _ _ (opens l T number v t ops r) = (tt, returned-reports _ T number v t ops r)
 exported-called I s c q _ (writes u e w T number v t ops bytes r) =
-    subst (λ (x : Session). Called I x c q t) e ((bytes, r .1), returned-reports _ T number v t ops (r .2))
+    subst (λ (x : Session). Called I x c q t) e (bytes, returned-reports _ T number v t ops r)
 exported-called I s c q _ (checkpoints u e T number v t ops r) =
     subst (λ (x : Session). Called I x c q t) e (tt, returned-reports _ T number v t ops r)
 
@@ -26,4 +26,4 @@ pub carried-safety : CarriedSafety
 carried-safety = (driven-safety Exported exported-called, driven-opening-safety Exported exported-called)
 
 pub carried-histories : CarriedHistories
-carried-histories = driven-histories Exported exported-called
+carried-histories = (driven-histories Exported exported-called, driven-alike Exported exported-called)

@@ -11,9 +11,9 @@ use Rattle.model.specs.Words.{Image, Bytes}
 use Rattle.model.specs.Ops.{Trace}
 use Rattle.model.specs.Write.{WriteArgs}
 use Rattle.model.specs.History.{Call, callOpen, callWrite, callCheckpoint}
-use Rattle.interface.specs.Interface.{Words, sessionIn, openReturned, checkpointReturned, Returns, WriteReturns}
+use Rattle.interface.specs.Interface.{Words, sessionIn, openReturned, writeReturned, checkpointReturned, Returns}
 use Rattle.driver.specs.Stepped.{Report}
-use Rattle.driver.specs.Driven.{DrivenHistories, DrivenSafety, DrivenOpeningSafety}
+use Rattle.driver.specs.Driven.{DrivenHistories, DrivenAlike, DrivenSafety, DrivenOpeningSafety}
 
 -- what an exported call reports: the number that it returned, the session that stands in the words that it left, and the
 -- number of operations
@@ -21,13 +21,12 @@ abbrev pub reportIn : ℕ → Words → ℕ → Report
 reportIn number s ops = record { number = number; session = sessionIn s; ops = ops }
 
 -- a call of the interface on the image I, with what it reports and the trace that it leaves: the contracts of `crpm_open`, and, on
--- words in which the session s stands, of `crpm_write` (whose bytes are bytes, and which takes the backup segment that its contract
--- names) and `crpm_checkpoint`
+-- words in which the session s stands, of `crpm_write` (whose bytes are bytes) and `crpm_checkpoint`
 pub data Exported (I : Image) (s : Session) : Call → Report → Trace → Type 0 where
   opens : (l : Layout) (T : Trace) (number : ℕ) (v : Words) (t : Trace) (ops : ℕ) → Returns (openReturned l I T) number v t ops
       → Exported I s (callOpen l T) (reportIn number v ops) t
   writes : (u : Words) → sessionIn u ≡ s → (w : WriteArgs) (T : Trace) (number : ℕ) (v : Words) (t : Trace) (ops : ℕ) → Bytes (w .bytes)
-      → (r : WriteReturns I u w T number v t ops) → Exported I s (callWrite w T (r .0)) (reportIn number v ops) t
+      → Returns (writeReturned I u w T) number v t ops → Exported I s (callWrite w T) (reportIn number v ops) t
   checkpoints : (u : Words) → sessionIn u ≡ s → (T : Trace) (number : ℕ) (v : Words) (t : Trace) (ops : ℕ)
       → Returns (checkpointReturned I u T) number v t ops → Exported I s (callCheckpoint T) (reportIn number v ops) t
 
@@ -35,6 +34,6 @@ pub data Exported (I : Image) (s : Session) : Call → Report → Trace → Type
 abbrev pub CarriedSafety : Type 0
 CarriedSafety = DrivenSafety Exported × DrivenOpeningSafety Exported
 
--- their calls are histories
+-- their calls are histories, and the same calls leave the same
 abbrev pub CarriedHistories : Type 0
-CarriedHistories = DrivenHistories Exported
+CarriedHistories = DrivenHistories Exported × DrivenAlike Exported

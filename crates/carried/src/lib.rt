@@ -1,7 +1,6 @@
 // Callers of the C interface that carry the operations out themselves: the three exported calls of a history, each with what its
 // contract gives in the terms of `CarriedSafety` (specs/Carried.antt), so that the checker holds the one against the other.
 use interface::SESSION_WORDS;
-ghost use Prim.Native.Nat.{ℕ};
 ghost use Rattle.model.specs.declared.Session.{Session};
 ghost use Rattle.model.specs.Layout.{layoutOf};
 ghost use Rattle.model.specs.Write.{writeArgsOf};
@@ -24,7 +23,7 @@ pub fn exported_open(
     capi::crpm_open(image, mains, backups, blocks, session, trace, ops)
 }
 
-// A write, with the backup segment that it takes.
+// A write.
 pub fn exported_write(
     image: &[u8],
     session: &mut [u64; SESSION_WORDS],
@@ -35,7 +34,7 @@ pub fn exported_write(
     trace: &mut [u64],
     ops: &mut u64,
 ) -> u64
-    ensures { λ r. ⌜ ((j : ℕ) × Exported (now (image .entry)) (sessionIn (now (session .entry))) (callWrite (writeArgsOf main block offset (now (bytes .entry))) (now (trace .entry)) j) (reportIn r (now (session .exit)) (now (ops .exit))) (now (trace .exit))) ⌝ }
+    ensures { λ r. ⌜ Exported (now (image .entry)) (sessionIn (now (session .entry))) (callWrite (writeArgsOf main block offset (now (bytes .entry))) (now (trace .entry))) (reportIn r (now (session .exit)) (now (ops .exit))) (now (trace .exit)) ⌝ }
 {
     capi::crpm_write(image, session, main, block, offset, bytes, trace, ops)
 }

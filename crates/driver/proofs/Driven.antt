@@ -3,13 +3,14 @@ use mathlib.Core.Path.{_≡_, refl, sym, ap, _∙_, subst}
 use mathlib.Core.Logic.{_≢_}
 use mathlib.Core.List.{List, [], _++_, append-nil}
 use native.Mathlib.Omega.{arith}
+use lib.ListN.{length}
 use Rattle.model.specs.declared.Layout.{Layout}
 use Rattle.model.specs.declared.Session.{Session}
 use Rattle.model.specs.Words.{Image, Bytes}
 use Rattle.model.specs.Status.{served}
 use Rattle.model.specs.Container.{activeLine, checkpointBytes}
 use Rattle.model.specs.Ops.{Ops, Trace}
-use Rattle.model.specs.Outcome.{outcomeOf}
+use Rattle.model.specs.Outcome.{Outcome, outcomeOf}
 use Rattle.model.specs.Open.{openStatus, openOutcome}
 use Rattle.model.specs.Crash.{CrashImage}
 use Rattle.model.specs.Reference.{Page, modelStep}
@@ -17,10 +18,10 @@ use Rattle.model.specs.History.{Call, callOpen, Device, State, outcome, deviceS
 use Rattle.model.specs.CrashSafety.{Moment, PermittedAt, playedAt, CutOpenings, Reads, Recovers, InEveryHistory}
 use Rattle.model.specs.CrashSafety as model
 use Rattle.model.proofs.CrashSafety.{crash-safety}
-use Rattle.model.proofs.Sisters.{reads-follow-model, opening-safety}
+use Rattle.model.proofs.Sisters.{reads-follow-model, same-board, opening-safety}
 use Rattle.driver.specs.Stepped.{Report, Calls, Called, OfLibrary, Stepped}
-use Rattle.driver.specs.Driven.{savedModel, opened, after, Driven, done, next, Made, rests, makes, CutDriven, none, again, DrivenHistories, ShowsAfter, DrivenSafety, DrivenOpeningSafety}
-use Rattle.driver.proofs.SteppedLaws.{called-carried, stepped-device}
+use Rattle.driver.specs.Driven.{savedModel, opened, after, Driven, done, next, Made, rests, makes, CutDriven, none, again, DrivenHistories, DrivenAlike, ShowsAfter, DrivenSafety, DrivenOpeningSafety}
+use Rattle.driver.proofs.SteppedLaws.{part-reported, called-carried, stepped-device}
 
 -- ---- the program's state is the history's
 
@@ -70,6 +71,11 @@ opened-starts l I x T r t I₁ k =
       model = savedModel l I;
     }
 
+-- ---- reports
+
+same-report : (r q : Report) → r .number ≡ q .number → r .session ≡ q .session → r .ops ≡ q .ops → r ≡ q
+same-report r q n s o = λ i. record { number = n i; session = s i; ops = o i }
+
 -- ---- programs whose calls are the library's, however they make them
 
 module _ (C : Calls) (made : OfLibrary C) where
@@ -77,14 +83,14 @@ module _ (C : Calls) (made : OfLibrary C) where
   by-library k = (made _ _ _ _ _ (k .0), k .1)
 
   -- so a program runs a permitted history
-  driven-runs : (s s″ : State) (cs : List Call) → Driven C s cs s″ → AllPermitted s cs × (run s cs ≡ s″)
+  driven-runs : (s s″ : State) (cs : List Call) → Driven C s cs s″ → AllPermitted cs × (run s cs ≡ s″)
   unfolding run
   driven-runs _ _ _ (done s) = (tt, refl)
   driven-runs _ _ _ (next s s″ c cs r t I′ k d) =
       let g = by-library k in
       let e = stepped-state s c r t I′ g in
       let w = driven-runs (after s c r t I′) s″ cs d in
-      ((g .0 .0, subst (λ (x : State). AllPermitted x cs) (sym e) (w .0)), ap (λ (x : State). run x cs) e ∙ w .1)
+      ((g .0 .0, w .0), ap (λ (x : State). run x cs) e ∙ w .1)
 
   -- openings that the code makes and that are cut are the model's
   cut-openings : {l : Layout} {H H′ : Image} → CutDriven C l H H′ → CutOpenings CrashImage l H H′
@@ -125,10 +131,30 @@ module _ (C : Calls) (made : OfLibrary C) where
       let e = opened-starts l I x T r t I₁ g in
       let w = driven-runs (opened l I r I₁) s cs d in (
         sym (opened-status l I x T r t (g .0)) ∙ ok,
-        subst (λ (h : State). AllPermitted h cs) (sym e) (w .0),
+        w .0,
         ap (λ (h : State). run h cs) e ∙ w .1,
         λ c q u m. let y = made (s .device .image) (s .device .session) c q u m in (y .0, y .1 .0),
       )
+
+  -- SAME BOARD, SAME TAPE
+  pub driven-alike : DrivenAlike C
+  driven-alike = record {
+    calls = λ I s b c same r q t u j k.
+        let g = made I s b r t j .1 in
+        let h = made I s c q u k .1 in
+        let e = same-board .calls (deviceAt s I) b c same in (
+          same-report r q (g .0 ∙ ap (λ (o : Outcome). o .status) (e .0) ∙ sym (h .0)) (g .1 ∙ ap (λ (o : Outcome). o .session) (e .0) ∙ sym (h .1))
+              (g .2 ∙ ap (λ (o : Outcome). length (o .ops)) (e .0) ∙ sym (h .2)),
+          part-reported _ (b .trace) r t g ∙ e .1 ∙ sym (part-reported _ (c .trace) q u h),
+        );
+    programs = λ l I T U h x r t I₁ j y q u J₁ k bs cs same s s′ d f.
+        sym (starts-runs l I x T r t I₁ j bs s d) ∙ same-board .histories l I T U h bs cs same ∙ starts-runs l I y U q u J₁ k cs s′ f;
+  }
+    where
+      starts-runs : (l : Layout) (I : Image) (x : Session) (T : Trace) (r : Report) (t : Trace) (I₁ : Image) → Stepped C I x (callOpen l T) r t I₁
+          → (cs : List Call) (s : State) → Driven C (opened l I r I₁) cs s → run (start l I T) cs ≡ s
+      starts-runs l I x T r t I₁ k cs s d =
+          ap (λ (h : State). run h cs) (opened-starts l I x T r t I₁ (by-library k)) ∙ driven-runs (opened l I r I₁) s cs d .1
 
   -- so what holds wherever a history stands holds wherever the program does
   everywhere : (P : State → Type 0) → InEveryHistory P → (l : Layout) (I : Image) (T : Trace) → Bytes I → (x : Session) (r : Report) (t : Trace) (I₁ : Image)
@@ -162,6 +188,9 @@ called I s c r t k = k
 
 pub called-safety : DrivenSafety Called × DrivenOpeningSafety Called
 called-safety = (driven-safety Called called, driven-opening-safety Called called)
+
+pub called-alike : DrivenAlike Called
+called-alike = driven-alike Called called
 
 pub called-histories : DrivenHistories Called
 called-histories = driven-histories Called called

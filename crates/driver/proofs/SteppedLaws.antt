@@ -21,7 +21,7 @@ use Rattle.model.specs.Write.{writeStatus, writeOutcome}
 use Rattle.model.specs.Checkpoint.{checkpointStatus, checkpointOutcome}
 use Rattle.model.specs.Replay.{replayCount, replayStatus, replayOutcome, replayedOps}
 use Rattle.model.specs.Reference.{CallArgs, openArgs, writeArgs, checkpointArgs}
-use Rattle.model.specs.History.{Call, Device, answers, outcome, reported, playedOps, calledOps, replayedImage, deviceStep, Permitted}
+use Rattle.model.specs.History.{Call, Device, answers, outcome, reported, playedOps, calledOps, replayedImage, deviceStep}
 use Rattle.model.proofs.Laws.Layout.{image-lines}
 use Rattle.model.proofs.Laws.Container.{container-then}
 use Rattle.model.proofs.Laws.Ops.{length-encode, take-encode, decode-encode, reported-is, played-ops, replayed-image}
@@ -55,21 +55,21 @@ module _ (o : Outcome) (T : Trace) (r : Report) (t : Trace) (g : Reports o T r t
 -- ---- what replay plays of it
 
 -- only an image of whole lines is served
-served-whole : (s : Session) (I : Image) (a : CallArgs) (t : Trace) (j : ℕ) → answers s I a t j .status ≡ 0 → length I % lineSize ≡ 0
+served-whole : (s : Session) (I : Image) (a : CallArgs) (t : Trace) → answers s I a t .status ≡ 0 → length I % lineSize ≡ 0
 unfolding openOutcome writeOutcome checkpointOutcome outcomeOf openStatus writeStatus checkpointStatus
-served-whole s I (openArgs l) t j h = omega (arith, container-then l I _ h .0 .long, image-lines l)
-served-whole s I (writeArgs w) t j h = omega (arith, container-then (s .layout) I _ h .0 .long, image-lines (s .layout))
-served-whole s I checkpointArgs t j h = omega (arith, container-then (s .layout) I _ h .0 .long, image-lines (s .layout))
+served-whole s I (openArgs l) t h = omega (arith, container-then l I _ h .0 .long, image-lines l)
+served-whole s I (writeArgs w) t h = omega (arith, container-then (s .layout) I _ h .0 .long, image-lines (s .layout))
+served-whole s I checkpointArgs t h = omega (arith, container-then (s .layout) I _ h .0 .long, image-lines (s .layout))
 
 -- and a refused call writes nothing
 none-written : (e : ℕ) (O : Ops) → e ≢ 0 → cond (served e) O [] ≡ []
 none-written e O h = rw (ne-eqb e 0 h) refl
 
-refused-none : (s : Session) (I : Image) (a : CallArgs) (t : Trace) (j : ℕ) → answers s I a t j .status ≢ 0 → answers s I a t j .ops ≡ []
+refused-none : (s : Session) (I : Image) (a : CallArgs) (t : Trace) → answers s I a t .status ≢ 0 → answers s I a t .ops ≡ []
 unfolding openOutcome writeOutcome checkpointOutcome outcomeOf
-refused-none s I (openArgs l) t j h = none-written (openStatus l I t) _ h
-refused-none s I (writeArgs w) t j h = none-written (writeStatus s I w j t) _ h
-refused-none s I checkpointArgs t j h = none-written (checkpointStatus s I t) _ h
+refused-none s I (openArgs l) t h = none-written (openStatus l I t) _ h
+refused-none s I (writeArgs w) t h = none-written (writeStatus s I w t) _ h
+refused-none s I checkpointArgs t h = none-written (checkpointStatus s I t) _ h
 
 none-played : (I : Image) (t : Trace) (p : ℕ) → playedOps I [] t p ≡ []
 unfolding playedOps replayedOps encode decode
@@ -83,15 +83,15 @@ none-replayed I t p = rw (reported-is [] t) (go (served (replayStatus I [] p)) (
     go true n = rw (take-nil (3 * n)) refl
     go false n = refl
 
-module _ (d : Device) (c : Call) (permitted : Permitted d c) where
+module _ (d : Device) (c : Call) where
   -- so replay plays what a call writes, whatever the image
   pub replay-carries : (p : ℕ) → calledOps d c p ≡ take p (outcome d c .ops)
   replay-carries p = go (ℕ-discrete (length (d .image) % lineSize) 0)
     where
       go : Dec (length (d .image) % lineSize ≡ 0) → calledOps d c p ≡ take p (outcome d c .ops)
-      go (yes whole) = played-ops _ _ _ p whole (call-ok d c permitted)
+      go (yes whole) = played-ops _ _ _ p whole (call-ok d c)
       go (no not) =
-          let e : outcome d c .ops ≡ [] = refused-none _ _ (c .args) _ _ (λ h. not (served-whole _ _ (c .args) _ _ h)) in
+          let e : outcome d c .ops ≡ [] = refused-none _ _ (c .args) _ (λ h. not (served-whole _ _ (c .args) _ h)) in
           rw e (none-played (d .image) (c .trace) p ∙ sym (take-nil p))
 
   pub replay-leaves : replayedImage (d .image) (outcome d c .ops) (c .trace) (length (outcome d c .ops)) ≡ replay (outcome d c .ops) (d .image)
@@ -101,16 +101,16 @@ module _ (d : Device) (c : Call) (permitted : Permitted d c) where
       go : Dec (length (d .image) % lineSize ≡ 0)
           → replayedImage (d .image) (outcome d c .ops) (c .trace) (length (outcome d c .ops)) ≡ replay (outcome d c .ops) (d .image)
       go (yes whole) =
-          replayed-image _ _ _ _ whole (call-ok d c permitted) ∙ ap (λ (X : Ops). replay X (d .image)) (take-length (outcome d c .ops))
+          replayed-image _ _ _ _ whole (call-ok d c) ∙ ap (λ (X : Ops). replay X (d .image)) (take-length (outcome d c .ops))
       go (no not) =
-          let e : outcome d c .ops ≡ [] = refused-none _ _ (c .args) _ _ (λ h. not (served-whole _ _ (c .args) _ _ h)) in
+          let e : outcome d c .ops ≡ [] = refused-none _ _ (c .args) _ (λ h. not (served-whole _ _ (c .args) _ h)) in
           rw e (none-replayed (d .image) (c .trace) 0)
 
 -- ---- the step of the code is the module's step
 
 module _ (d : Device) (c : Call) (r : Report) (t : Trace) (k : Called (d .image) (d .session) c r t) where
   pub called-carried : (p : ℕ) → p ≤ r .ops → carried t p ≡ calledOps d c p
-  called-carried p h = carried-first (outcome d c) (c .trace) r t (k .1) p h ∙ sym (replay-carries d c (k .0) p)
+  called-carried p h = carried-first (outcome d c) (c .trace) r t (k .1) p h ∙ sym (replay-carries d c p)
 
   -- replay of the reported part leaves what carrying it out leaves
   device-replayed : (I′ : Image) → I′ ≡ replayOutcome (d .image) (take (opNumbers * r .ops) t) (r .ops) .image
@@ -119,7 +119,7 @@ module _ (d : Device) (c : Call) (r : Report) (t : Trace) (k : Called (d .image)
   device-replayed I′ e = (
     k,
     e ∙ ap₂ (λ (x : Trace) (n : ℕ). replayOutcome (d .image) x n .image) (part-reported (outcome d c) (c .trace) r t (k .1)) (k .1 .2)
-        ∙ replay-leaves d c (k .0) ∙ ap (λ (X : Ops). replay X (d .image)) (sym (carried-all (outcome d c) (c .trace) r t (k .1))),
+        ∙ replay-leaves d c ∙ ap (λ (X : Ops). replay X (d .image)) (sym (carried-all (outcome d c) (c .trace) r t (k .1))),
   )
 
 pub replayed-step : (I : Image) (s : Session) (c : Call) (r : Report) (t : Trace) (I′ : Image) → Called I s c r t
@@ -132,7 +132,7 @@ pub stepped-device : (d : Device) (c : Call) (r : Report) (t : Trace) (I′ : Im
 unfolding deviceStep
 stepped-device d c r t I′ k =
     let g = k .0 .1 in (
-      sym (k .1 ∙ ap (λ (X : Ops). replay X (d .image)) (carried-all (outcome d c) (c .trace) r t g) ∙ sym (replay-leaves d c (k .0 .0))),
+      sym (k .1 ∙ ap (λ (X : Ops). replay X (d .image)) (carried-all (outcome d c) (c .trace) r t g) ∙ sym (replay-leaves d c)),
       sym (g .1),
       ap (λ (X : Ops). d .played ++ X) (ap (λ (n : ℕ). calledOps d c n) (sym (g .2)) ∙ sym (called-carried d c r t (k .0) (r .ops) (omega arith))),
     )

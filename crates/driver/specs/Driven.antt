@@ -1,25 +1,28 @@
 -- Programs that open a container and then make call after call, each on the image and the session that the last one left:
--- their calls are histories (`DrivenHistories`), and demands 2 and 3 hold of them (`DrivenSafety`), for each way C of making
+-- their calls are histories (`DrivenHistories`), the same calls leave the same (`DrivenAlike`), and demands 2 and 3 hold of them
+-- (`DrivenSafety`), for each way C of making
 -- the calls: by the library (`Called`), or by the C interface (`Exported` of crate carried). Where such a program stands is
 -- said in terms of the code: the images that stood, the sessions that were answered, the operations read from the traces and
 -- carried out, and a reference model that is fed whether each call was served by its number. The call in which power failed,
 -- the openings that were cut and the last one are calls that the code made too. Proved in proofs/Driven.antt. Assumes what
 -- model's specs/Crash.antt does of the hardware, and that the image handed to the first opening was durable: then so is what
 -- that opening leaves (`OpeningSettles`; after a format `FormatSettles`, when a program starts again `FlushDurable`).
-use Prim.Native.Nat.{ℕ, _≤_, _<_}
+use Prim.Native.Nat.{ℕ, _*_, _≤_, _<_}
 use mathlib.Core.Path.{_≡_}
 use mathlib.Core.Logic.{_≢_}
 use mathlib.Core.List.{List, [], _∷_, _++_}
+use lib.ListN.{length, take}
 use Rattle.model.specs.declared.Layout.{Layout}
 use Rattle.model.specs.declared.Session.{Session}
 use Rattle.model.specs.Words.{Image, Bytes}
 use Rattle.model.specs.Status.{served}
 use Rattle.model.specs.Container.{activeLine, checkpointBytes}
-use Rattle.model.specs.Ops.{Ops, Trace}
+use Rattle.model.specs.Ops.{opNumbers, Ops, Trace}
 use Rattle.model.specs.Open.{openStatus}
 use Rattle.model.specs.Crash.{CrashImage}
 use Rattle.model.specs.Reference.{Page, Model, modelStep}
 use Rattle.model.specs.History.{Call, callOpen, State, outcome, run, start, Permitted, AllPermitted}
+use Rattle.model.specs.Sisters.{SameCall, SameCalls}
 use Rattle.model.specs.CrashSafety.{Moment, between, during, MayShow, Reads}
 use Rattle.driver.specs.Stepped.{Report, Calls, carried, Stepped}
 
@@ -77,9 +80,22 @@ DrivenHistories C =
     → (x : Session) (r : Report) (t : Trace) (I₁ : Image) → Stepped C I x (callOpen l T) r t I₁ → r .number ≡ 0
     -- then any steps, which lead to the state s
     → (cs : List Call) (s : State) → Driven C (opened l I r I₁) cs s
-    → (openStatus l I T ≡ 0) × AllPermitted (start l I T) cs × (run (start l I T) cs ≡ s)
+    → (openStatus l I T ≡ 0) × AllPermitted cs × (run (start l I T) cs ≡ s)
     × ((c : Call) (q : Report) (u : Trace) → C (s .device .image) (s .device .session) c q u
-    → Permitted (s .device) c × (q .number ≡ outcome (s .device) c .status))
+    → Permitted c × (q .number ≡ outcome (s .device) c .status))
+
+-- same board, same tape, of the code: two programs that make the same calls, whatever stood on their traces
+pub record DrivenAlike (C : Calls) : Type 0 where
+  -- a call on the same image with the same session reports the same, and puts the same on the trace
+  pub calls : (I : Image) (s : Session) (b c : Call) → SameCall b c → (r q : Report) (t u : Trace) → C I s b r t → C I s c q u
+      → (r ≡ q) × (take (opNumbers * r .ops) t ≡ take (opNumbers * q .ops) u)
+  -- opened on the same image with the same sizes, they stand at the same place afterwards: image, session, all operations carried out, and
+  -- model
+  pub programs : (l : Layout) (I : Image) (T U : Trace) → length T ≡ length U
+      → (x : Session) (r : Report) (t : Trace) (I₁ : Image) → Stepped C I x (callOpen l T) r t I₁
+      → (y : Session) (q : Report) (u : Trace) (J₁ : Image) → Stepped C I y (callOpen l U) q u J₁
+      → (bs cs : List Call) → SameCalls bs cs
+      → (s s′ : State) → Driven C (opened l I r I₁) bs s → Driven C (opened l I q J₁) cs s′ → s ≡ s′
 
 -- after the crash image H: any number of openings that are cut, which leave H′, and one that is not. It is served, and both
 -- reads of the image that it leaves give a page Q of which May holds; H′ are bytes, and the pages with which a program starts

@@ -10,7 +10,7 @@ use Rattle.model.specs.Words.{Image}
 use Rattle.model.specs.Status.{codeOf}
 use Rattle.model.specs.Ops.{opNumbers, Ops, Trace, decode, written, replay}
 use Rattle.model.specs.Outcome.{Outcome}
-use Rattle.model.specs.History.{Call, answers, PermittedOn}
+use Rattle.model.specs.History.{Call, answers, Permitted}
 
 -- what a call reports: its number, the session that it answers, and how many operations stand on the trace
 pub record Report : Type 0 where
@@ -31,11 +31,10 @@ Reports o t r after =
 abbrev pub Calls : Type 1
 Calls = Image → Session → Call → Report → Trace → Type 0
 
--- by the library: the call c is permitted on the image I with the session s, and the report r and the trace t that it leaves
--- give its outcome
+-- by the library: the call c is permitted, and the report r and the trace t that it leaves give its outcome on the image I with the
+-- session s
 abbrev pub Called : Calls
-Called I s c r t =
-    PermittedOn s I (c .args) (c .trace) (c .choice) × Reports (answers s I (c .args) (c .trace) (c .choice)) (c .trace) r t
+Called I s c r t = Permitted c × Reports (answers s I (c .args) (c .trace)) (c .trace) r t
 
 -- whatever may come of a call made as C says may come of the library's
 abbrev pub OfLibrary : Calls → Type 0

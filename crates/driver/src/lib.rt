@@ -4,7 +4,7 @@ use model::Answer;
 use model::Session;
 use replay::Replayed;
 ghost use mathlib.Core.Path.{_≡_};
-ghost use Prim.Native.Nat.{ℕ, _*_, _≤_};
+ghost use Prim.Native.Nat.{_*_, _≤_};
 ghost use lib.ListN.{length, take};
 ghost use Rattle.model.specs.declared.Session.{Session};
 ghost use Rattle.model.specs.Layout.{layoutOf};
@@ -51,7 +51,7 @@ pub fn step_write(
     bytes: &[u8],
     trace: &mut [u64],
 ) -> Answer
-    ensures { λ r. ⌜ ((j : ℕ) × Stepped Called (now (image .entry)) session (callWrite (writeArgsOf main block offset (now (bytes .entry))) (now (trace .entry)) j) (reportOf r) (now (trace .exit)) (now (image .exit))) ⌝ }
+    ensures { λ r. ⌜ Stepped Called (now (image .entry)) session (callWrite (writeArgsOf main block offset (now (bytes .entry))) (now (trace .entry))) (reportOf r) (now (trace .exit)) (now (image .exit)) ⌝ }
 {
     let written = write::crpm_write(image, session, main, block, offset, bytes, trace);
     play_reported(image, trace, written.ops);

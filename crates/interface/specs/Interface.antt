@@ -12,7 +12,7 @@ use Rattle.model.specs.Words.{Image}
 use Rattle.model.specs.Ops.{Trace, written}
 use Rattle.model.specs.Outcome.{Outcome}
 use Rattle.model.specs.Open.{openOutcome}
-use Rattle.model.specs.Write.{WriteArgs, writeOutcome, Chosen}
+use Rattle.model.specs.Write.{WriteArgs, writeOutcome}
 use Rattle.model.specs.Checkpoint.{checkpointOutcome}
 
 -- ---- a session as words
@@ -49,13 +49,12 @@ pub record Returned : Type 0 where
 abbrev pub returned : Trace → Outcome → Returned
 returned t o = record { number = o .status; session = wordsOf (o .session); trace = written (o .ops) t; ops = length (o .ops) }
 
--- of each call; a write and a checkpoint take the session that stands in the words s, and j is the backup segment that a write takes
--- if it needs a new one
+-- of each call; a write and a checkpoint take the session that stands in the words s
 abbrev pub openReturned : Layout → Image → Trace → Returned
 openReturned l I t = returned t (openOutcome l I t)
 
-abbrev pub writeReturned : Image → Words → WriteArgs → ℕ → Trace → Returned
-writeReturned I s w j t = returned t (writeOutcome (sessionIn s) I w j t)
+abbrev pub writeReturned : Image → Words → WriteArgs → Trace → Returned
+writeReturned I s w t = returned t (writeOutcome (sessionIn s) I w t)
 
 abbrev pub checkpointReturned : Image → Words → Trace → Returned
 checkpointReturned I s t = returned t (checkpointOutcome (sessionIn s) I t)
@@ -63,8 +62,3 @@ checkpointReturned I s t = returned t (checkpointOutcome (sessionIn s) I t)
 -- number, session, trace and number of operations are those that are returned
 abbrev pub Returns : Returned → ℕ → Words → Trace → ℕ → Type 0
 Returns r number s t ops = (number ≡ r .number) × (s ≡ r .session) × (t ≡ r .trace) × (ops ≡ r .ops)
-
--- a write returns what some backup segment j gives that it may take: the same j in all
-abbrev pub WriteReturns : Image → Words → WriteArgs → Trace → ℕ → Words → Trace → ℕ → Type 0
-WriteReturns I s w t number s′ t′ ops =
-    (j : ℕ) × Chosen (sessionIn s) I w t j × Returns (writeReturned I s w j t) number s′ t′ ops

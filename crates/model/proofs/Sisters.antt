@@ -2,12 +2,13 @@
 -- finished opening settles, openings alone are safe, the epoch counts the checkpoints.
 use Prim.Native.Nat.{ℕ, _+_}
 use mathlib.Core.Path.{_≡_, refl, sym, ap, _∙_, subst, subst₂}
-use mathlib.Core.List.{List, [], _∷_}
+use mathlib.Core.List.{List, [], _∷_, _++_}
 use native.Mathlib.Omega.{arith}
 use lib.ListN.{length}
 use Rattle.model.specs.declared.Layout.{Layout}
 use Rattle.model.specs.declared.Session.{Session}
 use Rattle.model.specs.Words.{Image}
+use Rattle.model.specs.Status.{served}
 use Rattle.model.specs.Container.{committedEpoch, activeLine, checkpointBytes}
 use Rattle.model.specs.Session.{zeroSession}
 use Rattle.model.specs.Ops.{Ops, Trace, traceShort, replay}
@@ -16,12 +17,12 @@ use Rattle.model.specs.Replay.{replayOutcome, replayedOps}
 use Rattle.model.specs.Open.{recoveryOps, openStatus, openOutcome}
 use Rattle.model.specs.Write.{writeStatus, writeOutcome}
 use Rattle.model.specs.Checkpoint.{checkpointStatus, checkpointOutcome}
-use Rattle.model.specs.Reference.{CallArgs, openArgs, writeArgs, checkpointArgs}
+use Rattle.model.specs.Reference.{CallArgs, openArgs, writeArgs, checkpointArgs, modelStep}
 use Rattle.model.specs.Crash.{CrashImage}
 use Rattle.model.specs.History.{Call, Device, State, answers, outcome, reported, playedOps, replayedImage, deviceStep, step, run, openedImage, start, AllPermitted}
 use Rattle.model.specs.CrashSafety.{Reads}
 use Rattle.model.specs.EpochCounts.{checkpoints, EpochCounts}
-use Rattle.model.specs.Sisters.{ReadsFollowModel, SameCalls, SameBoard, OpeningSettles, OpeningSafety}
+use Rattle.model.specs.Sisters.{ReadsFollowModel, SameCall, SameCalls, SameBoard, OpeningSettles, OpeningSafety}
 use Rattle.model.proofs.Laws.Ops.{reported-is}
 use Rattle.model.proofs.Argument.Settled.{settled-off}
 use Rattle.model.proofs.Laws.Crash.Images.{newest, settled-only}
@@ -49,8 +50,8 @@ answers-same s I (openArgs l) t u e = rw e
 answers-same s I (writeArgs w) t u e = rw e
 answers-same s I checkpointArgs t u e = rw e
 
-outcomes-same : (d : Device) (b c : Call) → b .args ≡ c .args → length (b .trace) ≡ length (c .trace) → outcome d b ≡ outcome d c
-outcomes-same d b c e h =
+outcomes-same : (d : Device) (b c : Call) → SameCall b c → outcome d b ≡ outcome d c
+outcomes-same d b c (e, h) =
     ap (λ (a : CallArgs). answers (d .session) (d .image) a (b .trace)) e ∙ answers-same (d .session) (d .image) (c .args) (b .trace) (c .trace) h
 
 -- and reports the same, whatever stood on the trace
@@ -65,23 +66,26 @@ image-same : (I : Image) (O : Ops) (t u : Trace) (p : ℕ) → replayedImage I O
 unfolding replayedImage
 image-same I O t u p = ap (λ (x : Trace). replayOutcome I x p .image) (reported-same O t u)
 
-step-same : (s : State) (b c : Call) → b .args ≡ c .args → length (b .trace) ≡ length (c .trace) → step s b ≡ step s c
+step-same : (s : State) (b c : Call) → SameCall b c → step s b ≡ step s c
 unfolding step deviceStep
-step-same s b c e h =
-    let o = outcomes-same (s .device) b c e h in
-    rw (
-      o,
-      e,
-      played-same (s .device .image) (outcome (s .device) c .ops) (b .trace) (c .trace) (length (outcome (s .device) c .ops)),
-      image-same (s .device .image) (outcome (s .device) c .ops) (b .trace) (c .trace) (length (outcome (s .device) c .ops)),
-    ) refl
+step-same s b c same =
+    let d : Device = s .device in
+    let o = outcomes-same d b c same in
+    let played = ap (λ (x : Outcome). playedOps (d .image) (x .ops) (b .trace) (length (x .ops))) o
+    ∙ played-same (d .image) (outcome d c .ops) (b .trace) (c .trace) (length (outcome d c .ops)) in
+    let image = ap (λ (x : Outcome). replayedImage (d .image) (x .ops) (b .trace) (length (x .ops))) o
+    ∙ image-same (d .image) (outcome d c .ops) (b .trace) (c .trace) (length (outcome d c .ops)) in
+    λ i. record {
+      device = record { layout = d .layout; durable = d .durable; played = d .played ++ played i; image = image i; session = o i .session };
+      model = modelStep (d .layout) (same .0 i) (served (o i .status)) (s .model);
+    }
 
 run-same : (s : State) (bs cs : List Call) → SameCalls bs cs → run s bs ≡ run s cs
 unfolding run
 run-same s [] [] same = refl
 run-same s [] (c ∷ cs) same = absurd same
 run-same s (b ∷ bs) [] same = absurd same
-run-same s (b ∷ bs) (c ∷ cs) same = ap (λ (x : State). run x bs) (step-same s b c (same .0) (same .1)) ∙ run-same (step s c) bs cs (same .2)
+run-same s (b ∷ bs) (c ∷ cs) same = ap (λ (x : State). run x bs) (step-same s b c (same .0)) ∙ run-same (step s c) bs cs (same .1)
 
 start-same : (l : Layout) (I : Image) (t u : Trace) → length t ≡ length u → start l I t ≡ start l I u
 unfolding start openedImage
@@ -89,12 +93,12 @@ start-same l I t u h =
     rw (answers-same zeroSession I (openArgs l) t u h, image-same I (openOutcome l I u .ops) t u (length (openOutcome l I u .ops))) refl
 
 pub same-board : SameBoard
-same-board l I t u h bs cs same = (
-  ap (λ (s : State). run s bs) (start-same l I t u h) ∙ run-same (start l I u) bs cs same,
-  λ d b c e k.
-      let o = outcomes-same d b c e k in
-      (o, ap (λ (x : Outcome). reported (x .ops) (b .trace)) o ∙ reported-same (outcome d c .ops) (b .trace) (c .trace)),
-)
+same-board = record {
+  calls = λ d b c same.
+      let o = outcomes-same d b c same in
+      (o, ap (λ (x : Outcome). reported (x .ops) (b .trace)) o ∙ reported-same (outcome d c .ops) (b .trace) (c .trace));
+  histories = λ l I t u h bs cs same. ap (λ (s : State). run s bs) (start-same l I t u h) ∙ run-same (start l I u) bs cs same;
+}
 
 -- ---- openings
 

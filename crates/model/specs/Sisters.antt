@@ -21,22 +21,25 @@ use Rattle.model.specs.CrashSafety.{Reads, Recovers, InEveryHistory, Cut
 abbrev pub ReadsFollowModel : Type 0
 ReadsFollowModel = InEveryHistory (λ s. Reads (s .device .layout) (s .device .image) (s .model .working) (s .model .checkpoint))
 
--- two lists of the same calls, whatever stood on their traces, which have the same lengths
+-- the same call, whatever stands on its trace, which has the same length; and lists of such
+abbrev pub SameCall : Call → Call → Type 0
+SameCall b c = (b .args ≡ c .args) × (length (b .trace) ≡ length (c .trace))
+
 abbrev pub SameCalls : List Call → List Call → Type 0
 SameCalls [] [] = Unit {0}
 SameCalls [] (c ∷ cs) = ⊥
 SameCalls (b ∷ bs) [] = ⊥
-SameCalls (b ∷ bs) (c ∷ cs) = (b .args ≡ c .args) × (length (b .trace) ≡ length (c .trace)) × SameCalls bs cs
+SameCalls (b ∷ bs) (c ∷ cs) = SameCall b c × SameCalls bs cs
 
--- same board, same tape (SPECIFICATION 3.4): two histories that start at the same image with the same sizes, and have the same calls, stand
--- at the same place after them: image, session, all operations played, and model; and the next call of both answers the same and reports
--- the same part of the trace
-abbrev pub SameBoard : Type 0
-SameBoard =
-    (l : Layout) (I : Image) (t u : Trace) → length t ≡ length u → (bs cs : List Call) → SameCalls bs cs
-    → (run (start l I t) bs ≡ run (start l I u) cs)
-    × ((d : Device) (b c : Call) → b .args ≡ c .args → length (b .trace) ≡ length (c .trace)
-    → (outcome d b ≡ outcome d c) × (reported (outcome d b .ops) (b .trace) ≡ reported (outcome d c .ops) (c .trace)))
+-- same board, same tape (SPECIFICATION 3.4)
+pub record SameBoard : Type 0 where
+  -- wherever a module stands, the same call answers the same and reports the same part of the trace
+  pub calls : (d : Device) (b c : Call) → SameCall b c
+      → (outcome d b ≡ outcome d c) × (reported (outcome d b .ops) (b .trace) ≡ reported (outcome d c .ops) (c .trace))
+  -- two histories that start at the same image with the same sizes, and have the same calls, stand at the same place after them: image,
+  -- session, all operations played, and model
+  pub histories : (l : Layout) (I : Image) (t u : Trace) → length t ≡ length u → (bs cs : List Call) → SameCalls bs cs
+      → run (start l I t) bs ≡ run (start l I u) cs
 
 -- every operation that a call writes is well formed, whatever the image and the session: replay serves the reported part
 -- and plays all of it, or the first p where it is stopped there; so it is for openings before, in and after a history

@@ -22,8 +22,7 @@ returns c =
     let o = c .before .before .before .before .before in
     let i = o .before .before in
     let a = i .before .before .before .before .before .args in
-    let g = o .crpm-write .ensures in
-    write-returned (a .trace .now) (o .crpm-write .result) _ _ _ _ (e .0) (e .1 .0) (e .1 .1) (a .image .now) (a .session .now) _ (i .session-in .ensures) (writeArgsOf (a .main) (a .block) (a .offset) (a .bytes .now)) (g .0, g .1, g .2)
+    write-returned (a .trace .now) (o .crpm-write .result) _ _ _ _ (e .0) (e .1 .0) (e .1 .1) (a .image .now) (a .session .now) _ (i .session-in .ensures) (writeArgsOf (a .main) (a .block) (a .offset) (a .bytes .now)) (o .crpm-write .ensures)
 
 pub crpm-write-spec : {M : Type 1} → statement M
 crpm-write-spec =

@@ -16,7 +16,7 @@ returns c =
     let e = c .before .before .crpm-write .ensures in
     let b = c .before .before .before .before .before .before .before in
     let a = b .before .before .args in
-    (e .0, writes (a .session .now) refl (writeArgsOf (a .main) (a .block) (a .offset) (a .bytes .now)) (a .trace .now) _ _ _ _ (λ i. b .shared-slice-known2 .given i .fits) (e .0, e .1, e .2))
+    writes (a .session .now) refl (writeArgsOf (a .main) (a .block) (a .offset) (a .bytes .now)) (a .trace .now) _ _ _ _ (λ i. b .shared-slice-known2 .given i .fits) (e .0, e .1, e .2, e .3)
 
 pub exported-write-spec : {M : Type 1} → statement M
 exported-write-spec = tie.close (tie.spec crpm-write-requires same-length returns)
