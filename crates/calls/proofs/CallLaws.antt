@@ -11,14 +11,14 @@ use Rattle.model.specs.Words.{Image}
 use Rattle.model.specs.Status.{codeOf}
 use Rattle.model.specs.Ops.{Trace}
 use Rattle.model.specs.Outcome.{Outcome}
-use Rattle.model.specs.History.{Call, Device, outcome, deviceStep, Permitted}
+use Rattle.model.specs.History.{Call, Device, outcome, deviceStep}
 use Rattle.driver.specs.Stepped.{reportOf, Called, Stepped}
 use Rattle.driver.proofs.SteppedLaws.{stepped-device}
 use Rattle.text.specs.Text.{text}
 use Rattle.printer.specs.Decimal.{decimal, Appended}
 use Rattle.printer.proofs.AppendedLaws.{appended-as}
 use Rattle.calls.specs.declared.Ran.{Ran}
-use Rattle.calls.specs.Prints.{answerText, checkpointCall, checkpointed, checkpointText}
+use Rattle.calls.specs.Printed.{answerText, checkpointCall, checkpointed, checkpointText}
 use Rattle.calls.specs.Ran.{answerOf, DeviceAt, CallRan, CheckpointRan}
 
 -- an answer's text, behind another text
@@ -33,9 +33,6 @@ module _ (c : Call) (I : Image) (a : Ran) (x : Answer) (t : Trace) (I′ : Image
   here : Stepped Called (d .image) (d .session) c (reportOf x) t I′
   here = subst₂ (λ (J : Image) (u : Session). Stepped Called J u c (reportOf x) t I′) (sym («is» .0)) (sym («is» .1)) stepped
 
-  call-permitted : Permitted d c
-  call-permitted = here .0 .0
-
   call-step : DeviceAt (deviceStep d c) I′ (r .session)
   call-step = let q = stepped-device d c (reportOf x) t I′ here in (q .0, q .1 ∙ sym kept)
 
@@ -49,7 +46,6 @@ pub call-ran : (key : String) (c : Call) (I : Image) (a : Ran) (x : Answer) (t :
     → Stepped Called I (a .session) c (reportOf x) t I′ → r .session ≡ x .session → k ≡ text key → code ≡ codeOf (x .status)
     → Appended out (a .place) (answerOf k code (x .ops)) out′ (r .place) → CallRan I a c key out I′ out′ r
 call-ran key c I a x t I′ k out out′ code r s kept e f g d «is» = (
-  call-permitted c I a x t I′ r s kept d «is»,
   call-text c I a x t I′ r s kept d «is» [] k out out′ key code e f g,
   call-step c I a x t I′ r s kept d «is»,
 )

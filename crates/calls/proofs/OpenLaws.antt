@@ -16,7 +16,7 @@ use Rattle.text.specs.Text.{text}
 use Rattle.printer.specs.Decimal.{Appended}
 use Rattle.printer.proofs.AppendedLaws.{appended-then}
 use Rattle.calls.specs.declared.Ran.{Ran}
-use Rattle.calls.specs.Prints.{blank, openText}
+use Rattle.calls.specs.Printed.{blank, openText}
 use Rattle.calls.specs.Ran.{CallRan, Opened}
 
 -- a format of a right length with right sizes is served
@@ -36,4 +36,4 @@ pub opened : (l : Layout) (I : Image) (s : Session) (out out₁ out₂ : List �
 unfolding openText deviceStep start openedImage
 opened l I s out out₁ out₂ I′ w r e a b kept =
     let x = (rw e at a) (standing l (formatted l) s) (refl, refl) in
-    (appended-then (x .1) b, (x .2 .0, x .2 .1 ∙ sym kept))
+    (appended-then (x .0) b, (x .1 .0, x .1 .1 ∙ sym kept))

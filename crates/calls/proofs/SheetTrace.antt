@@ -8,7 +8,7 @@ use Rattle.model.specs.declared.Layout.{Layout}
 use Rattle.model.proofs.Laws.Format.{formatted-accepted}
 use Rattle.model.proofs.Laws.TraceLength.{write-trace-suffices, checkpoint-trace-suffices}
 use Rattle.lines.specs.Line.{mostSize}
-use Rattle.calls.specs.Prints.{traceNumbers, blank}
+use Rattle.calls.specs.Printed.{traceNumbers, blank}
 use Rattle.calls.specs.SheetTrace.{SheetSizes, SheetTraceSuffices}
 
 blank-long : length blank ≡ traceNumbers
@@ -21,6 +21,6 @@ blocks-most l h = mul-le-mul {n₁ = l .blocks} {m₁ = l .mains} {n₂ = mostSi
 pub sheet-trace-suffices : SheetTraceSuffices
 sheet-trace-suffices = record {
   opening = λ l h. formatted-accepted l (omega (arith, h .mains, h .backups, h .blocks)) blank (omega (arith, blank-long, blocks-most l h));
-  write = λ s I w j h. write-trace-suffices s I w j blank (omega (arith, blank-long, h .blocks));
+  write = λ s I w h. write-trace-suffices s I w blank (omega (arith, blank-long, h .blocks));
   checkpoint = λ s I h. checkpoint-trace-suffices s I blank (omega (arith, blank-long, blocks-most (s .layout) h));
 }

@@ -1,4 +1,4 @@
--- Laws of the texts of a sheet's calls: the bytes that the code has are each text of specs/Prints.antt.
+-- Laws of the texts of a sheet's calls: the bytes that the code has are each text of specs/Printed.antt.
 use Prim.Native.Nat.{ℕ}
 use mathlib.Core.Path.{_≡_, refl}
 use mathlib.Core.List.{List, [], _∷_, _++_}

@@ -1,3 +1,3 @@
-pub mod Prints
+pub mod Printed
 pub mod SheetTrace
 pub mod Ran

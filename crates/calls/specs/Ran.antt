@@ -10,13 +10,13 @@ use Rattle.model.specs.declared.Layout.{Layout}
 use Rattle.model.specs.declared.Session.{Session}
 use Rattle.model.specs.Words.{Image}
 use Rattle.model.specs.Format.{formatted}
-use Rattle.model.specs.History.{Device, Call, outcome, deviceStep, start, Permitted}
+use Rattle.model.specs.History.{Device, Call, outcome, deviceStep, start}
 use Rattle.text.specs.Text.{text}
 use Rattle.parser.specs.Script.{Group}
 use Rattle.printer.specs.Decimal.{numberSize, decimal, Appended}
 use Rattle.calls.specs.declared.Ran.{Ran}
 use Rattle.calls.specs.declared.GroupParts.{GroupParts}
-use Rattle.calls.specs.Prints.{blank, answerText, checkpointed, checkpointText, openText}
+use Rattle.calls.specs.Printed.{blank, answerText, checkpointed, checkpointText, openText}
 
 -- ---- sizes
 
@@ -52,7 +52,7 @@ Opened l out I′ out′ r = Appended out 0 (openText l) out′ (r .place) × De
 abbrev pub CallRan : Image → Ran → Call → String → List ℕ → Image → List ℕ → Ran → Type 0
 CallRan I a c key out I′ out′ r =
     (d : Device) → DeviceAt d I (a .session)
-    → Permitted d c × Appended out (a .place) (answerText key (outcome d c)) out′ (r .place) × DeviceAt (deviceStep d c) I′ (r .session)
+    → Appended out (a .place) (answerText key (outcome d c)) out′ (r .place) × DeviceAt (deviceStep d c) I′ (r .session)
 
 -- a checkpoint, if it is wanted, and its text behind a space
 abbrev pub CheckpointRan : Image → Ran → Bool → List ℕ → Image → List ℕ → Ran → Type 0

@@ -11,7 +11,7 @@ use Rattle.model.specs.Open.{openStatus}
 use Rattle.model.specs.Write.{WriteArgs, writeStatus}
 use Rattle.model.specs.Checkpoint.{checkpointStatus}
 use Rattle.lines.specs.Line.{mostSize}
-use Rattle.calls.specs.Prints.{blank}
+use Rattle.calls.specs.Printed.{blank}
 
 -- the sizes of a sheet's image
 pub record SheetSizes (l : Layout) : Type 0 where
@@ -21,5 +21,5 @@ pub record SheetSizes (l : Layout) : Type 0 where
 
 pub record SheetTraceSuffices : Type 0 where
   pub opening : (l : Layout) → SheetSizes l → openStatus l (formatted l) blank ≡ 0
-  pub write : (s : Session) (I : Image) (w : WriteArgs) (j : ℕ) → SheetSizes (s .layout) → writeStatus s I w j blank ≢ 11
+  pub write : (s : Session) (I : Image) (w : WriteArgs) → SheetSizes (s .layout) → writeStatus s I w blank ≢ 11
   pub checkpoint : (s : Session) (I : Image) → SheetSizes (s .layout) → checkpointStatus s I blank ≢ 11

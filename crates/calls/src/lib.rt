@@ -2,13 +2,13 @@
 // appended to the printed text.
 use model::Layout;
 use model::Session;
-ghost use Prim.Native.Nat.{ℕ, _+_, _≤_};
+ghost use Prim.Native.Nat.{_+_, _≤_};
 ghost use mathlib.Core.Path.{_≡_};
 ghost use mathlib.Core.Bool.{true};
 ghost use lib.ListN.{length};
 ghost use Rattle.model.specs.Layout.{sizesOk, imageSize};
 ghost use Rattle.printer.specs.Decimal.{Appended};
-ghost use Rattle.calls.specs.Prints.{writeOf};
+ghost use Rattle.calls.specs.Printed.{writeOf};
 ghost use Rattle.calls.specs.Ran.{answerSize, callSize, answerOf, groupOfParts, Opened, CallRan, CheckpointRan};
 
 // The numbers of the trace that every call gets, enough for an opening that copies every main segment whole.
@@ -68,7 +68,7 @@ pub fn run_open(image: &mut [u8], layout: Layout, out: &mut [u8]) -> Ran
 // The write of a group, made and replayed, and its answer.
 pub fn run_write(image: &mut [u8], ran: Ran, parts: GroupParts, bytes: &[u8], out: &mut [u8]) -> Ran
     requires { ⌜ ran .place + callSize ≤ length (now out) ⌝ }
-    ensures { λ r. ⌜ ((j : ℕ) × CallRan (now (image .entry)) ran (writeOf (groupOfParts parts (now (bytes .entry))) j) "write=" (now (out .entry)) (now (image .exit)) (now (out .exit)) r) ⌝ }
+    ensures { λ r. ⌜ CallRan (now (image .entry)) ran (writeOf (groupOfParts parts (now (bytes .entry)))) "write=" (now (out .entry)) (now (image .exit)) (now (out .exit)) r ⌝ }
     ensures { λ r. ⌜ r .place ≤ ran .place + callSize ⌝ }
 {
     let mut trace = [0u64; TRACE_NUMBERS];

@@ -10,7 +10,7 @@ use Rattle.model.specs.Range.{cat}
 use Rattle.text.specs.Text.{text, linesOf}
 use Rattle.parser.specs.Script.{mostBytes, Script, bad, firstBad, judged, parse}
 use Rattle.printer.specs.Decimal.{decimal, Appended}
-use Rattle.calls.specs.Prints.{Prints, refused}
+use Rattle.calls.specs.Printed.{scriptText, printed}
 use Rattle.script.specs.SheetRan.{ScriptRan}
 
 -- the bytes that the code has are the text of a bad sheet
@@ -39,17 +39,19 @@ judged-bad (suc n) input h = refl
 -- ---- the text
 
 pub refused-ran : (n : ℕ) (out out′ : List ℕ) (q : ℕ) → Appended out 0 (text "sheet=" ++ decimal n ++ text "\n") out′ q → ScriptRan (bad n) out out′ q
-refused-ran n out out′ q f = (text "sheet=" ++ decimal n ++ text "\n", refused n, f)
+unfolding scriptText
+refused-ran n out out′ q f = f
 
 -- what a caller learns
 abbrev pub Sheet : List ℕ → List ℕ → List ℕ → ℕ → Type 0
-Sheet input out out′ q = Counts q out′ × ((t : List ℕ) × Prints (parse input) t × (q ≡ length t) × (out′ ≡ t ++ drop q out))
+Sheet input out out′ q = Counts q out′ × ((q ≡ length (printed input)) × (out′ ≡ printed input ++ drop q out))
 
 pub sheet-ran : (input : List ℕ) (s : Script) (out out′ : List ℕ) (q : ℕ) → s ≡ parse input → ScriptRan s out out′ q → Sheet input out out′ q
-sheet-ran input s out out′ q e x =
-    let size : q ≡ length (take q out′) = x .2 .place ∙ omega (arith, ap length (x .2 .holds)) in
-    let whole : out′ ≡ x .0 ++ drop q out = sym (take-append-drop q out′) ∙ ap₂ _++_ (x .2 .holds) (x .2 .rest) in
-    ((omega (arith, size, length-take q out′), size), (x .0, subst (λ (y : Script). Prints y (x .0)) e (x .1), omega (arith, x .2 .place), whole))
+sheet-ran input s out out′ q e ran =
+    let x : ScriptRan (parse input) out out′ q = subst (λ (y : Script). ScriptRan y out out′ q) e ran in
+    let size : q ≡ length (take q out′) = x .place ∙ omega (arith, ap length (x .holds)) in
+    let whole : out′ ≡ printed input ++ drop q out = sym (take-append-drop q out′) ∙ ap₂ _++_ (x .holds) (x .rest) in
+    ((omega (arith, size, length-take q out′), size), (omega (arith, x .place), whole))
 
 pub sheet-bad : (input : List ℕ) (n : ℕ) (out out′ : List ℕ) (q : ℕ) → length input ≤ mostBytes → n ≡ firstBad 0 0 (linesOf input) → (n ≡ 0 → ⊥)
     → Appended out 0 (text "sheet=" ++ decimal n ++ text "\n") out′ q → Sheet input out out′ q

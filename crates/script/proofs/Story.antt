@@ -1,6 +1,6 @@
--- The story of a loop over groups: what they printed so far is continued by whatever the groups that are left may print.
+-- The story of a loop over groups: what they printed so far, and what the groups that are left print, is what all print.
 use Prim.Native.Nat.{ℕ, suc}
-use mathlib.Core.Path.{_≡_, subst, sym}
+use mathlib.Core.Path.{_≡_, refl, sym, ap, _∙_}
 use mathlib.Core.List.{List, [], _∷_, _++_, append-assoc, append-nil}
 use Rattle.model.specs.declared.Layout.{Layout}
 use Rattle.model.specs.Words.{Image}
@@ -8,9 +8,9 @@ use Rattle.model.specs.Format.{formatted}
 use Rattle.model.specs.History.{Device, start}
 use Rattle.parser.specs.Script.{good, Group}
 use Rattle.printer.specs.Decimal.{Appended}
-use Rattle.printer.proofs.AppendedLaws.{appended-none, appended-then}
+use Rattle.printer.proofs.AppendedLaws.{appended-none, appended-then, appended-as}
 use Rattle.calls.specs.declared.Ran.{Ran}
-use Rattle.calls.specs.Prints.{blank, afterGroup, groupText, GroupsPrint, none, more, openText, ran}
+use Rattle.calls.specs.Printed.{blank, afterGroup, groupText, groupsText, scriptText}
 use Rattle.calls.specs.Ran.{DeviceAt, Opened}
 use Rattle.group.specs.GroupRan.{GroupRan}
 use Rattle.script.specs.SheetRan.{GroupsRan, ScriptRan}
@@ -21,44 +21,40 @@ abbrev pub Story : Image → Ran → List Group → List ℕ → Image → Ran �
 Story I a gs out I′ b n gs′ out′ =
     (d : Device) → DeviceAt d I (a .session)
     → (done : List ℕ) × Appended out (a .place) done out′ (b .place)
-    × ((k : Device) × DeviceAt k I′ (b .session) × ((rest : List ℕ) → GroupsPrint k n gs′ rest → GroupsPrint d 1 gs (done ++ rest)))
+    × ((k : Device) × DeviceAt k I′ (b .session) × (groupsText d 1 gs ≡ done ++ groupsText k n gs′))
 
 module _ (I : Image) (a : Ran) (gs : List Group) (out : List ℕ) where
   pub story-none : Story I a gs out I a 1 gs out
-  story-none d «is» = ([], appended-none out (a .place), (d, «is», λ rest x. x))
+  story-none d «is» = ([], appended-none out (a .place), (d, «is», refl))
 
   module _ (I′ : Image) (b : Ran) (n : ℕ) (gs′ : List Group) (out′ : List ℕ) (story : Story I a gs out I′ b n gs′ out′) where
     -- one group more
     pub story-more : (g : Group) (hs : List Group) (I″ : Image) (out″ : List ℕ) (r : Ran) → gs′ ≡ g ∷ hs → GroupRan I′ b n g out′ I″ out″ r
         → Story I a gs out I″ r (suc n) hs out″
+    unfolding groupsText
     story-more g hs I″ out″ r e x d «is» =
         let y = story d «is» in
         let k = y .2 .0 in
-        let j = x .0 in
-        let z = x .1 k (y .2 .1) in
-        let t = groupText k n g j in (
+        let z = x k (y .2 .1) in
+        let t = groupText k n g in (
           y .0 ++ t,
-          appended-then (y .1) (z .1),
+          appended-then (y .1) (z .0),
           (
-            afterGroup k g j,
-            z .2,
-            λ rest w. subst (λ (u : List ℕ). GroupsPrint d 1 gs u) (sym (append-assoc (y .0) t rest))
-                (y .2 .2 (t ++ rest) (subst (λ (v : List Group). GroupsPrint k n v (t ++ rest)) (sym e) (more k n g hs j rest (z .0) w))),
+            afterGroup k g,
+            z .1,
+            y .2 .2 ∙ ap (λ (v : List Group). y .0 ++ groupsText k n v) e ∙ sym (append-assoc (y .0) t (groupsText (afterGroup k g) (suc n) hs)),
           ),
         )
 
     -- none left
     pub story-end : gs′ ≡ [] → GroupsRan I a gs out out′ (b .place)
+    unfolding groupsText
     story-end e d «is» =
-        let y = story d «is» in (
-          y .0,
-          subst (λ (u : List ℕ). GroupsPrint d 1 gs u) (append-nil (y .0))
-              (y .2 .2 [] (subst (λ (v : List Group). GroupsPrint (y .2 .0) n v []) (sym e) (none (y .2 .0) n))),
-          y .1,
-        )
+        let y = story d «is» in
+        appended-as (sym (y .2 .2 ∙ ap (λ (v : List Group). y .0 ++ groupsText (y .2 .0) n v) e ∙ append-nil (y .0))) (y .1)
 
 -- an opening, then the groups
 pub script-ran : (l : Layout) (gs : List Group) (out out₁ out₂ : List ℕ) (I : Image) (w : Ran) (q : ℕ) → Opened l out I out₁ w
     → GroupsRan I w gs out₁ out₂ q → ScriptRan (good l gs) out out₂ q
-script-ran l gs out out₁ out₂ I w q o f =
-    let x = f (start l (formatted l) blank .device) (o .1) in (openText l ++ x .0, ran l gs (x .0) (x .1), appended-then (o .0) (x .2))
+unfolding scriptText
+script-ran l gs out out₁ out₂ I w q o f = appended-then (o .0) (f (start l (formatted l) blank .device) (o .1))

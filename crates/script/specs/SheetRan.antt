@@ -12,7 +12,7 @@ use Rattle.lines.specs.Line.{mostSize}
 use Rattle.parser.specs.Script.{mostBytes, Script, Group, groupKey, firstBad, groupsOf}
 use Rattle.printer.specs.Decimal.{Appended}
 use Rattle.calls.specs.declared.Ran.{Ran}
-use Rattle.calls.specs.Prints.{GroupsPrint, Prints}
+use Rattle.calls.specs.Printed.{groupsText, scriptText}
 use Rattle.calls.specs.Ran.{DeviceAt}
 use Rattle.group.specs.GroupRan.{groupSize, GroupRan}
 use Rattle.script.specs.declared.Progress.{Progress}
@@ -52,10 +52,10 @@ pub record NextRan (input : List ℕ) (p : Progress) (I : Image) (out : List ℕ
 
 -- all are
 abbrev pub GroupsRan : Image → Ran → List Group → List ℕ → List ℕ → ℕ → Type 0
-GroupsRan I a gs out out′ q = (d : Device) → DeviceAt d I (a .session) → (t : List ℕ) × GroupsPrint d 1 gs t × Appended out (a .place) t out′ q
+GroupsRan I a gs out out′ q = (d : Device) → DeviceAt d I (a .session) → Appended out (a .place) (groupsText d 1 gs) out′ q
 
 -- ---- a sheet
 
 -- what it prints stands at the start of the buffer, up to the place q
 abbrev pub ScriptRan : Script → List ℕ → List ℕ → ℕ → Type 0
-ScriptRan s out out′ q = (t : List ℕ) × Prints s t × Appended out 0 t out′ q
+ScriptRan s out out′ q = Appended out 0 (scriptText s) out′ q

@@ -6,13 +6,13 @@ use model::Layout;
 ghost use Prim.Native.Nat.{ℕ, _+_, _≤_, _<_};
 ghost use mathlib.Core.Path.{_≡_};
 ghost use mathlib.Core.Bool.{true};
-ghost use mathlib.Core.List.{List, _++_};
+ghost use mathlib.Core.List.{_++_};
 ghost use lib.ListN.{length, drop};
 ghost use Rattle.model.specs.Layout.{wordSize, sizesOk, imageSize};
 ghost use Rattle.text.specs.Text.{linesOf};
-ghost use Rattle.parser.specs.Script.{mostBytes, good, judged, firstBad, parse};
+ghost use Rattle.parser.specs.Script.{mostBytes, good, judged, firstBad};
 ghost use Rattle.io.specs.Counts.{Counts};
-ghost use Rattle.calls.specs.Prints.{Prints};
+ghost use Rattle.calls.specs.Printed.{printed};
 ghost use Rattle.calls.specs.Ran.{callSize};
 ghost use Rattle.group.specs.GroupRan.{groupSize};
 ghost use Rattle.script.specs.SheetRan.{mostText, GoodFrom, groupsFrom, NextRan, GroupsRan, ScriptRan};
@@ -106,7 +106,7 @@ fn run_good(input: &[u8], out: &mut [u8]) -> usize
 // Runs a sheet, puts what it prints at the start of a buffer, and answers how many bytes that are.
 pub fn run_sheet(input: &[u8], out: &mut [u8; MOST_TEXT]) -> usize
     ensures { λ r. ⌜ Counts r (now (out .exit)) ⌝ }
-    ensures { λ r. ⌜ ((t : List ℕ) × Prints (parse (now (input .entry))) t × (r ≡ length t) × (now (out .exit) ≡ t ++ drop r (now (out .entry)))) ⌝ }
+    ensures { λ r. ⌜ (r ≡ length (printed (now (input .entry)))) × (now (out .exit) ≡ printed (now (input .entry)) ++ drop r (now (out .entry))) ⌝ }
 {
     if MOST_BYTES < input.len() {
         return printer::append_number(out, 0, b"sheet=", 0, b"\n");

@@ -5,7 +5,7 @@ use borrow.Author.Tests.{not-true, not-false}
 use borrow.Author.Needs.{needs}
 use Rattle.printer.proofs.AppendedLaws.{appended-as}
 use Rattle.calls.specs.declared.Ran.{Ran}
-use Rattle.calls.specs.Prints.{blank}
+use Rattle.calls.specs.Printed.{blank}
 use Rattle.calls.proofs.Texts.{save-text, no-save-text}
 use Rattle.calls.proofs.CallLaws.{checkpoint-made, checkpoint-none}
 use Rattle.calls.proofs.run_checkpoint.Statement.{statement}

@@ -6,7 +6,7 @@ use Rattle.model.specs.History.{callOpen}
 use Rattle.driver.specs.Stepped.{reportOf, Called, Stepped}
 use Rattle.printer.specs.Decimal.{Appended}
 use Rattle.printer.proofs.AppendedLaws.{appended-as}
-use Rattle.calls.specs.Prints.{blank}
+use Rattle.calls.specs.Printed.{blank}
 use Rattle.calls.proofs.Texts.{lineEndBytes, open-text, line-end-text}
 use Rattle.calls.proofs.CallLaws.{call-ran}
 use Rattle.calls.proofs.OpenLaws.{formats, opened}

@@ -3,7 +3,7 @@ use native.Mathlib.Omega.{arith}
 use borrow.Author.Needs.{needs}
 use Rattle.driver.specs.Stepped.{reportOf, Called, Stepped}
 use Rattle.calls.specs.declared.Ran.{Ran}
-use Rattle.calls.specs.Prints.{blank, writeOf}
+use Rattle.calls.specs.Printed.{blank, writeOf}
 use Rattle.calls.specs.Ran.{groupOfParts}
 use Rattle.calls.proofs.Texts.{write-text}
 use Rattle.calls.proofs.CallLaws.{call-ran}
@@ -37,12 +37,11 @@ returns c =
     let p = c .before .before in
     let w = p .before .before .before .before .before .before .before .before in
     let a = w .before .before .before .before .before .before .args in
-    let j = w .step-write .ensures .0 in
-    let k = writeOf (groupOfParts (a .parts) (a .bytes .now)) j in
-    let step : Stepped Called (a .image .now) (a .ran .session) k (reportOf (w .step-write .result)) (w .step-write .last .1 .1 .1 .1 .1 .1 .0) (w .step-write .last .0) = w .step-write .ensures .1 in
+    let k = writeOf (groupOfParts (a .parts) (a .bytes .now)) in
+    let step : Stepped Called (a .image .now) (a .ran .session) k (reportOf (w .step-write .result)) (w .step-write .last .1 .1 .1 .1 .1 .1 .0) (w .step-write .last .0) = w .step-write .ensures in
     let r : Ran = record { session = w .step-write .result .session; place = p .append-answer .result } in
     let q = call-ran "write=" k _ (a .ran) (w .step-write .result) _ _ _ _ _ (p .before .code .result) r step refl write-text (p .before .code .ensures) (p .append-answer .ensures .0) in
-    ((j, λ d «is». let x = q d «is» in (x .0, x .1, (x .2 .0, x .2 .1))), omega arith)
+    (λ d «is». let x = q d «is» in (x .0, (x .1 .0, x .1 .1)), omega arith)
 
 pub run-write-spec : {M : Type 1} → statement M
 run-write-spec =

@@ -1,6 +1,5 @@
--- What a bench sheet prints (SPECIFICATION 16), by the outcomes and steps of a module in a history. The specification
--- leaves open which free backup segment a write takes, so what is printed is said for some permitted choice at each write.
--- Assumes nothing.
+-- What a bench sheet prints (SPECIFICATION 16): a function of its bytes (`printed`), by the outcomes and steps of a module in a history.
+-- Two sheets with what they print, computed from this: crate benches. Assumes nothing.
 use Prim.Native.Nat.{ℕ, suc, _+_, _*_}
 use Prim.Native.String.{String}
 use mathlib.Core.Bool.{Bool, cond}
@@ -14,10 +13,10 @@ use Rattle.model.specs.Ops.{opNumbers, Trace}
 use Rattle.model.specs.Outcome.{Outcome}
 use Rattle.model.specs.Open.{openOutcome}
 use Rattle.model.specs.Write.{writeArgsOf}
-use Rattle.model.specs.History.{Device, Call, callWrite, callCheckpoint, outcome, deviceStep, start, Permitted}
+use Rattle.model.specs.History.{Device, Call, callWrite, callCheckpoint, outcome, deviceStep, start}
 use Rattle.text.specs.Text.{text}
 use Rattle.lines.specs.Line.{mostSize}
-use Rattle.parser.specs.Script.{Script, bad, good, Group}
+use Rattle.parser.specs.Script.{Script, bad, good, Group, parse}
 use Rattle.printer.specs.Decimal.{decimal}
 
 -- the trace that every call gets: its numbers are those of the most operations of an opening, which always suffice
@@ -36,9 +35,9 @@ answerText key o = text key ++ decimal (o .status) ++ text " orders=" ++ decimal
 
 -- ---- a group
 
--- its write, for the backup segment j
-abbrev pub writeOf : Group → ℕ → Call
-writeOf g j = callWrite (writeArgsOf (g .main) (g .block) (g .offset) (g .bytes)) blank j
+-- its write
+abbrev pub writeOf : Group → Call
+writeOf g = callWrite (writeArgsOf (g .main) (g .block) (g .offset) (g .bytes)) blank
 
 abbrev pub checkpointCall : Call
 checkpointCall = callCheckpoint blank
@@ -51,23 +50,22 @@ unfoldable pub checkpointText : Device → Bool → List ℕ
 checkpointText d wanted = cond wanted (answerText "save=" (outcome d checkpointCall)) (text "save=- orders=0")
 
 -- where a group leaves the module
-unfoldable pub afterGroup : Device → Group → ℕ → Device
-afterGroup d g j = checkpointed (deviceStep d (writeOf g j)) (g .checkpoint)
+unfoldable pub afterGroup : Device → Group → Device
+afterGroup d g = checkpointed (deviceStep d (writeOf g)) (g .checkpoint)
 
 -- the line of group n; the epoch is the one after the group
-unfoldable pub groupText : Device → ℕ → Group → ℕ → List ℕ
-groupText d n g j =
+unfoldable pub groupText : Device → ℕ → Group → List ℕ
+groupText d n g =
     text "step=" ++ decimal n
-    ++ text " " ++ answerText "write=" (outcome d (writeOf g j))
-    ++ text " " ++ checkpointText (deviceStep d (writeOf g j)) (g .checkpoint)
-    ++ text " epoch=" ++ decimal (committedEpoch (afterGroup d g j .image))
+    ++ text " " ++ answerText "write=" (outcome d (writeOf g))
+    ++ text " " ++ checkpointText (deviceStep d (writeOf g)) (g .checkpoint)
+    ++ text " epoch=" ++ decimal (committedEpoch (afterGroup d g .image))
     ++ text "\n"
 
--- the lines of groups from number n on, for some permitted backup segment at each write
-pub data GroupsPrint : Device → ℕ → List Group → List ℕ → Type 0 where
-  none : (d : Device) (n : ℕ) → GroupsPrint d n [] []
-  more : (d : Device) (n : ℕ) (g : Group) (gs : List Group) (j : ℕ) (rest : List ℕ) → Permitted d (writeOf g j)
-      → GroupsPrint (afterGroup d g j) (suc n) gs rest → GroupsPrint d n (g ∷ gs) (groupText d n g j ++ rest)
+-- the lines of groups from number n on
+unfoldable pub groupsText : Device → ℕ → List Group → List ℕ
+groupsText d n [] = []
+groupsText d n (g ∷ gs) = groupText d n g ++ groupsText (afterGroup d g) (suc n) gs
 
 -- ---- a sheet
 
@@ -76,7 +74,10 @@ unfoldable pub openText : Layout → List ℕ
 openText l = answerText "open=" (openOutcome l (formatted l) blank) ++ text "\n"
 
 -- all that a sheet prints: a bad one only its number
-pub data Prints : Script → List ℕ → Type 0 where
-  refused : (n : ℕ) → Prints (bad n) (text "sheet=" ++ decimal n ++ text "\n")
-  ran : (l : Layout) (gs : List Group) (rest : List ℕ) → GroupsPrint (start l (formatted l) blank .device) 1 gs rest
-      → Prints (good l gs) (openText l ++ rest)
+unfoldable pub scriptText : Script → List ℕ
+scriptText (bad n) = text "sheet=" ++ decimal n ++ text "\n"
+scriptText (good l gs) = openText l ++ groupsText (start l (formatted l) blank .device) 1 gs
+
+-- WHAT A SHEET PRINTS, by its bytes
+abbrev pub printed : List ℕ → List ℕ
+printed input = scriptText (parse input)
