@@ -1,5 +1,5 @@
--- Segment states over histories (specs/States.antt), proved: each call makes the states that it should (`Argument`), and a
--- segment that is empty stays empty until it is written.
+-- Segment states and pairs over histories (specs/States.antt), proved: each call makes the states and pairs that it should (`Argument`), and
+-- a segment that is empty stays empty until it is written.
 use Prim.Native.Nat.{ℕ, _<_}
 use mathlib.Core.Path.{_≡_, refl, sym, ap, ap₂, _∙_}
 use mathlib.Core.Bool.{Bool, true, false, cond, _&&_, and-true, and-false}
@@ -12,7 +12,7 @@ use Rattle.model.specs.declared.Session.{Session}
 use Rattle.model.specs.Words.{Image, Bytes}
 use Rattle.model.specs.Layout.{layoutOf}
 use Rattle.model.specs.Status.{served}
-use Rattle.model.specs.Container.{activeState, activeLine, byState, checkpointLocated}
+use Rattle.model.specs.Container.{activeState, activeLine, backupToMain, byState, checkpointLocated}
 use Rattle.model.specs.Session.{dirtySegment, freshSession, zeroSession, withCheckpoint}
 use Rattle.model.specs.Ops.{Trace, replay}
 use Rattle.model.specs.Outcome.{outcomeOf}
@@ -22,13 +22,13 @@ use Rattle.model.specs.Checkpoint.{nextState, checkpointStatus, checkpoi
 use Rattle.model.specs.Reads.{readStatus, noPart, locatedPart, partOf, checkpointPart, checkpointBlock}
 use Rattle.model.specs.Reference.{CallArgs, openArgs, writeArgs, checkpointArgs}
 use Rattle.model.specs.History.{Call, State, answers, outcome, deviceStep, step, run, openedImage, start, AllPermitted}
-use Rattle.model.specs.States.{servedState, StatesFollow, isWriteTo, writesTo, Empty, EmptyStays}
+use Rattle.model.specs.States.{servedState, StatesFollow, PairsFollow, isWriteTo, writesTo, Empty, EmptyStays}
 use Rattle.model.proofs.Laws.Range.{no-one}
 use Rattle.model.proofs.Laws.Session.{dirty-segment-other, checkpoint-segment, fresh-segment}
 use Rattle.model.proofs.Laws.Checkpoint.{next-clean}
 use Rattle.model.proofs.Argument.Recovery.{meta}
 use Rattle.model.proofs.Argument.Recovery.Opening.{open-clear}
-use Rattle.model.proofs.Argument.View.{low-states}
+use Rattle.model.proofs.Argument.View.{low-states, low-pairs}
 use Rattle.model.proofs.Argument.Stands.{Stands}
 use Rattle.model.proofs.Argument.Openings.{opened-is, starting}
 use Rattle.model.proofs.CrashSafety.{argument, history-stands}
@@ -46,6 +46,18 @@ pub states-follow : StatesFollow
 states-follow = record {
   opening = opened-states;
   calls = λ l I t b h cs permitted c p i m. argument _ (history-stands l I t b h cs permitted) c p .states i m;
+}
+
+-- ---- the pairs
+
+pub pairs-follow : PairsFollow
+unfolding replay
+pairs-follow = record {
+  opening = λ l I t b h j m.
+      let r = starting l I t b h in
+      ap (λ (J : Image). backupToMain J j) (opened-is l I t h)
+      ∙ low-pairs I [] (recoveryOps l I (activeLine I)) (λ k p q. open-clear l I _ r k (meta (omega arith))) j m;
+  calls = λ l I t b h cs permitted c p j m. argument _ (history-stands l I t b h cs permitted) c p .pairs j m;
 }
 
 -- ---- empty stays empty

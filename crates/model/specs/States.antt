@@ -1,5 +1,5 @@
--- What the calls of a history make of the segment states (SPECIFICATION 11.2, 11.6), and that a main segment without a
--- checkpoint stays empty until it is written. Proved in proofs/States.antt. Assumes nothing.
+-- What the calls of a history make of the segment states (SPECIFICATION 11.2, 11.6) and of the pairs (3.4), and that a main segment without
+-- a checkpoint stays empty until it is written. Proved in proofs/States.antt. Assumes nothing.
 use Prim.Native.Nat.{ℕ, _+_, _<_}
 use mathlib.Core.Path.{_≡_}
 use mathlib.Core.Bool.{Bool, false, cond, _&&_}
@@ -9,13 +9,13 @@ use Rattle.model.specs.declared.Layout.{Layout}
 use Rattle.model.specs.declared.Session.{Session}
 use Rattle.model.specs.Range.{oneIf}
 use Rattle.model.specs.Words.{Image, Bytes}
-use Rattle.model.specs.Layout.{ssInitial, ssBackup}
+use Rattle.model.specs.Layout.{most, ssInitial, ssBackup}
 use Rattle.model.specs.Status.{served}
-use Rattle.model.specs.Container.{activeState}
+use Rattle.model.specs.Container.{activeState, backupToMain, newBackup}
 use Rattle.model.specs.Session.{dirtySegment}
 use Rattle.model.specs.Ops.{Trace}
 use Rattle.model.specs.Open.{openStatus}
-use Rattle.model.specs.Write.{needsCopy}
+use Rattle.model.specs.Write.{needsCopy, needsBackup}
 use Rattle.model.specs.Checkpoint.{nextState}
 use Rattle.model.specs.Reads.{checkpointBlock}
 use Rattle.model.specs.Reference.{CallArgs, openArgs, writeArgs, checkpointArgs}
@@ -39,6 +39,26 @@ pub record StatesFollow : Type 0 where
       → (i : ℕ) → i < l .mains → activeState (openedImage l I t) i ≡ activeState I i
   pub calls : InEveryHistory (λ s.
       (c : Call) → Permitted c → (i : ℕ) → i < s .device .layout .mains → activeState (step s c .device .image) i ≡ stateAfter (s .device) c i)
+
+-- ---- the pairs
+
+-- the pair of backup segment j after a served call: a write that needs a new backup segment gives it its main segment, and nothing else
+-- changes a pair
+abbrev pub servedPair : Session → Image → CallArgs → ℕ → ℕ
+servedPair s I (openArgs l) j = backupToMain I j
+servedPair s I (writeArgs w) j =
+    cond (needsBackup s I (w .main) && eqb j (newBackup (s .layout) (activeState I) (backupToMain I))) (w .main) (backupToMain I j)
+servedPair s I checkpointArgs j = backupToMain I j
+
+abbrev pub pairAfter : Device → Call → ℕ → ℕ
+pairAfter d c j = cond (served (outcome d c .status)) (servedPair (d .session) (d .image) (c .args) j) (backupToMain (d .image) j)
+
+-- the pairs of a history are these
+pub record PairsFollow : Type 0 where
+  pub opening : (l : Layout) (I : Image) (t : Trace) → Bytes I → openStatus l I t ≡ 0
+      → (j : ℕ) → j < most → backupToMain (openedImage l I t) j ≡ backupToMain I j
+  pub calls : InEveryHistory (λ s.
+      (c : Call) → Permitted c → (j : ℕ) → j < most → backupToMain (step s c .device .image) j ≡ pairAfter (s .device) c j)
 
 -- ---- empty stays empty
 

@@ -198,6 +198,9 @@ module _ (O : Ops) (I₀ : Image) (s : Session) (P W : Contents) (held : Bytes I
   backup-after : (j x : ℕ) → j < lay .backups → x < segmentSize lay → byteAt K (backupAt lay j + x) ≡ byteAt I (backupAt lay j + x)
   backup-after j x h k = after _ (omega arith) ∙ before-same s I _ (inr (omega (arith, lines s I)))
 
+  pairs-after : (j : ℕ) → j < 64 → backupToMain K j ≡ backupToMain I j
+  pairs-after j h = after (256 + j) (omega arith) ∙ before-same s I (256 + j) (inr (omega (arith, lines s I)))
+
   -- the active states after it are the next states
   next-state : suc (committedEpoch I) < 2 ^ 64 → (i : ℕ) → i < 64 → activeState K i ≡ nextStates (s .«dirty_segments») (activeState I) i
   next-state fits i h = ap (λ (e : ℕ). byteAt K (stateLine e + i)) (epoch-after fits)
@@ -206,19 +209,18 @@ module _ (O : Ops) (I₀ : Image) (s : Session) (P W : Contents) (held : Bytes I
   done : suc (committedEpoch I) < 2 ^ 64 → Invariant lay (O ++ (F ++ epochPhase I)) K (withCheckpoint s) W W
   done fits =
       let q = lines s I in
-      let pr : (j : ℕ) → j < 64 → backupToMain K j ≡ backupToMain I j = λ j h. after (256 + j) (omega arith) ∙ before-same s I (256 + j) (inr (omega arith)) in
       record {
         recovers = new K (length-replay (O ++ (F ++ epochPhase I)) I₀ ∙ sym (length-replay O I₀)) (replay-small (O ++ (F ++ epochPhase I)) I₀ held) (epoch-after fits)
             (λ k h x. after k h ∙ before-same s I k (inl (omega arith)))
             (λ i h. after (inactiveLine I + i) (omega arith) ∙ before-states s I i big h)
-            pr
+            pairs-after
             (λ i x h k. main-after i x h k ∙ inv .working i x h k);
         working = λ i x h k. main-after i x h k ∙ inv .working i x h k;
         low = λ i e. absurd (true≢false (sym e ∙ checkpoint-segment s i));
         moved = λ i e. absurd (true≢false (sym e ∙ checkpoint-segment s i));
         clean = λ i x h k e. refl;
         twin = λ i j x h m k e d. backup-after j x m k
-            ∙ inv .twin i j x h m k (sym (pr j (omega (arith, inv .recovers .fit .sizes .1))) ∙ e) (sym (checkpoint-block s i (x / 256)) ∙ d) ∙ sym (main-after i x h k);
+            ∙ inv .twin i j x h m k (sym (pairs-after j (omega (arith, inv .recovers .fit .sizes .1))) ∙ e) (sym (checkpoint-block s i (x / 256)) ∙ d) ∙ sym (main-after i x h k);
         blank = λ i x h k e d. main-after i x h k
             ∙ inv .blank i x h k (next-initial (activeState I i) _ (sym (next-state fits i (omega (arith, inv .recovers .fit .sizes .0))) ∙ e) .0) (sym (checkpoint-block s i (x / 256)) ∙ d);
         firmMeta = settled-all;
@@ -235,6 +237,10 @@ module _ (O : Ops) (I₀ : Image) (s : Session) (P W : Contents) (held : Bytes I
   pub checkpoint-states : suc (committedEpoch I) < 2 ^ 64 → (i : ℕ) → i < 64 → activeState (replay (O ++ C) I₀) i ≡ nextState (activeState I i) (dirtySegment s i)
   unfolding dirtySegment
   checkpoint-states fits i h = subst (λ (Y : Ops). activeState (replay (O ++ Y) I₀) i ≡ nextStates (s .«dirty_segments») (activeState I) i) (sym (checkpoint-phases s I)) (next-state fits i h)
+
+  -- the pairs stay
+  pub checkpoint-pairs : (j : ℕ) → j < 64 → backupToMain (replay (O ++ C) I₀) j ≡ backupToMain I j
+  checkpoint-pairs j h = subst (λ (Y : Ops). backupToMain (replay (O ++ Y) I₀) j ≡ backupToMain I j) (sym (checkpoint-phases s I)) (pairs-after j h)
 
   -- PLAYED WHOLE: the invariant, with the working contents as the checkpoint
   pub checkpoint-done : suc (committedEpoch I) < 2 ^ 64 → Invariant lay (O ++ C) (replay (O ++ C) I₀) (withCheckpoint s) W W

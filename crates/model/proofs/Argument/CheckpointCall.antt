@@ -10,7 +10,7 @@ use Rattle.model.specs.declared.Session.{Session}
 use Rattle.model.specs.Range.{oneIf}
 use Rattle.model.specs.Words.{Image, byteAt, Bytes}
 use Rattle.model.specs.Status.{served}
-use Rattle.model.specs.Container.{committedEpoch, activeState}
+use Rattle.model.specs.Container.{committedEpoch, activeState, backupToMain}
 use Rattle.model.specs.Session.{dirtySegment, withCheckpoint}
 use Rattle.model.specs.Ops.{Trace}
 use Rattle.model.specs.Checkpoint.{nextState, checkpointOps, checkpointErrors, checkpointStatus, checkpointOutcome}
@@ -23,7 +23,7 @@ use Rattle.model.proofs.Laws.Words.{word-lt}
 use Rattle.model.proofs.Laws.Counts.Checkpoint.{length-before, epoch-stored}
 use Rattle.model.proofs.Laws.Replay.{checkpoint-outcome-ok}
 use Rattle.model.proofs.Argument.Invariant.{Invariant}
-use Rattle.model.proofs.Argument.Checkpoint.{checkpoint-crash, checkpoint-epoch, checkpoint-states, checkpoint-done}
+use Rattle.model.proofs.Argument.Checkpoint.{checkpoint-crash, checkpoint-epoch, checkpoint-states, checkpoint-pairs, checkpoint-done}
 use Rattle.model.proofs.Laws.Outcome.{Answered}
 use Rattle.model.proofs.Argument.Stands.{imageOf, checkpointOf, workingOf, Stands, Argument, Appends, inv-at, session-known, by-status}
 
@@ -80,6 +80,7 @@ module _ (s : State) (st : Stands s) (t : Trace) where
         epoch = checkpoint-epoch (d .played) (d .durable) σ _ _ (st .bytes) inv fits ∙ omega (arith, one);
         states = λ i h. checkpoint-states (d .played) (d .durable) σ _ _ (st .bytes) inv fits i (omega (arith, inv .recovers .fit .sizes .0))
             ∙ sym (rw (a .status) (ap₂ (λ (x : Session) (J : Image). nextState (activeState J i) (dirtySegment x i)) e (st .image)));
+        pairs = λ j h. checkpoint-pairs (d .played) (d .durable) σ _ _ (st .bytes) inv j h ∙ sym (rw (a .status) (ap (λ (J : Image). backupToMain J j) (st .image)));
         crash = λ p H x. ⊎-elim inl (λ r. inr (refl, epoch-stored σ I p (omega (arith, r .0, length-before σ I)), r .1))
             (checkpoint-crash (d .played) (d .durable) σ _ _ (st .bytes) inv p H fits x);
       }

@@ -72,8 +72,8 @@ module _ {l : Layout} {O : Ops} {I₀ : Image} {s : Session} {P W : Contents} {i
   K-same k (inl h) = K-is k ∙ overlay-other (byteAt B) (active + i) 2 k (omega (arith, line cow))
   K-same k (inr h) = K-is k ∙ overlay-other (byteAt B) (active + i) 2 k (omega (arith, i64 cow, line cow))
 
-  pairs-K : Given I i j K
-  pairs-K = (K-same (256 + j) (inr (omega arith)) ∙ cow .ready .paired .0, λ t h ne. K-same (256 + t) (inr (omega arith)) ∙ cow .ready .paired .1 t h ne)
+  pub pairs-given : Given I i j K
+  pairs-given = (K-same (256 + j) (inr (omega arith)) ∙ cow .ready .paired .0, λ t h ne. K-same (256 + t) (inr (omega arith)) ∙ cow .ready .paired .1 t h ne)
 
   states-K : (u : ℕ) → u < 64 → u ≢ i → byteAt K (active + u) ≡ activeState I u
   states-K u h ne = K-is (active + u) ∙ overlay-other (byteAt B) (active + i) 2 (active + u) (omega arith) ∙ low-B cow (active + u) (omega (arith, line cow))
@@ -103,7 +103,7 @@ module _ {l : Layout} {O : Ops} {I₀ : Image} {s : Session} {P W : Contents} {i
   pub copy-done : Invariant l (O ++ (A ++ Z)) K (unmarked s i) P W
   copy-done = record {
     recovers = given cow K (length-replay (O ++ (A ++ Z)) I₀ ∙ sym (length-replay O I₀)) (replay-small (O ++ (A ++ Z)) I₀ (cow .held))
-        (λ k g w x. K-same k (⊎-elim inl (λ h. inr (omega arith)) w) ∙ replay-clear A I k x) states-K pairs-K
+        (λ k g w x. K-same k (⊎-elim inl (λ h. inr (omega arith)) w) ∙ replay-clear A I k x) states-K pairs-given
         (inr (K-is (active + i) ∙ overlay-same (byteAt B) (active + i) 2, λ x k. K-same _ (inr (omega arith)) ∙ cow .ready .copy x k ∙ own-page cow x k));
     working = λ u x h k. main-K u x h k ∙ cow .inv .working u x h k;
     low = low;
@@ -141,12 +141,12 @@ module _ {l : Layout} {O : Ops} {I₀ : Image} {s : Session} {P W : Contents} {i
       twin : (u t x : ℕ) → u < l .mains → t < l .backups → x < segmentSize l → backupToMain K t ≡ u → dirtyBlock (unmarked s i) u (x / 256) ≡ false → Dec (t ≡ j)
           → byteAt K (backupAt l t + x) ≡ byteAt K (mainAt l u + x)
       twin u t x h m k e d (yes y) =
-          let ui : u ≡ i = sym e ∙ subst (λ (w : ℕ). backupToMain K w ≡ i) (sym y) (pairs-K .0) in
+          let ui : u ≡ i = sym e ∙ subst (λ (w : ℕ). backupToMain K w ≡ i) (sym y) (pairs-given .0) in
           subst (λ (w : ℕ). byteAt K (backupAt l w + x) ≡ byteAt K (mainAt l u + x)) (sym y)
           (subst (λ (w : ℕ). byteAt K (backupAt l j + x) ≡ byteAt K (mainAt l w + x)) (sym ui)
           (K-same _ (inr (omega arith)) ∙ cow .ready .copy x k ∙ sym (main-K i x (cow .givable .main) k)))
       twin u t x h m k e d (no y) =
-          let e′ : backupToMain I t ≡ u = sym (pairs-K .1 t (omega (arith, b64)) y) ∙ e in
+          let e′ : backupToMain I t ≡ u = sym (pairs-given .1 t (omega (arith, b64)) y) ∙ e in
           let d′ : dirtyBlock s u (x / 256) ≡ false = ⊎-elim (λ q. absurd (cow .givable .sole t m y (e′ ∙ q))) (λ q. q) (unmarked-block s i u (x / 256) d) in
           K-same _ (inr (omega arith)) ∙ replay-clear A I _ (backup-clear cow t x k y) ∙ cow .inv .twin u t x h m k e′ d′ ∙ sym (main-K u x h k)
 

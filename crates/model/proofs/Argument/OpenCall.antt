@@ -7,7 +7,7 @@ use native.Mathlib.Omega.{arith}
 use lib.ListN.{length}
 use Rattle.model.specs.declared.Layout.{Layout}
 use Rattle.model.specs.Words.{Image}
-use Rattle.model.specs.Container.{activeLine, activeState, HeaderOk}
+use Rattle.model.specs.Container.{activeLine, activeState, backupToMain, HeaderOk}
 use Rattle.model.specs.Session.{freshSession, zeroSession}
 use Rattle.model.specs.Ops.{Ops, Trace}
 use Rattle.model.specs.Open.{recoveryOps, openStatus, openOutcome}
@@ -19,7 +19,7 @@ use Rattle.model.proofs.Argument.Invariant.{Invariant}
 use Rattle.model.proofs.Argument.Recovery.{meta}
 use Rattle.model.proofs.Argument.Recovery.Opening.{open-clear, reopen-crash, reopen-done}
 use Rattle.model.proofs.Laws.Outcome.{Answered}
-use Rattle.model.proofs.Argument.View.{low-epoch, low-states}
+use Rattle.model.proofs.Argument.View.{low-epoch, low-states, low-pairs}
 use Rattle.model.proofs.Argument.Stands.{imageOf, checkpointOf, workingOf, Stands, Argument, Appends, inv-at, by-status}
 
 -- an image that an opening serves
@@ -80,6 +80,8 @@ module _ (s : State) (st : Stands s) (k : Layout) (t : Trace) where
         epoch = low-epoch (d .durable) (d .played) E (λ n q. open-clear k I _ (inv .recovers) n (meta (omega arith))) ∙ omega arith;
         states = λ i h. low-states (d .durable) (d .played) E (λ n q. open-clear k I _ (inv .recovers) n (meta (omega arith))) i (omega (arith, inv .recovers .fit .sizes .0))
             ∙ sym (rw (a .status) (ap (λ (J : Image). activeState J i) (st .image)));
+        pairs = λ j h. low-pairs (d .durable) (d .played) E (λ n q r. open-clear k I _ (inv .recovers) n (meta (omega arith))) j h
+            ∙ sym (rw (a .status) (ap (λ (J : Image). backupToMain J j) (st .image)));
         crash = λ p H x. inl (reopen-crash k (d .played) (d .durable) (st .session) _ _ (st .bytes) inv p H x);
       }
 

@@ -15,9 +15,9 @@ use Rattle.model.specs.declared.Layout.{Layout}
 use Rattle.model.specs.declared.Session.{Session}
 use Rattle.model.specs.Range.{oneIf}
 use Rattle.model.specs.Words.{Image, Bytes}
-use Rattle.model.specs.Layout.{lineSize}
+use Rattle.model.specs.Layout.{lineSize, most}
 use Rattle.model.specs.Status.{served}
-use Rattle.model.specs.Container.{committedEpoch, activeState}
+use Rattle.model.specs.Container.{committedEpoch, activeState, backupToMain}
 use Rattle.model.specs.Session.{zeroSession}
 use Rattle.model.specs.Ops.{Ops, replay}
 use Rattle.model.specs.Outcome.{outcomeOf}
@@ -26,11 +26,11 @@ use Rattle.model.specs.Reference.{Page, Model, modelStep, checkpointArgs
 use Rattle.model.specs.History.{Call, Device, State, outcome, calledOps, deviceStep, step}
 use Rattle.model.specs.CrashSafety.{Moment, during, playedAt, EpochStored, MayShow}
 use Rattle.model.specs.EpochCounts.{isCheckpoint}
-use Rattle.model.specs.States.{stateAfter}
+use Rattle.model.specs.States.{stateAfter, pairAfter}
 use Rattle.model.proofs.Laws.Layout.{image-lines}
 use Rattle.model.proofs.Laws.Ops.{AllOk, played-ops, replayed-image}
 use Rattle.model.proofs.Argument.Persist.{replay-append}
-use Rattle.model.proofs.Argument.View.{Recoverable, low-epoch, low-states}
+use Rattle.model.proofs.Argument.View.{Recoverable, low-epoch, low-states, low-pairs}
 use Rattle.model.proofs.Argument.Holds.{Contents}
 use Rattle.model.proofs.Argument.Invariant.{Invariant}
 use Rattle.model.proofs.Argument.Recovery.Opening.{reopen-crash}
@@ -76,6 +76,8 @@ pub record Argument (s : State) (c : Call) : Type 0 where
       ≡ committedEpoch (s .device .image) + oneIf (isCheckpoint (c .args) && served (outcome (s .device) c .status))
   -- it makes of the states what it should
   pub states : (i : ℕ) → i < s .device .layout .mains → activeState (step s c .device .image) i ≡ stateAfter (s .device) c i
+  -- and of the pairs
+  pub pairs : (j : ℕ) → j < most → backupToMain (step s c .device .image) j ≡ pairAfter (s .device) c j
 
 -- A CRASH between two calls
 pub rest-crash : (s : State) → Stands s → (H : Image) → CrashImage (s .device .durable) (s .device .played) H
@@ -105,6 +107,7 @@ pub record Appends (s : State) (c : Call) : Type 0 where
   pub epoch : committedEpoch (replay (s .device .played ++ ops) (s .device .durable))
       ≡ committedEpoch (imageOf (s .device)) + oneIf (isCheckpoint (c .args) && served (outcome (s .device) c .status))
   pub states : (i : ℕ) → i < layout .mains → activeState (replay (s .device .played ++ ops) (s .device .durable)) i ≡ stateAfter (s .device) c i
+  pub pairs : (j : ℕ) → j < most → backupToMain (replay (s .device .played ++ ops) (s .device .durable)) j ≡ pairAfter (s .device) c j
   pub crash : (p : ℕ) (H : Image) → CrashImage (s .device .durable) (s .device .played ++ take p ops) H
       → Recoverable layout H (checkpointOf s) ⊎ ((c .args ≡ checkpointArgs) × EpochStored (take p ops) × Recoverable layout H (workingOf s))
 
@@ -190,8 +193,14 @@ module _ (s : State) (st : Stands s) where
         ∙ ap (λ (X : Ops). activeState (replay (d .played ++ X) (d .durable)) i) (called-all ∙ n .opsAre)
         ∙ n .states i (subst (λ (k : Layout). i < k .mains) (sym (n .layoutIs)) h)
 
+    appended-pairs : Appends s c → (j : ℕ) → j < most → backupToMain (step s c .device .image) j ≡ pairAfter d c j
+    unfolding step deviceStep
+    appended-pairs n j h =
+        ap (λ (J : Image). backupToMain J j) (appended-stands n .image)
+        ∙ ap (λ (X : Ops). backupToMain (replay (d .played ++ X) (d .durable)) j) (called-all ∙ n .opsAre) ∙ n .pairs j h
+
     appended : Appends s c → Argument s c
-    appended n = record { stands = appended-stands n; crash = appended-crash n; epoch = appended-epoch n; states = appended-states n }
+    appended n = record { stands = appended-stands n; crash = appended-crash n; epoch = appended-epoch n; states = appended-states n; pairs = appended-pairs n }
 
     -- a refused call: nothing is played, and model and session stay, or the session is that of zeros
     refused : (kept : Session) → Answered (outcome d c) false kept [] → (kept ≡ d .session) ⊎ (kept ≡ zeroSession)
@@ -213,6 +222,7 @@ module _ (s : State) (st : Stands s) where
       epoch = low-epoch (d .durable) (d .played) [] (λ k h. tt) ∙ rw (a .status) (no-count (isCheckpoint (c .args)));
       states = λ i h. low-states (d .durable) (d .played) [] (λ k x. tt) i (omega (arith, st .inv .recovers .fit .sizes .0))
           ∙ sym (rw (a .status) (ap (λ (J : Image). activeState J i) (st .image)));
+      pairs = λ j h. low-pairs (d .durable) (d .played) [] (λ k x y. tt) j h ∙ sym (rw (a .status) (ap (λ (J : Image). backupToMain J j) (st .image)));
       crash = λ p H x. inl (reopen-crash l (d .played) (d .durable) (st .session) _ _ (st .bytes) (st .inv) 0 H (none p H x));
     }
       where

@@ -3,7 +3,7 @@ use Prim.Native.Nat.{ℕ, _+_, _-_, _≤_, _<_}
 use mathlib.Core.Path.{_≡_, refl, sym, ap, _∙_, subst}
 use mathlib.Core.Bool.{Bool, true, false, not, cond, _&&_, true≢false}
 use native.Mathlib.Omega.{arith}
-use mathlib.Core.Logic.{_≢_, _⊎_, inl, ⊎-elim}
+use mathlib.Core.Logic.{_≢_, _⊎_, inl, inr, ⊎-elim}
 use mathlib.Core.List.{[], _∷_, _++_, append-assoc}
 use native.Mathlib.Decide.{ℕ-discrete}
 use lib.Dec.{eqb}
@@ -27,12 +27,12 @@ use Rattle.model.proofs.Argument.Persist.{Misses, Clear, each-append}
 use Rattle.model.proofs.Argument.Phases.{statePhase, copy-phases}
 use Rattle.model.proofs.Argument.Settled.{crash-seq}
 use Rattle.model.proofs.Argument.Runs.{puts-clear}
-use Rattle.model.proofs.Argument.View.{Recoverable, low-states}
+use Rattle.model.proofs.Argument.View.{Recoverable, low-states, low-pairs}
 use Rattle.model.proofs.Argument.Holds.{Contents}
 use Rattle.model.proofs.Argument.GivenBackup.{Givable}
 use Rattle.model.proofs.Argument.Invariant.{Invariant}
 use Rattle.model.proofs.Argument.Span.{marked, span-crash, span-done}
-use Rattle.model.proofs.Argument.Copy.{unmarked, copy-done, state-two, state-kept}
+use Rattle.model.proofs.Argument.Copy.{unmarked, pairs-given, copy-done, state-two, state-kept}
 use Rattle.model.proofs.Argument.Copy.FirstPart.{Ready, Copying}
 use Rattle.model.proofs.Argument.Copy.NewBackup.{ready-new}
 use Rattle.model.proofs.Argument.Copy.OwnBackup.{ready-old}
@@ -119,6 +119,8 @@ module _ (O : Ops) (I₀ : Image) (s : Session) (P W : Contents) (held : Bytes I
     backup : ℕ
     givable : Givable l (activeState I) (backupToMain I) i backup
     copies : copies p ≡ true
+    -- its own, or the new one
+    which : ((needsBackup s I i ≡ false) × (backupToMain I backup ≡ i)) ⊎ ((needsBackup s I i ≡ true) × (backup ≡ newOf s I))
     ready : Ready l I i backup (backupOps l I word i p ++ sfence ∷ [])
 
   prepared : needsCopy s I i ≡ true → (needsBackup s I i ≡ true → someFree s I ≡ true) → Prepared (copyPlan s I i)
@@ -135,6 +137,7 @@ module _ (O : Ops) (I₀ : Image) (s : Session) (P W : Contents) (held : Bytes I
             backup = pairedBackup l (backupToMain I) i;
             givable = givable-own e q;
             copies = refl;
+            which = inl (unfold needsBackup in (rw (e, q)), p .1);
             ready = ready-old l I word i (pairedBackup l (backupToMain I) i) small (inv .recovers .fit .long) (ok .main) (p .0) (sizes64 _ (p .0)) (p .1)
                 (λ x h d. inv .twin i (pairedBackup l (backupToMain I) i) x (ok .main) (p .0) h (p .1) (unfold dirtyBlock in d));
           })
@@ -146,6 +149,7 @@ module _ (O : Ops) (I₀ : Image) (s : Session) (P W : Contents) (held : Bytes I
             backup = j;
             givable = givable-new j e q f;
             copies = refl;
+            which = inr (n, refl);
             ready = ready-new l I i j small (inv .recovers .fit .long) (sizes64 j (f .0)) (omega (arith, i64)) (ok .main) (f .0);
           })
 
@@ -216,6 +220,27 @@ module _ (O : Ops) (I₀ : Image) (s : Session) (P W : Contents) (held : Bytes I
             ∙ low-states I₀ (O ++ X) U (λ k x. span-low k (omega arith)) u u64 ∙ copied p (ℕ-discrete u i)
         go false e =
             ap (λ (Y : Ops). activeState (replay (O ++ Y) I₀) u) (plain-ops e) ∙ low-states I₀ O U (λ k x. span-low k (omega arith)) u u64
+
+    -- the new backup segment is given to the segment, if it needs one, and all other pairs stay
+    pub write-pairs : (t : ℕ) → t < 64 → backupToMain (replay (O ++ writeOps s I w) I₀) t ≡ cond (needsBackup s I i && eqb t (newOf s I)) i (backupToMain I t)
+    write-pairs t h = go (needsCopy s I i) refl
+      where
+        given : (p : Prepared plan) → Dec (t ≡ p .backup) → backupToMain (replay (O ++ X) I₀) t ≡ cond (needsBackup s I i && eqb t (newOf s I)) i (backupToMain I t)
+        given p (yes e) =
+            ap (backupToMain (replay (O ++ X) I₀)) e ∙ pairs-given (cow p) .0
+            ∙ ⊎-elim (λ own. rw (own .0) (sym (ap (backupToMain I) e ∙ own .1))) (λ new. rw (new .0, eq-eqb t (newOf s I) (e ∙ new .1))) (p .which)
+        given p (no e) =
+            pairs-given (cow p) .1 t h e
+            ∙ ⊎-elim (λ own. rw (own .0)) (λ new. rw (new .0, ne-eqb t (newOf s I) (λ q. e (q ∙ sym (new .1))))) (p .which)
+
+        go : (b : Bool) → needsCopy s I i ≡ b → backupToMain (replay (O ++ writeOps s I w) I₀) t ≡ cond (needsBackup s I i && eqb t (newOf s I)) i (backupToMain I t)
+        go true e =
+            let p = prepared e free in
+            ap (λ (Y : Ops). backupToMain (replay Y I₀) t) (ap (λ (Y : Ops). O ++ Y) (copy-ops p) ∙ sym (append-assoc O X U))
+            ∙ low-pairs I₀ (O ++ X) U (λ k x y. span-low k (omega arith)) t h ∙ given p (ℕ-discrete t (p .backup))
+        go false e =
+            let none : needsBackup s I i ≡ false = unfold needsBackup in (rw e) in
+            ap (λ (Y : Ops). backupToMain (replay (O ++ Y) I₀) t) (plain-ops e) ∙ low-pairs I₀ O U (λ k x y. span-low k (omega arith)) t h ∙ sym (rw none)
 
     -- CRASHED: the same contents
     pub write-crash : (n : ℕ) (H : Image) → CrashImage I₀ (O ++ take n (writeOps s I w)) H → Recoverable l H P

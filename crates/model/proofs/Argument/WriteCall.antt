@@ -11,7 +11,7 @@ use Rattle.model.specs.declared.Layout.{Layout}
 use Rattle.model.specs.declared.Session.{Session}
 use Rattle.model.specs.Words.{Image, byteAt, Bytes, overlay}
 use Rattle.model.specs.Layout.{ssBackup, segmentSize, mainAt}
-use Rattle.model.specs.Container.{activeState}
+use Rattle.model.specs.Container.{activeState, backupToMain}
 use Rattle.model.specs.Session.{withDirty}
 use Rattle.model.specs.Ops.{Trace}
 use Rattle.model.specs.Write.{WriteArgs, needsCopy, needsBackup, spanAt, writeOps, writeSession, writeStatus, writeOutcome}
@@ -19,11 +19,11 @@ use Rattle.model.specs.Reference.{Page, Model, modelStep, writeArgs, pag
 use Rattle.model.specs.History.{Call, Device, State, outcome}
 use Rattle.model.proofs.Laws.Open.{zero-write}
 use Rattle.model.proofs.Laws.Words.{overlay-sets, overlay-shift}
-use Rattle.model.proofs.Laws.Write.{someFree, served-free}
+use Rattle.model.proofs.Laws.Write.{newOf, someFree, served-free}
 use Rattle.model.proofs.Laws.Replay.{write-outcome-ok}
 use Rattle.model.proofs.Argument.Invariant.{Invariant}
 use Rattle.model.proofs.Argument.SpanWords.{SpanOk}
-use Rattle.model.proofs.Argument.Write.{span-ok, write-low, write-states, write-crash, write-done}
+use Rattle.model.proofs.Argument.Write.{span-ok, write-low, write-states, write-pairs, write-crash, write-done}
 use Rattle.model.proofs.Argument.Pages.{contentsOf, block-inside}
 use Rattle.model.proofs.Laws.Outcome.{Answered}
 use Rattle.model.proofs.Argument.View.{low-epoch}
@@ -97,6 +97,8 @@ module _ (s : State) (st : Stands s) (w : WriteArgs) (t : Trace) (small : Bytes 
         epoch = low-epoch (d .durable) (d .played) (writeOps σ I w) (write-low (d .played) (d .durable) σ _ _ (st .bytes) inv w ok (st .wide) free) ∙ omega arith;
         states = λ i h. write-states (d .played) (d .durable) σ _ _ (st .bytes) inv w ok (st .wide) free i h
             ∙ sym (rw (a .status) (ap₂ (λ (x : Session) (J : Image). cond (needsCopy x J (w .main) && eqb i (w .main)) ssBackup (activeState J i)) e (st .image)));
+        pairs = λ j h. write-pairs (d .played) (d .durable) σ _ _ (st .bytes) inv w ok (st .wide) free j h
+            ∙ sym (rw (a .status) (ap₂ (λ (x : Session) (J : Image). cond (needsBackup x J (w .main) && eqb j (newOf x J)) (w .main) (backupToMain J j)) e (st .image)));
         crash = λ p H x. inl (write-crash (d .played) (d .durable) σ _ _ (st .bytes) inv w ok (st .wide) free p H x);
       }
 
