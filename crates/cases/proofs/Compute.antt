@@ -1,5 +1,5 @@
--- What a computed case needs: a name that opens every definition of `model`, and a test for equal lists of numbers, which
--- the checker computes in one pass.
+-- What a computed case needs: a name that opens every definition of `model`, and tests which the checker computes in one pass: for equal
+-- lists of numbers, for bytes, and for calls that a history may have.
 use Prim.Native.Nat.{ℕ, zero, suc}
 use mathlib.Core.Path.{_≡_, refl, ap₂}
 use mathlib.Core.Bool.{Bool, true, false, _&&_}
@@ -10,7 +10,7 @@ use Rattle.model.specs.Range.{cat, allB, anyB, orNext, firstB}
 use Rattle.model.specs.Words.{Bytes, littleEndian, wordOf, bytesOf, storeWord, overlay}
 use Rattle.model.specs.Layout.{inRange, sizesOk, imageSize, stateLine}
 use Rattle.model.specs.Status.{firstError}
-use Rattle.model.specs.Container.{isPaired, validMetadata, pairedBackup, isFree, anyFree, byState, checkpointLocated, checkpointSegment, checkpointBytes, headerOk}
+use Rattle.model.specs.Container.{isPaired, validMetadata, pairedBackup, isFree, anyFree, newBackup, byState, checkpointLocated, checkpointSegment, checkpointBytes, headerOk}
 use Rattle.model.specs.Session.{bit, setBit, setBits, dirtySegment, dirtyBlock, freshSession, zeroSession, withDirty, withCheckpoint, validSession}
 use Rattle.model.specs.Ops.{encode, opOf, decode, written, traceShort, apply, replay, stores, clwbs, putBlock, persistCopy, persistZero, copySegment, zeroSegment}
 use Rattle.model.specs.Outcome.{outcomeOf}
@@ -20,12 +20,12 @@ use Rattle.model.specs.Open.{recoveryAction, actionOps, recoverSegment, recover
 use Rattle.model.specs.Write.{needsCopy, needsBackup, copyPlan, pairOps, copyDirty, backupOps, stateOps, copyOnWriteOps, spanOps, writeOps, writeSession, spanBad, writeStatus, writeOutcome}
 use Rattle.model.specs.Checkpoint.{flushDirty, nextState, statesOps, epochOps, checkpointOps, checkpointStatus, checkpointOutcome}
 use Rattle.model.specs.Reads.{readStatus, workingPart, checkpointPart}
-use Rattle.model.specs.Reference.{modelStep}
-use Rattle.model.specs.History.{reported, playedOps, replayedImage, deviceStep, step, run, openedImage, start}
+use Rattle.model.specs.Reference.{CallArgs, openArgs, writeArgs, checkpointArgs, modelStep}
+use Rattle.model.specs.History.{Call, reported, playedOps, replayedImage, deviceStep, step, run, openedImage, start, PermittedArgs, AllPermitted}
 use Rattle.model.proofs.Laws.Range.{and-left, and-right}
 
 unfoldable pub model-rules : Unit {0}
-unfolding cat allB anyB orNext firstB littleEndian wordOf bytesOf storeWord overlay inRange sizesOk imageSize stateLine firstError isPaired validMetadata pairedBackup isFree anyFree byState checkpointLocated checkpointSegment checkpointBytes headerOk bit setBit setBits dirtySegment dirtyBlock freshSession zeroSession withDirty withCheckpoint validSession encode opOf decode written traceShort apply replay stores clwbs putBlock persistCopy persistZero copySegment zeroSegment outcomeOf wellFormed allWellFormed replayCount replayedOps replayStatus replayOutcome container formatted formatOutcome recoveryAction actionOps recoverSegment recoveryOps openStatus openOutcome needsCopy needsBackup copyPlan pairOps copyDirty backupOps stateOps copyOnWriteOps spanOps writeOps writeSession spanBad writeStatus writeOutcome flushDirty nextState statesOps epochOps checkpointOps checkpointStatus checkpointOutcome readStatus workingPart checkpointPart modelStep reported playedOps replayedImage deviceStep step run openedImage start
+unfolding cat allB anyB orNext firstB littleEndian wordOf bytesOf storeWord overlay inRange sizesOk imageSize stateLine firstError isPaired validMetadata pairedBackup isFree anyFree newBackup byState checkpointLocated checkpointSegment checkpointBytes headerOk bit setBit setBits dirtySegment dirtyBlock freshSession zeroSession withDirty withCheckpoint validSession encode opOf decode written traceShort apply replay stores clwbs putBlock persistCopy persistZero copySegment zeroSegment outcomeOf wellFormed allWellFormed replayCount replayedOps replayStatus replayOutcome container formatted formatOutcome recoveryAction actionOps recoverSegment recoveryOps openStatus openOutcome needsCopy needsBackup copyPlan pairOps copyDirty backupOps stateOps copyOnWriteOps spanOps writeOps writeSession spanBad writeStatus writeOutcome flushDirty nextState statesOps epochOps checkpointOps checkpointStatus checkpointOutcome readStatus workingPart checkpointPart modelStep reported playedOps replayedImage deviceStep step run openedImage start
 model-rules = tt
 
 unfoldable pub same : List ℕ → List ℕ → Bool
@@ -51,3 +51,25 @@ unfolding small
 small-bytes [] e i = lit< tt
 small-bytes (x ∷ xs) e zero = ltb-true x 256 (and-left (ltb x 256) (small xs) e)
 small-bytes (x ∷ xs) e (suc i) = small-bytes xs (and-right (ltb x 256) (small xs) e) i
+
+-- what a call is given to write are bytes; so of every call of a list, and then all are permitted
+unfoldable pub smallArgs : CallArgs → Bool
+smallArgs (openArgs l) = true
+smallArgs (writeArgs w) = small (w .bytes)
+smallArgs checkpointArgs = true
+
+unfoldable pub smallCalls : List Call → Bool
+smallCalls [] = true
+smallCalls (c ∷ cs) = smallArgs (c .args) && smallCalls cs
+
+small-permitted : (a : CallArgs) → smallArgs a ≡ true → PermittedArgs a
+unfolding smallArgs
+small-permitted (openArgs l) e = tt
+small-permitted (writeArgs w) e = small-bytes (w .bytes) e
+small-permitted checkpointArgs e = tt
+
+pub all-permitted : (cs : List Call) → smallCalls cs ≡ true → AllPermitted cs
+unfolding smallCalls
+all-permitted [] e = tt
+all-permitted (c ∷ cs) e =
+    (small-permitted (c .args) (and-left (smallArgs (c .args)) (smallCalls cs) e), all-permitted cs (and-right (smallArgs (c .args)) (smallCalls cs) e))

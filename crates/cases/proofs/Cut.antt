@@ -1,7 +1,6 @@
 -- The crash inside the checkpoint of P4.
 use Prim.Native.Nat.{ℕ}
 use mathlib.Core.Path.{_≡_, refl, sym, ap, subst, _∙_}
-use mathlib.Core.Bool.{false≢true}
 use mathlib.Core.List.{[], _∷_, _++_}
 use lib.Dec.{lit≤}
 use lib.ListN.{replicate}
@@ -9,7 +8,7 @@ use Rattle.model.specs.Words.{Image, Bytes}
 use Rattle.model.specs.Ops.{Ops, store, replay}
 use Rattle.model.specs.Format.{container, formatted}
 use Rattle.model.specs.Open.{openStatus}
-use Rattle.model.specs.History.{State, start, step, run, openedImage, AllPermitted}
+use Rattle.model.specs.History.{State, start, step, run, openedImage}
 use Rattle.cases.specs.Table.{l211, fresh, longTrace, fourBytes, writeFour, checkpoint}
 use Rattle.cases.specs.Cut.{CutCheckpoint, beforeP4, zeros, newBytes, CutP4}
 use Rattle.model.proofs.Argument.Stands.{Stands}
@@ -60,14 +59,9 @@ opens : openStatus l211 fresh longTrace ≡ 0
 unfolding model-rules
 opens = refl
 
-permitted : AllPermitted (standing l211 (formatted l211) zeros) (writeFour ∷ [])
-unfolding model-rules small
-permitted = ((small-bytes fourBytes refl, λ served needs. absurd (false≢true needs)), tt)
-
 holds : Stands stateBeforeP4
-holds =
-    subst Stands stands
-    (history-stands l211 fresh longTrace fresh-bytes opens (writeFour ∷ []) (subst (λ (s : State). AllPermitted s (writeFour ∷ [])) (sym starts) permitted))
+unfolding small
+holds = subst Stands stands (history-stands l211 fresh longTrace fresh-bytes opens (writeFour ∷ []) (small-bytes fourBytes refl, tt))
 
 -- ---- the two images that a crash after 16 or 17 operations may leave: before the epoch's store, and after it
 

@@ -4,11 +4,10 @@
 -- The crashes follow from demand 3, and in the window from two computed images.
 use Prim.Native.Nat.{ℕ, _+_, _*_, _%_, _<_, _≤_}
 use mathlib.Core.Path.{_≡_, refl, sym, ap, ap₂, subst, subst₂, _∙_}
-use mathlib.Core.Logic.{inl}
-use mathlib.Core.Bool.{true, false, false≢true}
+use mathlib.Core.Bool.{true}
 use mathlib.Core.List.{List, [], _∷_, _++_}
 use native.Mathlib.Omega.{arith}
-use lib.Dec.{ltb, lit<, lit≤}
+use lib.Dec.{ltb, lit≤}
 use lib.ListN.{length, take, drop, replicate}
 use lib.Seq.{sets, sets-eq}
 use Rattle.model.specs.declared.Layout.{Layout}
@@ -17,18 +16,18 @@ use Rattle.model.specs.declared.Plan.the-variants.{NoCopy, OwnBackup, NewBackup
 use Rattle.model.specs.Range.{cat, sumTo}
 use Rattle.model.specs.Words.{Image, Bytes, byteAt, wordOf, bytesOf, overlay}
 use Rattle.model.specs.Layout.{lineSize, unpaired}
-use Rattle.model.specs.Container.{activeState, backupToMain, Free, segmentBytes}
+use Rattle.model.specs.Container.{segmentBytes}
 use Rattle.model.specs.Status.{firstError}
 use Rattle.model.specs.Session.{bit, dirtyWord, freshSession, withCheckpoint}
 use Rattle.model.specs.Ops.{opNumbers, Ops, encode, replay, stores, copySegment}
 use Rattle.model.specs.Outcome.{Outcome}
 use Rattle.model.specs.Format.{container, formatted}
 use Rattle.model.specs.Open.{openStatus, openOutcome}
-use Rattle.model.specs.Write.{WriteArgs, needsBackup, copyPlan, noneFree, earlyErrors, spanOps, stateOps, pairOps, copyDirty, backupOps, writeOps, writeSession, writeStatus, writeOutcome}
+use Rattle.model.specs.Write.{WriteArgs, copyPlan, noneFree, earlyErrors, spanOps, stateOps, pairOps, copyDirty, backupOps, writeOps, writeSession, writeStatus, writeOutcome}
 use Rattle.model.specs.Counts.{dirtyCount}
 use Rattle.model.specs.Checkpoint.{checkpointOps, checkpointStatus, checkpointOutcome}
 use Rattle.model.specs.Reference.{Page, pageAt, modelStep}
-use Rattle.model.specs.History.{Call, callWrite, State, outcome, deviceStep, step, run, openedImage, Permitted, AllPermitted}
+use Rattle.model.specs.History.{Call, callWrite, State, outcome, deviceStep, step, run, openedImage, AllPermitted}
 use Rattle.model.specs.CrashSafety.{Reads, Recovers, during}
 use Rattle.cases.specs.Table.{answer, sizes, longTrace, checkpoint, follow, AsExpected, calls}
 use Rattle.cases.specs.Cut.{OnlyShows, CutCheckpoint}
@@ -39,7 +38,7 @@ use Rattle.model.proofs.Argument.SpanWords.{SpanOk}
 use Rattle.model.proofs.Argument.Write.{span-ok}
 use Rattle.model.proofs.CrashSafety.{history-stands}
 use Rattle.model.proofs.Sisters.{reads-follow-model}
-use Rattle.cases.proofs.Compute.{model-rules, same, same-equal, small, small-bytes}
+use Rattle.cases.proofs.Compute.{model-rules, same, same-equal, small, small-bytes, smallArgs, smallCalls, all-permitted}
 use Rattle.cases.proofs.Starts.{standing, started}
 use Rattle.cases.proofs.Blocks.{laid, copied, spanned, recovered-none, recovered-zero, recovered-all}
 use Rattle.cases.proofs.Leads.{At, goes, uncopied, backed, copying, write-status, write-served, write-refused, checkpoint-served}
@@ -54,13 +53,13 @@ record Has (s : State) (I : Image) (x : Session) (W P : Page) : Type 0 where
   working : s .model .working ≡ W
   checkpoint : s .model .checkpoint ≡ P
 
--- a call is permitted, answers this with n operations, and leaves this
+-- a call answers this with n operations, and leaves this
 abbrev Goes : State → Call → Outcome → ℕ → Image → Session → Page → Page → Type 0
-Goes s c o n J y W P = Permitted (s .device) c × (outcome (s .device) c ≡ o) × (length (o .ops) ≡ n) × Has (step s c) J y W P
+Goes s c o n J y W P = (outcome (s .device) c ≡ o) × (length (o .ops) ≡ n) × Has (step s c) J y W P
 
 -- what a served write answers, a refused one, and a checkpoint
 abbrev wrote : Session → Session → Image → WriteArgs → Outcome
-wrote y x I w = record { status = 0; session = y; ops = writeOps x I w 0 }
+wrote y x I w = record { status = 0; session = y; ops = writeOps x I w }
 
 abbrev refused : Session → Outcome
 refused x = record { status = 8; session = x; ops = [] }
@@ -74,35 +73,33 @@ placeOf w = pageAt l114 (w .main) (w .block) + w .offset
 
 -- how many operations a write has, and its status if it has n
 abbrev countOf : Session → Image → WriteArgs → ℕ
-countOf x I w = copyCount (x .layout) (dirtyWord x (w .main)) (copyPlan x I (w .main) 0) + spanCount (x .layout) w
+countOf x I w = copyCount (x .layout) (dirtyWord x (w .main)) (copyPlan x I (w .main)) + spanCount (x .layout) w
 
 abbrev statusOf : Session → Image → WriteArgs → ℕ → ℕ
 statusOf x I w n =
-    firstError (earlyErrors x I w ++ (9, noneFree (copyPlan x I (w .main) 0)) ∷ (11, ltb (length longestTrace) (opNumbers * n)) ∷ [])
+    firstError (earlyErrors x I w ++ (9, noneFree (copyPlan x I (w .main))) ∷ (11, ltb (length longestTrace) (opNumbers * n)) ∷ [])
 
 -- a served write
 writes-on : (I : Image) (x : Session) (W P : Page) (w : WriteArgs) (n : ℕ) (J : Image) (y : Session) (X : Page)
     → length I % lineSize ≡ 0 → small I ≡ true → small (w .bytes) ≡ true
-    → (needsBackup x I (w .main) ≡ true → Free (x .layout) (activeState I) (backupToMain I) 0)
     → countOf x I w ≡ n → statusOf x I w n ≡ 0 → writeSession x I w ≡ y
-    → (Bytes I → SpanOk (x .layout) w → replay (writeOps x I w 0) I ≡ J)
+    → (Bytes I → SpanOk (x .layout) w → replay (writeOps x I w) I ≡ J)
     → placeOf w + length (w .bytes) ≤ length W → same (laid W (placeOf w) (w .bytes)) X ≡ true
-    → (s : State) → Has s I x W P → Goes s (callWrite w longestTrace 0) (wrote y x I w) n J y X P
+    → (s : State) → Has s I x W P → Goes s (callWrite w longestTrace) (wrote y x I w) n J y X P
 unfolding step deviceStep modelStep
-writes-on I x W P w n J y X whole bytes given free count status answered leaves room page s h =
-    let served : writeStatus x I w 0 longestTrace ≡ 0 = write-status x I w 0 longestTrace n 0 count status in
-    let o : writeOutcome x I w 0 longestTrace ≡ wrote y x I w =
-    write-served x I w 0 longestTrace served ∙ ap (λ (z : Session). wrote z x I w) answered in
-    let g = goes (callWrite w longestTrace 0) whole (small-bytes (w .bytes) given, λ e. free) (ap (λ (a : Outcome). a .session) o)
+writes-on I x W P w n J y X whole bytes given count status answered leaves room page s h =
+    let served : writeStatus x I w longestTrace ≡ 0 = write-status x I w longestTrace n 0 count status in
+    let o : writeOutcome x I w longestTrace ≡ wrote y x I w =
+    write-served x I w longestTrace served ∙ ap (λ (z : Session). wrote z x I w) answered in
+    let g = goes (callWrite w longestTrace) whole (ap (λ (a : Outcome). a .session) o)
     (ap (λ (a : Outcome). replay (a .ops) I) o
-    ∙ leaves (small-bytes I bytes) (span-ok x I w 0 longestTrace (small-bytes (w .bytes) given) served)) s (h .here) in
-    let e : outcome (s .device) (callWrite w longestTrace 0) ≡ wrote y x I w =
-    ap₂ (λ (z : Session) (K : Image). writeOutcome z K w 0 longestTrace) (h .here .session) (h .here .image) ∙ o in (
-      g .0,
+    ∙ leaves (small-bytes I bytes) (span-ok x I w longestTrace (small-bytes (w .bytes) given) served)) s (h .here) in
+    let e : outcome (s .device) (callWrite w longestTrace) ≡ wrote y x I w =
+    ap₂ (λ (z : Session) (K : Image). writeOutcome z K w longestTrace) (h .here .session) (h .here .image) ∙ o in (
       e,
-      length-write x I w 0 ∙ count,
+      length-write x I w ∙ count,
       record {
-        here = g .1;
+        here = g;
         sized = h .sized;
         working = rw (e, h .sized)
             (ap (λ (Q : Page). sets Q (placeOf w) (w .bytes)) (h .working) ∙ sets-eq (w .bytes) W (placeOf w) room ∙ same-equal _ _ page);
@@ -111,21 +108,17 @@ writes-on I x W P w n J y X whole bytes given free count status answered leaves 
     )
 
 -- one that is refused with 8
-refuses : (I : Image) (x : Session) (W P : Page) (w : WriteArgs) (n : ℕ) → length I % lineSize ≡ 0 → small (w .bytes) ≡ true
+refuses : (I : Image) (x : Session) (W P : Page) (w : WriteArgs) (n : ℕ) → length I % lineSize ≡ 0
     → countOf x I w ≡ n → statusOf x I w n ≡ 8
-    → (s : State) → Has s I x W P → Goes s (callWrite w longestTrace 0) (refused x) 0 I x W P
+    → (s : State) → Has s I x W P → Goes s (callWrite w longestTrace) (refused x) 0 I x W P
 unfolding step deviceStep modelStep replay
-refuses I x W P w n whole given count status s h =
-    let not-served : writeStatus x I w 0 longestTrace ≡ 8 = write-status x I w 0 longestTrace n 8 count status in
-    let o = write-refused x I w 0 longestTrace 8 refl not-served in
-    let g = goes (callWrite w longestTrace 0) whole (small-bytes (w .bytes) given, λ e. absurd (eight (sym not-served ∙ e)))
-    (ap (λ (a : Outcome). a .session) o) (ap (λ (a : Outcome). replay (a .ops) I) o) s (h .here) in
-    let e : outcome (s .device) (callWrite w longestTrace 0) ≡ refused x =
-    ap₂ (λ (z : Session) (K : Image). writeOutcome z K w 0 longestTrace) (h .here .session) (h .here .image) ∙ o in
-    (g .0, e, refl, record { here = g .1; sized = h .sized; working = rw e (h .working); checkpoint = rw e (h .checkpoint) })
-  where
-    eight : _≡_ {A = ℕ} 8 0 → ⊥
-    eight e = omega arith
+refuses I x W P w n whole count status s h =
+    let not-served : writeStatus x I w longestTrace ≡ 8 = write-status x I w longestTrace n 8 count status in
+    let o = write-refused x I w longestTrace 8 refl not-served in
+    let g = goes (callWrite w longestTrace) whole (ap (λ (a : Outcome). a .session) o) (ap (λ (a : Outcome). replay (a .ops) I) o) s (h .here) in
+    let e : outcome (s .device) (callWrite w longestTrace) ≡ refused x =
+    ap₂ (λ (z : Session) (K : Image). writeOutcome z K w longestTrace) (h .here .session) (h .here .image) ∙ o in
+    (e, refl, record { here = g; sized = h .sized; working = rw e (h .working); checkpoint = rw e (h .checkpoint) })
 
 -- a checkpoint
 saves : (I : Image) (x : Session) (W P : Page) (n : ℕ) (J : Image) (y : Session) → length I % lineSize ≡ 0 → checkpointStatus x I longTrace ≡ 0
@@ -135,11 +128,11 @@ unfolding step deviceStep modelStep
 saves I x W P n J y whole served count answered leaves s h =
     let o : checkpointOutcome x I longTrace ≡ saved y x I =
     checkpoint-served x I longTrace served ∙ ap (λ (z : Session). saved z x I) answered in
-    let g = goes checkpoint whole tt (ap (λ (a : Outcome). a .session) o)
+    let g = goes checkpoint whole (ap (λ (a : Outcome). a .session) o)
     (ap (λ (a : Outcome). replay (a .ops) I) o ∙ same-equal _ _ leaves) s (h .here) in
     let e : outcome (s .device) checkpoint ≡ saved y x I =
     ap₂ (λ (z : Session) (K : Image). checkpointOutcome z K longTrace) (h .here .session) (h .here .image) ∙ o in
-    (g .0, e, count, record { here = g .1; sized = h .sized; working = rw e (h .working); checkpoint = rw e (h .working) })
+    (e, count, record { here = g; sized = h .sized; working = rw e (h .working); checkpoint = rw e (h .working) })
 
 -- ---- images and sessions
 
@@ -219,39 +212,35 @@ answered-1 = refl
 
 -- ---- L2 to L7
 
--- where no new backup segment is needed, none is chosen
-none-needed : {A : Type 0} → _≡_ false true → A
-none-needed e = absurd (false≢true e)
-
 -- L2: nothing is copied
 abbrev first : WriteArgs
 first = filling 0 30 700 5
 
-plan-2 : copyPlan (session 0 0) I1 0 0 ≡ NoCopy
+plan-2 : copyPlan (session 0 0) I1 0 ≡ NoCopy
 unfolding model-rules
 plan-2 = refl
 
-leaves-2 : Bytes I1 → SpanOk l114 first → replay (writeOps (session 0 0) I1 first 0) I1 ≡ I2
+leaves-2 : Bytes I1 → SpanOk l114 first → replay (writeOps (session 0 0) I1 first) I1 ≡ I2
 unfolding container bytesOf same
 leaves-2 bytes ok =
-    ap (λ (O : Ops). replay O I1) (uncopied (session 0 0) I1 first 0 plan-2)
+    ap (λ (O : Ops). replay O I1) (uncopied (session 0 0) I1 first plan-2)
     ∙ spanned l114 I1 I1 first ok bytes (lit≤ tt) refl ∙ same-equal (laid I1 542 (first .bytes)) I2 refl
 
 goes-2 : Goes opened (fill 0 30 700 5) (wrote (session 1 7) (session 0 0) I1 first) 89 I2 (session 1 7) firstBytes noBytes
 unfolding model-rules same small
 goes-2 =
-    writes-on I1 (session 0 0) noBytes noBytes first 89 I2 (session 1 7) firstBytes refl refl refl none-needed refl refl refl leaves-2
+    writes-on I1 (session 0 0) noBytes noBytes first 89 I2 (session 1 7) firstBytes refl refl refl refl refl refl leaves-2
     (lit≤ tt) refl opened has-1
 
 goes-3 : Goes afterL2 checkpoint (saved (session 0 7) (session 1 7) I2) 26 I3 (session 0 7) firstBytes firstBytes
 unfolding model-rules same
-goes-3 = saves I2 (session 1 7) firstBytes noBytes 26 I3 (session 0 7) refl refl refl refl refl afterL2 (goes-2 .3)
+goes-3 = saves I2 (session 1 7) firstBytes noBytes 26 I3 (session 0 7) refl refl refl refl refl afterL2 (goes-2 .2)
 
 -- L4: all blocks are copied, to a new backup segment
 abbrev second : WriteArgs
 second = filling 1 30 700 6
 
-plan-4 : copyPlan (session 0 7) I3 0 0 ≡ NewBackup 0
+plan-4 : copyPlan (session 0 7) I3 0 ≡ NewBackup 0
 unfolding model-rules
 plan-4 = refl
 
@@ -263,7 +252,7 @@ backed-4 : replay (stateOps I3 0) (laid (replay (pairOps I3 0 0) I3) 1536 (segme
 unfolding model-rules same
 backed-4 = same-equal _ K4 refl
 
-leaves-4 : Bytes I3 → SpanOk l114 second → replay (writeOps (session 0 7) I3 second 0) I3 ≡ I4
+leaves-4 : Bytes I3 → SpanOk l114 second → replay (writeOps (session 0 7) I3 second) I3 ≡ I4
 unfolding container bytesOf same
 leaves-4 bytes ok =
     copying (session 0 7) I3 second 0 plan-4 bytes (lit≤ tt) (lit≤ tt) ∙ ap (replay (spanOps l114 I3 second)) backed-4
@@ -273,18 +262,18 @@ leaves-4 bytes ok =
 goes-4 : Goes afterL3 (fill 1 30 700 6) (wrote (session 1 14) (session 0 7) I3 second) 239 I4 (session 1 14) secondBytes firstBytes
 unfolding model-rules same small
 goes-4 =
-    writes-on I3 (session 0 7) firstBytes firstBytes second 239 I4 (session 1 14) secondBytes refl refl refl (λ e. (lit< tt, inl refl)) refl refl refl leaves-4
-    (lit≤ tt) refl afterL3 (goes-3 .3)
+    writes-on I3 (session 0 7) firstBytes firstBytes second 239 I4 (session 1 14) secondBytes refl refl refl refl refl refl leaves-4
+    (lit≤ tt) refl afterL3 (goes-3 .2)
 
 goes-5 : Goes afterL4 checkpoint (saved (session 0 14) (session 1 14) I4) 26 I5 (session 0 14) secondBytes secondBytes
 unfolding model-rules same
-goes-5 = saves I4 (session 1 14) secondBytes firstBytes 26 I5 (session 0 14) refl refl refl refl refl afterL4 (goes-4 .3)
+goes-5 = saves I4 (session 1 14) secondBytes firstBytes 26 I5 (session 0 14) refl refl refl refl refl afterL4 (goes-4 .2)
 
 -- L6: the three blocks that are dirty are copied, to the backup segment that it has
 abbrev third : WriteArgs
 third = filling 0 30 700 7
 
-plan-6 : copyPlan (session 0 14) I5 0 0 ≡ OwnBackup 0
+plan-6 : copyPlan (session 0 14) I5 0 ≡ OwnBackup 0
 unfolding model-rules
 plan-6 = refl
 
@@ -299,10 +288,10 @@ backed-6 : replay (stateOps I5 0) (laid I5 1792 (segmentBytes (sizes 1 1 3) I5 7
 unfolding model-rules same
 backed-6 = same-equal _ K6 refl
 
-leaves-6 : Bytes I5 → SpanOk l114 third → replay (writeOps (session 0 14) I5 third 0) I5 ≡ I6
+leaves-6 : Bytes I5 → SpanOk l114 third → replay (writeOps (session 0 14) I5 third) I5 ≡ I6
 unfolding container bytesOf same
 leaves-6 bytes ok =
-    backed (session 0 14) I5 (laid I5 1792 (segmentBytes (sizes 1 1 3) I5 768)) third 0 (OwnBackup 0) plan-6 refl
+    backed (session 0 14) I5 (laid I5 1792 (segmentBytes (sizes 1 1 3) I5 768)) third (OwnBackup 0) plan-6 refl
     (ap (λ (O : Ops). replay O I5) (three-blocks I5) ∙ copied (sizes 1 1 3) I5 I5 768 1792 bytes (lit≤ tt) (lit≤ tt))
     ∙ ap (replay (spanOps l114 I5 third)) backed-6
     ∙ spanned l114 I5 K6 third ok bytes (lit≤ tt) (same-equal (segmentBytes l114 K6 512) (segmentBytes l114 I5 512) refl)
@@ -314,20 +303,20 @@ afterL6 = step afterL5 (fill 0 30 700 7)
 goes-6 : Goes afterL5 (fill 0 30 700 7) (wrote (session 1 7) (session 0 14) I5 third) 201 I6 (session 1 7) thirdBytes secondBytes
 unfolding model-rules dirtyCount sumTo same small
 goes-6 =
-    writes-on I5 (session 0 14) secondBytes secondBytes third 201 I6 (session 1 7) thirdBytes refl refl refl none-needed refl refl refl leaves-6
-    (lit≤ tt) refl afterL5 (goes-5 .3)
+    writes-on I5 (session 0 14) secondBytes secondBytes third 201 I6 (session 1 7) thirdBytes refl refl refl refl refl refl leaves-6
+    (lit≤ tt) refl afterL5 (goes-5 .2)
 
 -- L7
 goes-71 : Goes afterL6 (fill 2 30 700 8) (refused (session 1 7)) 0 I6 (session 1 7) thirdBytes secondBytes
 unfolding model-rules small
-goes-71 = refuses I6 (session 1 7) thirdBytes secondBytes (filling 2 30 700 8) 89 refl refl refl refl afterL6 (goes-6 .3)
+goes-71 = refuses I6 (session 1 7) thirdBytes secondBytes (filling 2 30 700 8) 89 refl refl refl afterL6 (goes-6 .2)
 
 abbrev after71 : State
 after71 = step afterL6 (fill 2 30 700 8)
 
 goes-72 : Goes after71 (fill 0 256 1 8) (refused (session 1 7)) 0 I6 (session 1 7) thirdBytes secondBytes
 unfolding model-rules small
-goes-72 = refuses I6 (session 1 7) thirdBytes secondBytes (filling 0 256 1 8) 1 refl refl refl refl after71 (goes-71 .3)
+goes-72 = refuses I6 (session 1 7) thirdBytes secondBytes (filling 0 256 1 8) 1 refl refl refl after71 (goes-71 .2)
 
 abbrev after72 : State
 after72 = step after71 (fill 0 256 1 8)
@@ -335,28 +324,28 @@ after72 = step after71 (fill 0 256 1 8)
 abbrev last : WriteArgs
 last = filling 0 30 994 8
 
-plan-73 : copyPlan (session 1 7) I6 0 0 ≡ NoCopy
+plan-73 : copyPlan (session 1 7) I6 0 ≡ NoCopy
 unfolding model-rules
 plan-73 = refl
 
-leaves-73 : Bytes I6 → SpanOk l114 last → replay (writeOps (session 1 7) I6 last 0) I6 ≡ I7
+leaves-73 : Bytes I6 → SpanOk l114 last → replay (writeOps (session 1 7) I6 last) I6 ≡ I7
 unfolding container bytesOf same
 leaves-73 bytes ok =
-    ap (λ (O : Ops). replay O I6) (uncopied (session 1 7) I6 last 0 plan-73)
+    ap (λ (O : Ops). replay O I6) (uncopied (session 1 7) I6 last plan-73)
     ∙ spanned l114 I6 I6 last ok bytes (lit≤ tt) refl ∙ same-equal (laid I6 542 (last .bytes)) I7 refl
 
 goes-73 : Goes after72 (fill 0 30 994 8) (wrote (session 1 15) (session 1 7) I6 last) 125 I7 (session 1 15) lastBytes secondBytes
 unfolding model-rules same small
 goes-73 =
-    writes-on I6 (session 1 7) thirdBytes secondBytes last 125 I7 (session 1 15) lastBytes refl refl refl none-needed refl refl refl leaves-73
-    (lit≤ tt) refl after72 (goes-72 .3)
+    writes-on I6 (session 1 7) thirdBytes secondBytes last 125 I7 (session 1 15) lastBytes refl refl refl refl refl refl leaves-73
+    (lit≤ tt) refl after72 (goes-72 .2)
 
 abbrev after73 : State
 after73 = step after72 (fill 0 30 994 8)
 
 goes-74 : Goes after73 (fill 0 30 995 8) (refused (session 1 15)) 0 I7 (session 1 15) lastBytes secondBytes
 unfolding model-rules small
-goes-74 = refuses I7 (session 1 15) lastBytes secondBytes (filling 0 30 995 8) 126 refl refl refl refl after73 (goes-73 .3)
+goes-74 = refuses I7 (session 1 15) lastBytes secondBytes (filling 0 30 995 8) 126 refl refl refl after73 (goes-73 .2)
 
 -- ---- the rows
 
@@ -376,44 +365,52 @@ row-2 : answer (outcome (opened .device) (fill 0 30 700 5)) ++ marksAndEnds (out
     ≡ 0 ∷ 89 ∷ 7 ∷ 1 ∷ 536 ∷ 1 ∷ 1240 ∷ []
 unfolding spanOps
 row-2 =
-    ap (λ (a : Outcome). answer a ++ marksAndEnds a afterL2) (goes-2 .1)
+    ap (λ (a : Outcome). answer a ++ marksAndEnds a afterL2) (goes-2 .0)
     ∙ ap (λ (k : ℕ). 0 ∷ k ∷ 7 ∷ operation 0 (wrote (session 1 7) (session 0 0) I1 first) ++ operation 88 (wrote (session 1 7) (session 0 0) I1 first))
-    (goes-2 .2)
-    ∙ ap (λ (O : Ops). 0 ∷ 89 ∷ 7 ∷ take 2 (encode O) ++ take 2 (drop 264 (encode O))) (uncopied (session 0 0) I1 first 0 plan-2)
+    (goes-2 .1)
+    ∙ ap (λ (O : Ops). 0 ∷ 89 ∷ 7 ∷ take 2 (encode O) ++ take 2 (drop 264 (encode O))) (uncopied (session 0 0) I1 first plan-2)
     ∙ ap (λ (ns : List ℕ). 0 ∷ 89 ∷ 7 ∷ ns) (ends (λ k. wordOf (overlay (byteAt I1) 542 (first .bytes)) (536 + 8 * k)))
 
 answered : AsExpected opened story
 unfolding story follow
 answered =
     ap₂ _∷_ row-2
-    (ap₂ _∷_ (row-is afterL2 afterL3 checkpoint _ 26 (goes-3 .1) (goes-3 .2))
-    (ap₂ _∷_ (row-is afterL3 afterL4 (fill 1 30 700 6) _ 239 (goes-4 .1) (goes-4 .2))
-    (ap₂ _∷_ (row-is afterL4 afterL5 checkpoint _ 26 (goes-5 .1) (goes-5 .2))
-    (ap₂ _∷_ (row-is afterL5 afterL6 (fill 0 30 700 7) _ 201 (goes-6 .1) (goes-6 .2))
-    (ap₂ _∷_ (row-is afterL6 after71 (fill 2 30 700 8) _ 0 (goes-71 .1) (goes-71 .2))
-    (ap₂ _∷_ (row-is after71 after72 (fill 0 256 1 8) _ 0 (goes-72 .1) (goes-72 .2))
-    (ap₂ _∷_ (row-is after72 after73 (fill 0 30 994 8) _ 125 (goes-73 .1) (goes-73 .2))
-    (ap₂ _∷_ (row-is after73 (step after73 (fill 0 30 995 8)) (fill 0 30 995 8) _ 0 (goes-74 .1) (goes-74 .2)) refl))))))))
+    (ap₂ _∷_ (row-is afterL2 afterL3 checkpoint _ 26 (goes-3 .0) (goes-3 .1))
+    (ap₂ _∷_ (row-is afterL3 afterL4 (fill 1 30 700 6) _ 239 (goes-4 .0) (goes-4 .1))
+    (ap₂ _∷_ (row-is afterL4 afterL5 checkpoint _ 26 (goes-5 .0) (goes-5 .1))
+    (ap₂ _∷_ (row-is afterL5 afterL6 (fill 0 30 700 7) _ 201 (goes-6 .0) (goes-6 .1))
+    (ap₂ _∷_ (row-is afterL6 after71 (fill 2 30 700 8) _ 0 (goes-71 .0) (goes-71 .1))
+    (ap₂ _∷_ (row-is after71 after72 (fill 0 256 1 8) _ 0 (goes-72 .0) (goes-72 .1))
+    (ap₂ _∷_ (row-is after72 after73 (fill 0 30 994 8) _ 125 (goes-73 .0) (goes-73 .1))
+    (ap₂ _∷_ (row-is after73 (step after73 (fill 0 30 995 8)) (fill 0 30 995 8) _ 0 (goes-74 .0) (goes-74 .1)) refl))))))))
 
-permitted : AllPermitted opened (calls story)
-unfolding story
-permitted =
-    (goes-2 .0, (goes-3 .0, (goes-4 .0, (goes-5 .0, (goes-6 .0, (goes-71 .0, (goes-72 .0, (goes-73 .0, (goes-74 .0, tt)))))))))
+permitted : AllPermitted (calls story)
+unfolding story small smallArgs smallCalls
+permitted = all-permitted (calls story) refl
 
 -- ---- the crashes
 
+-- L2 and L4 are given bytes
+given-2 : Bytes (first .bytes)
+unfolding small
+given-2 = small-bytes (first .bytes) refl
+
+given-4 : Bytes (second .bytes)
+unfolding small
+given-4 = small-bytes (second .bytes) refl
+
 stands-2 : Stands afterL2
 unfolding run
-stands-2 = history-stands l114 F longestTrace bytes opens (fill 0 30 700 5 ∷ []) (goes-2 .0, tt)
+stands-2 = history-stands l114 F longestTrace bytes opens (fill 0 30 700 5 ∷ []) (given-2, tt)
 
 stands-3 : Stands afterL3
 unfolding run
-stands-3 = history-stands l114 F longestTrace bytes opens (fill 0 30 700 5 ∷ checkpoint ∷ []) (goes-2 .0, (goes-3 .0, tt))
+stands-3 = history-stands l114 F longestTrace bytes opens (fill 0 30 700 5 ∷ checkpoint ∷ []) (given-2, (tt, tt))
 
 stands-4 : Stands afterL4
 unfolding run
 stands-4 =
-    history-stands l114 F longestTrace bytes opens (fill 0 30 700 5 ∷ checkpoint ∷ fill 1 30 700 6 ∷ []) (goes-2 .0, (goes-3 .0, (goes-4 .0, tt)))
+    history-stands l114 F longestTrace bytes opens (fill 0 30 700 5 ∷ checkpoint ∷ fill 1 30 700 6 ∷ []) (given-2, (tt, (given-4, tt)))
 
 -- what the checkpoint of L3 leaves before the epoch's store, and after it
 abbrev cutImage : ℕ → Image
@@ -430,7 +427,7 @@ shows-new = shows l114 (cutImage 1) longestTrace firstBytes refl refl refl
 cut : CutCheckpoint 26 afterL2 noBytes firstBytes
 unfolding model-rules same storesEpoch
 cut =
-    let h = goes-2 .3 in
+    let h = goes-2 .2 in
     cut-checkpoint afterL2 stands-2 I2 (session 1 7) 26 (h .here .image) (h .here .session) refl (lit≤ tt)
     noBytes firstBytes (cutImage 0) (cutImage 1) refl refl refl refl refl longestTrace
     (subst (λ (l : Layout). Recovers l (cutImage 0) longestTrace noBytes) (sym (h .sized)) shows-old)
@@ -438,18 +435,18 @@ cut =
 
 copies-safely : (p : ℕ) → p < 239 → OnlyShows afterL3 (during (fill 1 30 700 6) p) firstBytes
 copies-safely p more =
-    shows-during afterL3 stands-3 (fill 1 30 700 6) (goes-4 .0) p firstBytes
-    (omega (arith, more, ap (λ (o : Outcome). length (o .ops)) (goes-4 .1) ∙ goes-4 .2)) (λ w. no-checkpoint (w .0)) (goes-3 .3 .checkpoint)
+    shows-during afterL3 stands-3 (fill 1 30 700 6) given-4 p firstBytes
+    (omega (arith, more, ap (λ (o : Outcome). length (o .ops)) (goes-4 .0) ∙ goes-4 .1)) (λ w. no-checkpoint (w .0)) (goes-3 .2 .checkpoint)
 
 -- ---- the reads after L5
 
 reads : Reads l114 (afterL5 .device .image) secondBytes secondBytes
 unfolding run
 reads =
-    let h = goes-5 .3 in
+    let h = goes-5 .2 in
     let r : Reads (afterL5 .device .layout) (afterL5 .device .image) (afterL5 .model .working) (afterL5 .model .checkpoint) =
     reads-follow-model l114 F longestTrace bytes opens (fill 0 30 700 5 ∷ checkpoint ∷ fill 1 30 700 6 ∷ checkpoint ∷ [])
-    (goes-2 .0, (goes-3 .0, (goes-4 .0, (goes-5 .0, tt)))) in
+    (given-2, (tt, (given-4, (tt, tt)))) in
     subst (λ (l : Layout). Reads l (afterL5 .device .image) secondBytes secondBytes) (h .sized)
     (subst₂ (λ (W P : Page). Reads (afterL5 .device .layout) (afterL5 .device .image) W P) (h .working) (h .checkpoint) r)
 
@@ -462,6 +459,6 @@ long-story = record {
   answered = answered;
   cut = cut;
   copying = copies-safely;
-  copied = shows-between afterL4 stands-4 firstBytes (goes-4 .3 .checkpoint);
+  copied = shows-between afterL4 stands-4 firstBytes (goes-4 .2 .checkpoint);
   reads = reads;
 }

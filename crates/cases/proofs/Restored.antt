@@ -1,11 +1,9 @@
 -- The restored board: its second life, and the crash inside its checkpoint.
 use Prim.Native.Nat.{ℕ, suc, _+_}
 use mathlib.Core.Path.{_≡_, refl, sym, ap, subst, _∙_}
-use mathlib.Core.Logic.{_≢_, inr}
-use mathlib.Core.Bool.{true, false, false≢true}
+use mathlib.Core.Bool.{true}
 use mathlib.Core.List.{List, [], _∷_, _++_}
-use native.Mathlib.Omega.{arith}
-use lib.Dec.{T, leb, eqb, lit<, lit≤}
+use lib.Dec.{T, leb, lit≤}
 use lib.ListN.{length, replicate}
 use Rattle.model.specs.Range.{anyB, orNext, firstB}
 use Rattle.model.specs.Words.{Image, Bytes, bytesOf}
@@ -22,7 +20,7 @@ use Rattle.cases.specs.Cut.{CutCheckpoint}
 use Rattle.cases.specs.Restored.{l641, boardTrace, put, segments, leftBoard, restoredBoard, board, story, shorter, beforeCheckpoint, oldPage, newPage, RestoredStory}
 use Rattle.model.proofs.Argument.Stands.{Stands}
 use Rattle.model.proofs.CrashSafety.{history-stands}
-use Rattle.cases.proofs.Compute.{model-rules, same, same-equal, small, small-bytes}
+use Rattle.cases.proofs.Compute.{model-rules, same, same-equal, small, small-bytes, smallArgs, smallCalls, all-permitted}
 use Rattle.cases.proofs.Table.{agree, agree-equal}
 use Rattle.cases.proofs.Starts.{standing, started}
 use Rattle.cases.proofs.Blocks.{laid, Recovered, recovered-none, recovered-copy, recovered-zero, recovered-idle, recovered-all}
@@ -86,32 +84,13 @@ shorter-agrees = refl
 answered : (cs : List Case) → agree (follow cs (standing l641 restored oldPage)) ≡ true → AsExpected restoredBoard cs
 answered cs test = agree-equal (follow cs restoredBoard) (subst (λ (s : State). agree (follow cs s) ≡ true) (sym starts) test)
 
--- what the tests of the two refusals mean: the first write is not served, and the last takes a backup segment whose main segment is in state 1
-nine : _≡_ {A = ℕ} 9 0 → ⊥
-nine e = omega arith
+story-permitted : AllPermitted (calls story)
+unfolding story small smallArgs smallCalls
+story-permitted = all-permitted (calls story) refl
 
-not-two : (n : ℕ) → eqb n 2 ≡ false → n ≢ 2
-not-two n test e = false≢true (sym test ∙ ap (λ (k : ℕ). eqb k 2) e)
-
-all-permitted : AllPermitted (standing l641 restored oldPage) (calls story)
-unfolding model-rules story small
-all-permitted = (
-  (small-bytes (34 ∷ []) refl, λ served needs. absurd (nine served)),
-  (
-    (small-bytes (35 ∷ []) refl, λ served needs. absurd (false≢true needs)),
-    (
-      tt,
-      ((small-bytes (34 ∷ []) refl, λ served needs. (lit< tt, inr (not-two _ refl))), tt),
-    ),
-  ),
-)
-
-shorter-permitted : AllPermitted (standing l641 restored oldPage) (calls shorter)
-unfolding model-rules shorter small
-shorter-permitted = (
-  (small-bytes (34 ∷ []) refl, λ served needs. absurd (nine served)),
-  (tt, ((small-bytes (34 ∷ []) refl, λ served needs. (lit< tt, inr (not-two _ refl))), tt)),
-)
+shorter-permitted : AllPermitted (calls shorter)
+unfolding shorter small smallArgs smallCalls
+shorter-permitted = all-permitted (calls shorter) refl
 
 board-is : board (standing l641 restored oldPage) ≡ 2 ∷ 2 ∷ 2 ∷ 2 ∷ 1 ∷ 0 ∷ [] ++ 0 ∷ 1 ∷ 2 ∷ 3 ∷ []
 unfolding model-rules
@@ -136,24 +115,23 @@ before = record {
   model = record { working = newPage; checkpoint = oldPage };
 }
 
-refused : step (standing l641 restored oldPage) (put 4 34 0) ≡ standing l641 restored oldPage
+refused : step (standing l641 restored oldPage) (put 4 34) ≡ standing l641 restored oldPage
 unfolding model-rules
 refused = refl
 
-served : step (standing l641 restored oldPage) (put 5 35 0) ≡ before
+served : step (standing l641 restored oldPage) (put 5 35) ≡ before
 unfolding model-rules
 served = refl
 
 stands : beforeCheckpoint ≡ before
 unfolding run
-stands = ap (λ (s : State). step (step s (put 4 34 0)) (put 5 35 0)) starts ∙ ap (λ (s : State). step s (put 5 35 0)) refused ∙ served
+stands = ap (λ (s : State). step (step s (put 4 34)) (put 5 35)) starts ∙ ap (λ (s : State). step s (put 5 35)) refused ∙ served
 
 holds : Stands before
-unfolding story
+unfolding small smallArgs smallCalls
 holds =
     subst Stands stands
-    (history-stands l641 leftBoard boardTrace bytes opens (put 4 34 0 ∷ put 5 35 0 ∷ [])
-    (subst (λ (s : State). AllPermitted s (put 4 34 0 ∷ put 5 35 0 ∷ [])) (sym starts) (all-permitted .0, (all-permitted .1 .0, tt))))
+    (history-stands l641 leftBoard boardTrace bytes opens (put 4 34 ∷ put 5 35 ∷ []) (all-permitted (put 4 34 ∷ put 5 35 ∷ []) refl))
 
 -- the images with the old epoch and with the new
 abbrev cutImage : ℕ → Image
@@ -184,15 +162,15 @@ pub restored-story : RestoredStory
 restored-story = record {
   firstBytes = first.bytes;
   firstOpens = first.opens;
-  firstPermitted = first.life .0;
+  firstPermitted = first.permitted;
   left = first.left;
   bytes = bytes;
   opens = shows-left;
   restored = ap board starts ∙ board-is;
-  permitted = subst (λ (s : State). AllPermitted s (calls story)) (sym starts) all-permitted;
+  permitted = story-permitted;
   answered = answered story story-agrees;
   cut = subst (λ (s : State). CutCheckpoint 18 s oldPage newPage) (sym stands) shown;
-  untouchedPermitted = subst (λ (s : State). AllPermitted s (calls shorter)) (sym starts) shorter-permitted;
+  untouchedPermitted = shorter-permitted;
   untouched = answered shorter shorter-agrees;
   empty = ap (λ (s : State). checkpointBlock l641 (run s (calls shorter) .device .image) 5 0) starts ∙ no-part;
 }

@@ -80,7 +80,7 @@ pub no-checkpoint : {w : WriteArgs} → writeArgs w ≡ checkpointArgs → ⊥
 no-checkpoint e = false≢true (ap isCheckpoint e)
 
 -- in a call that is made in state s, outside the window
-pub shows-during : (s : State) → Stands s → (c : Call) → Permitted (s .device) c → (p : ℕ) (Q : Page) → p < length (outcome (s .device) c .ops)
+pub shows-during : (s : State) → Stands s → (c : Call) → Permitted c → (p : ℕ) (Q : Page) → p < length (outcome (s .device) c .ops)
     → (Window (s .device) c p → ⊥) → s .model .checkpoint ≡ Q → OnlyShows s (during c p) Q
 shows-during s st c permitted p Q more outside is H crash t long =
     let x = argument s st c permitted .crash p H more crash in

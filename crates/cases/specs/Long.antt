@@ -30,12 +30,12 @@ l114 = sizes 1 1 4
 abbrev pub longestTrace : Trace
 longestTrace = replicate 717 0
 
--- n bytes v written to main segment 0 from this block and offset on; backup segment 0, the only one, is taken where one is needed
+-- n bytes v written to main segment 0 from this block and offset on
 abbrev pub filling : ℕ → ℕ → ℕ → ℕ → WriteArgs
 filling block offset n v = writeArgsOf 0 block offset (replicate n v)
 
 abbrev pub fill : ℕ → ℕ → ℕ → ℕ → Call
-fill block offset n v = callWrite (filling block offset n v) longestTrace 0
+fill block offset n v = callWrite (filling block offset n v) longestTrace
 
 -- the word of dirty blocks that a call answers
 abbrev pub marks : Outcome → State → List ℕ
@@ -95,7 +95,7 @@ pub record LongStory : Type 0 where
   -- it is a history that demand 3 speaks of, and its calls answer so
   pub bytes : Bytes (formatted l114)
   pub opens : answer (openOutcome l114 (formatted l114) longestTrace) ≡ 0 ∷ 145 ∷ []
-  pub permitted : AllPermitted opened (calls story)
+  pub permitted : AllPermitted (calls story)
   pub answered : AsExpected opened story
   -- the crash inside L3
   pub cut : CutCheckpoint 26 afterL2 noBytes firstBytes

@@ -2,9 +2,10 @@
 -- checkpoint after that (SPECIFICATION 17.4): 6 main segments, 4 backup segments, 1 block.
 --
 -- The first life: a formatted image is opened; a byte is written to each of main segments 0 to 4; a checkpoint; another byte is
--- written to each of main segments 0 to 3, which copies each of them to a backup segment first; power fails. The second life is an
--- opening of what is left. A write to main segment 4 is refused with 9, and one to main segment 5 is served. Then comes a checkpoint,
--- which turns every state to 1, and now main segment 4 can be written. Proved in proofs/Restored.antt.
+-- written to each of main segments 0 to 3, which copies each of them first, to the lowest backup segment that is unpaired; power fails.
+-- The second life is an opening of what is left. A write to main segment 4 is refused with 9, and one to main segment 5 is served. Then
+-- comes a checkpoint, which turns every state to 1, and now main segment 4 can be written: all backup segments are paired, and it takes
+-- the lowest whose main segment is in state 1, which is backup segment 0 (SPECIFICATION 3.4). Proved in proofs/Restored.antt.
 use Prim.Native.Nat.{ℕ}
 use mathlib.Core.Path.{_≡_}
 use mathlib.Core.List.{List, [], _∷_, _++_}
@@ -31,9 +32,9 @@ l641 = sizes 6 4 1
 abbrev pub boardTrace : Trace
 boardTrace = replicate 651 0
 
--- the byte x written to main segment i, at its start; backup segment j is taken where one is needed
-abbrev pub put : ℕ → ℕ → ℕ → Call
-put i x j = callWrite (writes i 0 (x ∷ [])) longTrace j
+-- the byte x written to main segment i, at its start
+abbrev pub put : ℕ → ℕ → Call
+put i x = callWrite (writes i 0 (x ∷ [])) longTrace
 
 -- ---- the first life
 
@@ -42,8 +43,8 @@ formattedBoard = start l641 (formatted l641) boardTrace
 
 abbrev pub firstLife : List Call
 firstLife =
-    put 0 10 0 ∷ put 1 11 0 ∷ put 2 12 0 ∷ put 3 13 0 ∷ put 4 14 0 ∷ checkpoint
-    ∷ put 0 20 0 ∷ put 1 21 1 ∷ put 2 22 2 ∷ put 3 23 3 ∷ []
+    put 0 10 ∷ put 1 11 ∷ put 2 12 ∷ put 3 13 ∷ put 4 14 ∷ checkpoint
+    ∷ put 0 20 ∷ put 1 21 ∷ put 2 22 ∷ put 3 23 ∷ []
 
 -- segments of which only the first byte was written, from these bytes
 abbrev pub segments : List ℕ → List ℕ
@@ -71,23 +72,23 @@ onBoard o s = board s
 -- its calls, in their order: status, number of operations, states, pairs
 unfoldable pub story : List Case
 story =
-    case 1 (put 4 34 0) onBoard ((9 ∷ 0 ∷ []) ++ (2 ∷ 2 ∷ 2 ∷ 2 ∷ 1 ∷ 0 ∷ []) ++ (0 ∷ 1 ∷ 2 ∷ 3 ∷ []))
-    ∷ case 2 (put 5 35 0) onBoard ((0 ∷ 1 ∷ []) ++ (2 ∷ 2 ∷ 2 ∷ 2 ∷ 1 ∷ 0 ∷ []) ++ (0 ∷ 1 ∷ 2 ∷ 3 ∷ []))
+    case 1 (put 4 34) onBoard ((9 ∷ 0 ∷ []) ++ (2 ∷ 2 ∷ 2 ∷ 2 ∷ 1 ∷ 0 ∷ []) ++ (0 ∷ 1 ∷ 2 ∷ 3 ∷ []))
+    ∷ case 2 (put 5 35) onBoard ((0 ∷ 1 ∷ []) ++ (2 ∷ 2 ∷ 2 ∷ 2 ∷ 1 ∷ 0 ∷ []) ++ (0 ∷ 1 ∷ 2 ∷ 3 ∷ []))
     ∷ case 3 checkpoint onBoard ((0 ∷ 18 ∷ []) ++ (1 ∷ 1 ∷ 1 ∷ 1 ∷ 1 ∷ 1 ∷ []) ++ (0 ∷ 1 ∷ 2 ∷ 3 ∷ []))
-    ∷ case 4 (put 4 34 0) onBoard ((0 ∷ 43 ∷ []) ++ (1 ∷ 1 ∷ 1 ∷ 1 ∷ 2 ∷ 1 ∷ []) ++ (4 ∷ 1 ∷ 2 ∷ 3 ∷ []))
+    ∷ case 4 (put 4 34) onBoard ((0 ∷ 43 ∷ []) ++ (1 ∷ 1 ∷ 1 ∷ 1 ∷ 2 ∷ 1 ∷ []) ++ (4 ∷ 1 ∷ 2 ∷ 3 ∷ []))
     ∷ []
 
 -- the same without the write to main segment 5, which stays without a checkpoint
 unfoldable pub shorter : List Case
 shorter =
-    case 1 (put 4 34 0) onBoard ((9 ∷ 0 ∷ []) ++ (2 ∷ 2 ∷ 2 ∷ 2 ∷ 1 ∷ 0 ∷ []) ++ (0 ∷ 1 ∷ 2 ∷ 3 ∷ []))
+    case 1 (put 4 34) onBoard ((9 ∷ 0 ∷ []) ++ (2 ∷ 2 ∷ 2 ∷ 2 ∷ 1 ∷ 0 ∷ []) ++ (0 ∷ 1 ∷ 2 ∷ 3 ∷ []))
     ∷ case 2 checkpoint onBoard ((0 ∷ 14 ∷ []) ++ (1 ∷ 1 ∷ 1 ∷ 1 ∷ 1 ∷ 0 ∷ []) ++ (0 ∷ 1 ∷ 2 ∷ 3 ∷ []))
-    ∷ case 3 (put 4 34 0) onBoard ((0 ∷ 43 ∷ []) ++ (1 ∷ 1 ∷ 1 ∷ 1 ∷ 2 ∷ 0 ∷ []) ++ (4 ∷ 1 ∷ 2 ∷ 3 ∷ []))
+    ∷ case 3 (put 4 34) onBoard ((0 ∷ 43 ∷ []) ++ (1 ∷ 1 ∷ 1 ∷ 1 ∷ 2 ∷ 0 ∷ []) ++ (4 ∷ 1 ∷ 2 ∷ 3 ∷ []))
     ∷ []
 
 -- where it stands before the checkpoint; and the page of the first life's checkpoint, and that of this one
 abbrev pub beforeCheckpoint : State
-beforeCheckpoint = run restoredBoard (put 4 34 0 ∷ put 5 35 0 ∷ [])
+beforeCheckpoint = run restoredBoard (put 4 34 ∷ put 5 35 ∷ [])
 
 abbrev pub oldPage : Page
 oldPage = segments (10 ∷ 11 ∷ 12 ∷ 13 ∷ 14 ∷ 0 ∷ [])
@@ -101,17 +102,17 @@ pub record RestoredStory : Type 0 where
   -- the first life is a history that demand 3 speaks of, and a crash after it may leave this image
   pub firstBytes : Bytes (formatted l641)
   pub firstOpens : openStatus l641 (formatted l641) boardTrace ≡ 0
-  pub firstPermitted : AllPermitted formattedBoard firstLife
+  pub firstPermitted : AllPermitted firstLife
   pub left : MayLeave (run formattedBoard firstLife) between leftBoard
   -- so is the second; its opening shows the checkpoint of the first, and leaves these states and pairs
   pub bytes : Bytes leftBoard
   pub opens : Recovers l641 leftBoard boardTrace oldPage
   pub restored : board restoredBoard ≡ (2 ∷ 2 ∷ 2 ∷ 2 ∷ 1 ∷ 0 ∷ []) ++ (0 ∷ 1 ∷ 2 ∷ 3 ∷ [])
   -- its calls are permitted and answer so; the crash inside its checkpoint
-  pub permitted : AllPermitted restoredBoard (calls story)
+  pub permitted : AllPermitted (calls story)
   pub answered : AsExpected restoredBoard story
   pub cut : CutCheckpoint 18 beforeCheckpoint oldPage newPage
   -- without the write to main segment 5
-  pub untouchedPermitted : AllPermitted restoredBoard (calls shorter)
+  pub untouchedPermitted : AllPermitted (calls shorter)
   pub untouched : AsExpected restoredBoard shorter
   pub empty : checkpointBlock l641 (run restoredBoard (calls shorter) .device .image) 5 0 ≡ []

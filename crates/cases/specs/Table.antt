@@ -53,12 +53,12 @@ fresh = formatOutcome l211 (replicate 1280 77) .image
 abbrev pub longTrace : Trace
 longTrace = replicate 219 0
 
--- bytes written to block 0 of a main segment; backup segment 0, the only one, is taken where one is needed
+-- bytes written to block 0 of a main segment
 abbrev pub writes : ℕ → ℕ → List ℕ → WriteArgs
 writes main offset bytes = record { main = main; block = 0; offset = offset; bytes = bytes }
 
 abbrev pub write : ℕ → ℕ → List ℕ → Call
-write main offset bytes = callWrite (writes main offset bytes) longTrace 0
+write main offset bytes = callWrite (writes main offset bytes) longTrace
 
 abbrev pub checkpoint : Call
 checkpoint = callCheckpoint longTrace
@@ -146,7 +146,7 @@ abbrev pub session10 : Session
 session10 = record { layout = sizes 1 1 4; «dirty_segments» = 0; «dirty_blocks» = 4 ∷ replicate 63 0 }
 
 unfoldable pub copyCase : List Row
-copyCase = row 10 (answer (writeOutcome session10 image10 (writes 0 0 aWord) 0 longTrace)) (0 ∷ 41 ∷ []) ∷ []
+copyCase = row 10 (answer (writeOutcome session10 image10 (writes 0 0 aWord) longTrace)) (0 ∷ 41 ∷ []) ∷ []
 
 -- ---- the table
 
