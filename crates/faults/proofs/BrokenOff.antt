@@ -2,7 +2,6 @@
 -- segment by the new epoch, and a crash may bring the old epoch back.
 use Prim.Native.Nat.{ℕ}
 use mathlib.Core.Path.{_≡_, refl, sym, ap, ap₂, subst, _∙_}
-use mathlib.Core.Bool.{false≢true}
 use mathlib.Core.List.{[], _∷_, _++_, append-assoc}
 use lib.Dec.{lit<}
 use lib.ListN.{replicate}
@@ -20,11 +19,12 @@ use Rattle.model.specs.FlushDurable.{imageAt}
 use Rattle.model.proofs.Laws.Crash.Images.{crash-after}
 use Rattle.model.proofs.Argument.Persist.{replay-append}
 use Rattle.cases.specs.Table.{l211, longTrace, checkpoint, aWord}
-use Rattle.cases.proofs.Compute.{model-rules, same, same-equal, small, small-bytes}
+use Rattle.cases.proofs.Compute.{model-rules, same, same-equal, small}
 use Rattle.cases.proofs.Shown.{shows}
 use Rattle.cases.proofs.Starts.{standing, started}
 use Rattle.faults.specs.Unflushed.{once, twoWrites, edited, ended, BrokenOff}
 use Rattle.faults.proofs.Alone.{elsewhere, avoids, first-lost}
+use Rattle.faults.proofs.TwoCalls.{a-word}
 
 abbrev old : Page
 old = replicate 256 40 ++ replicate 256 0
@@ -104,10 +104,8 @@ lost =
 
 -- ---- what the calls are
 
-permitted : AllPermitted (standing l211 once old) twoWrites
-unfolding model-rules small
-permitted =
-    ((small-bytes aWord refl, λ served needs. absurd (false≢true needs)), ((small-bytes aWord refl, λ served needs. absurd (false≢true needs)), tt))
+permitted : AllPermitted twoWrites
+permitted = (a-word, (a-word, tt))
 
 more : PermittedAt (before .device) ended
 unfolding model-rules
@@ -140,8 +138,7 @@ mixed = shows l211 (board 1 (aWord ++ replicate 248 40)) longTrace _ refl refl r
 pub broken-off : BrokenOff
 broken-off = record {
   opens = opens;
-  permitted =
-      (subst (λ (s : State). AllPermitted s twoWrites) (sym begins) permitted, subst (λ (s : State). PermittedAt (s .device) ended) (sym stands) more);
+  permitted = (permitted, subst (λ (s : State). PermittedAt (s .device) ended) (sym stands) more);
   old = ap (λ (s : State). s .model .checkpoint) stands ∙ old-page;
   new = ap (λ (s : State). s .model .working) stands ∙ new-page;
   served =

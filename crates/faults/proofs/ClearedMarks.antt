@@ -3,7 +3,6 @@
 use Prim.Native.Nat.{ℕ}
 use mathlib.Core.Path.{_≡_, refl, sym, ap, subst}
 use mathlib.Core.Logic.{⊎-elim}
-use mathlib.Core.Bool.{false≢true}
 use mathlib.Core.List.{_++_}
 use native.Mathlib.Omega.{arith}
 use lib.Dec.{lit<}
@@ -18,9 +17,9 @@ use Rattle.model.specs.CrashSafety.{during}
 use Rattle.cases.specs.Table.{longTrace, write, aWord}
 use Rattle.faults.specs.Faults.{l111, one, CalledShowsOther, twoCalls, marksCleared, ClearedMarks}
 use Rattle.model.proofs.Laws.Crash.Images.{newest}
-use Rattle.cases.proofs.Compute.{model-rules, same, same-equal, small, small-bytes}
+use Rattle.cases.proofs.Compute.{model-rules, same, same-equal}
 use Rattle.cases.proofs.Shown.{no-checkpoint}
-use Rattle.faults.proofs.TwoCalls.{image, old, new, before, saved, stands, calls-permitted, old-shown}
+use Rattle.faults.proofs.TwoCalls.{image, old, new, before, saved, stands, a-word, calls-permitted, old-shown}
 
 abbrev cleared : State
 cleared = saved (image 1 2 1 new) (freshSession l111)
@@ -33,9 +32,9 @@ abbrev played : Ops
 played = before ++ calledOps (cleared .device) (write 0 8 aWord) 2
 
 wrong : CalledShowsOther (λ H. openedImage l111 H longTrace) cleared (during (write 0 8 aWord) 2)
-unfolding model-rules same small
+unfolding model-rules same
 wrong = record {
-  permitted = ((small-bytes aWord refl, λ served needs. absurd (false≢true needs)), lit< tt);
+  permitted = (a-word, lit< tt);
   left = image 1 2 2 new;
   crash = subst (λ (H : Image). CrashImage (image 0 1 0 old) played H) (same-equal _ _ refl) (newest (image 0 1 0 old) played);
   accepted = refl;

@@ -2,7 +2,7 @@
 use Prim.Native.Nat.{ℕ, _/_, _%_}
 use mathlib.Core.Path.{_≡_, refl, sym, ap, subst, _∙_}
 use mathlib.Core.Logic.{_⊎_, inl, inr, ⊎-elim}
-use mathlib.Core.Bool.{true, false, false≢true}
+use mathlib.Core.Bool.{true, false}
 use mathlib.Core.List.{[], _∷_, _++_}
 use native.Mathlib.Omega.{arith}
 use native.Mathlib.Decide.{ℕ-discrete}
@@ -20,11 +20,11 @@ use Rattle.cases.specs.Table.{longTrace, writes, aWord}
 use Rattle.faults.specs.Faults.{l111, one, earlyStateOps, earlyWriteOps, EarlyState, ShowsBackup, EarlyStateUnseen}
 use Rattle.model.proofs.Argument.Settled.{Off}
 use Rattle.model.proofs.Laws.Crash.Images.{durable-unfenced, crash-after}
-use Rattle.cases.proofs.Compute.{model-rules, same, same-equal, small, small-bytes}
+use Rattle.cases.proofs.Compute.{model-rules, same, same-equal}
 use Rattle.cases.proofs.Shown.{no-checkpoint}
 use Rattle.cases.proofs.Starts.{standing, started}
 use Rattle.faults.proofs.Alone.{arrives-alone, elsewhere, avoids, avoids-off}
-use Rattle.faults.proofs.TwoCalls.{image, old, new, marked, before, saved, stands, replayed, calls-permitted, old-shown}
+use Rattle.faults.proofs.TwoCalls.{image, old, new, marked, before, saved, stands, replayed, a-word, calls-permitted, old-shown}
 
 -- where no fence was played, the last store may arrive alone
 last-alone : (I : Image) (A : Ops) (p w : ℕ) → hasFence (A ++ store p w ∷ []) ≡ false → avoids (p / lineSize) A ≡ true → p % wordSize ≡ 0
@@ -42,13 +42,13 @@ unfolding model-rules same
 starts = ap (λ (s : State). s .device) (started l111 (one unpaired) (one unpaired) longTrace (replicate 256 40) refl (same-equal _ _ refl) (same-equal _ _ refl))
 
 refused : EarlyState (standing l111 (one unpaired) (replicate 256 40) .device)
-unfolding model-rules earlyWriteOps earlyStateOps hasFence avoids elsewhere small
+unfolding model-rules earlyWriteOps earlyStateOps hasFence avoids elsewhere
 refused = (
-  (small-bytes aWord refl, λ served needs. (lit< tt, inl refl)),
+  a-word,
   record {
     accepted = refl;
     left = apply (store 128 2) (one unpaired);
-    crash = last-alone (one unpaired) (take 38 (earlyWriteOps (freshSession l111) (one unpaired) (writes 0 0 aWord) 0)) 128 2 refl refl refl;
+    crash = last-alone (one unpaired) (take 38 (earlyWriteOps (freshSession l111) (one unpaired) (writes 0 0 aWord))) 128 2 refl refl refl;
     refused = refl;
   },
 )
@@ -59,7 +59,7 @@ early-state = subst EarlyState (sym starts) refused
 -- ---- from a paired one
 
 abbrev early : ℕ → Ops
-early n = take n (earlyWriteOps marked (image 1 2 1 new) (writes 0 8 aWord) 0)
+early n = take n (earlyWriteOps marked (image 1 2 1 new) (writes 0 8 aWord))
 
 -- the state's line arrives, the copied lines do not
 left-behind : CrashImage (image 0 1 0 old) (before ++ early 37) (image 1 2 2 new)
@@ -71,9 +71,9 @@ left-behind =
     (last-alone (image 1 2 1 new) (early 36) 192 2 refl refl refl)))
 
 unseen : ShowsBackup (saved (image 1 2 1 new) marked)
-unfolding model-rules small
+unfolding model-rules
 unseen = record {
-  permitted = ((small-bytes aWord refl, λ served needs. absurd (false≢true needs)), lit< tt);
+  permitted = (a-word, lit< tt);
   left = image 1 2 2 new;
   crash = left-behind;
   accepted = refl;

@@ -1,7 +1,7 @@
 -- Fault 5: the second word's line is never written back, and need not arrive.
 use Prim.Native.Nat.{ℕ}
 use mathlib.Core.Path.{_≡_, refl, sym, ap, subst, _∙_}
-use mathlib.Core.Bool.{true, false≢true}
+use mathlib.Core.Bool.{true}
 use mathlib.Core.List.{[], _∷_, _++_}
 use native.Mathlib.Omega.{arith}
 use lib.ListN.{length, getD, replicate}
@@ -13,7 +13,7 @@ use Rattle.model.specs.Open.{openStatus}
 use Rattle.model.specs.Crash.{CrashImage}
 use Rattle.model.specs.CrashExact.{hasFence, floorFrom}
 use Rattle.model.specs.Reference.{Page}
-use Rattle.model.specs.History.{State, outcome, start, step, run, AllPermitted, Permitted}
+use Rattle.model.specs.History.{State, outcome, start, step, run, Permitted}
 use Rattle.model.specs.CrashSafety.{Recovers}
 use Rattle.cases.specs.Table.{longTrace, checkpoint, aWord}
 use Rattle.faults.specs.Faults.{l112, writeTwo, firstSession, firstMarked, FirstMarked, BothMarked}
@@ -45,9 +45,9 @@ starts : start l112 F longTrace ≡ standing l112 F zeros
 unfolding model-rules same
 starts = started l112 F F longTrace zeros opens (same-equal _ _ refl) (same-equal _ _ refl)
 
-permitted : Permitted (standing l112 F zeros .device) writeTwo
-unfolding model-rules small
-permitted = (small-bytes (aWord ++ aWord) refl, λ served needs. absurd (false≢true needs))
+permitted : Permitted writeTwo
+unfolding small
+permitted = small-bytes (aWord ++ aWord) refl
 
 -- ---- with the fault
 
@@ -129,11 +129,9 @@ page = refl
 
 pub both-marked : BothMarked (start l112 F longTrace)
 unfolding run
-both-marked =
-    let may : AllPermitted (start l112 F longTrace) (writeTwo ∷ checkpoint ∷ []) =
-    (subst (λ (s : State). Permitted (s .device) writeTwo) (sym starts) permitted, (tt, tt)) in (
-      may,
-      shows-between (run (start l112 F longTrace) (writeTwo ∷ checkpoint ∷ []))
-          (history-stands l112 F longTrace (small-bytes F bytes) opens (writeTwo ∷ checkpoint ∷ []) may) new
-          (ap (λ (s : State). run s (writeTwo ∷ checkpoint ∷ []) .model .checkpoint) starts ∙ page),
-    )
+both-marked = (
+  (permitted, (tt, tt)),
+  shows-between (run (start l112 F longTrace) (writeTwo ∷ checkpoint ∷ []))
+      (history-stands l112 F longTrace (small-bytes F bytes) opens (writeTwo ∷ checkpoint ∷ []) (permitted, (tt, tt))) new
+      (ap (λ (s : State). run s (writeTwo ∷ checkpoint ∷ []) .model .checkpoint) starts ∙ page),
+)

@@ -2,7 +2,6 @@
 use Prim.Native.Nat.{ℕ}
 use mathlib.Core.Path.{_≡_, refl, sym, ap, subst}
 use mathlib.Core.Logic.{inl, ⊎-elim}
-use mathlib.Core.Bool.{false≢true}
 use mathlib.Core.List.{_∷_}
 use native.Mathlib.Omega.{arith}
 use lib.Dec.{lit<}
@@ -17,10 +16,11 @@ use Rattle.model.specs.CrashSafety.{Reads}
 use Rattle.cases.specs.Table.{write, aWord}
 use Rattle.faults.specs.Faults.{l111, one, skippingAction, skippingOps, skippingOpened, skippingStart, SkippedCopy}
 use Rattle.model.proofs.Laws.Crash.Images.{newest}
-use Rattle.cases.proofs.Compute.{model-rules, same, same-equal, small, small-bytes}
+use Rattle.cases.proofs.Compute.{model-rules, same, same-equal}
 use Rattle.cases.proofs.Shown.{no-checkpoint}
 use Rattle.cases.proofs.Starts.{standing}
 use Rattle.faults.proofs.Shown.{only-block}
+use Rattle.faults.proofs.TwoCalls.{a-word}
 
 abbrev stale : State
 stale = standing l111 (one 0) (replicate 256 40)
@@ -45,9 +45,9 @@ unfolding model-rules
 shown = only-block (record { status = refl; working = refl; checkpoint = inl refl })
 
 wrong : SkippedCopy stale
-unfolding model-rules small
+unfolding model-rules
 wrong = record {
-  permitted = ((small-bytes aWord refl, λ served needs. absurd (false≢true needs)), lit< tt);
+  permitted = (a-word, lit< tt);
   left = left;
   crash = newest (one 0) (calledOps (stale .device) (write 0 0 aWord) 2);
   accepted = refl;

@@ -3,11 +3,10 @@
 use Prim.Native.Nat.{ℕ}
 use mathlib.Core.Path.{_≡_, refl, sym, ap, subst, _∙_}
 use mathlib.Core.Logic.{inl}
-use mathlib.Core.Bool.{false≢true}
 use mathlib.Core.List.{List, _∷_, _++_}
 use lib.ListN.{replicate}
 use Rattle.model.specs.declared.Session.{Session}
-use Rattle.model.specs.Words.{Image}
+use Rattle.model.specs.Words.{Image, Bytes}
 use Rattle.model.specs.Layout.{unpaired}
 use Rattle.model.specs.Session.{freshSession}
 use Rattle.model.specs.Ops.{Ops, replay}
@@ -43,7 +42,7 @@ marked = record { layout = l111; «dirty_segments» = 0; «dirty_blocks» = 1 �
 
 -- the operations of the two calls
 abbrev first : Ops
-first = writeOps (freshSession l111) (image 0 1 0 old) (writes 0 0 aWord) 0
+first = writeOps (freshSession l111) (image 0 1 0 old) (writes 0 0 aWord)
 
 abbrev pub before : Ops
 before = first ++ checkpointOps dirty (image 0 2 0 new)
@@ -83,11 +82,13 @@ pub replayed : replay before (image 0 1 0 old) ≡ image 1 2 1 new
 unfolding model-rules same
 replayed = same-equal _ _ refl
 
-pub calls-permitted : AllPermitted (start l111 (one 0) longTrace) twoCalls
-unfolding model-rules small
-calls-permitted =
-    subst (λ (s : State). AllPermitted s twoCalls) (sym starts)
-    ((small-bytes aWord refl, λ served needs. absurd (false≢true needs)), (tt, tt))
+-- a word is written with bytes, so that the two calls are permitted
+pub a-word : Bytes aWord
+unfolding small
+a-word = small-bytes aWord refl
+
+pub calls-permitted : AllPermitted twoCalls
+calls-permitted = (a-word, (tt, tt))
 
 -- ---- state 2 again, with the new bytes in the main segment and the old ones in its backup
 

@@ -3,7 +3,7 @@
 use Prim.Native.Nat.{ℕ, _*_, _<_}
 use mathlib.Core.Path.{_≡_, refl, sym, ap, subst, _∙_}
 use mathlib.Core.Logic.{_⊎_, inl, inr}
-use mathlib.Core.Bool.{false, false≢true}
+use mathlib.Core.Bool.{false}
 use mathlib.Core.List.{[], _∷_, _++_}
 use native.Mathlib.Omega.{arith}
 use native.Mathlib.Decide.{decLt}
@@ -18,7 +18,7 @@ use Rattle.model.specs.Open.{openStatus, openOutcome}
 use Rattle.model.specs.Crash.{KeepsDurable, AgreeOn, CrashImage}
 use Rattle.model.specs.CrashExact.{hasFence, floorFrom, floor}
 use Rattle.model.specs.Reference.{Page}
-use Rattle.model.specs.History.{State, run, AllPermitted}
+use Rattle.model.specs.History.{State, run}
 use Rattle.model.specs.FlushDurable.{formatStores}
 use Rattle.cases.specs.Table.{l211, longTrace, aWord}
 use Rattle.faults.specs.Faults.{twoCalls}
@@ -30,10 +30,11 @@ use Rattle.model.proofs.Argument.Persist.{Misses}
 use Rattle.model.proofs.Argument.Settled.{Off}
 use Rattle.model.proofs.Argument.Runs.{each-cat}
 use Rattle.model.proofs.FlushDurable.{format-by-stores}
-use Rattle.cases.proofs.Compute.{model-rules, same, same-equal, small, small-bytes}
+use Rattle.cases.proofs.Compute.{model-rules, same, same-equal, small}
 use Rattle.cases.proofs.Shown.{shows}
 use Rattle.cases.proofs.Starts.{standing, started}
 use Rattle.faults.proofs.Alone.{arrives-alone}
+use Rattle.faults.proofs.TwoCalls.{calls-permitted}
 use Rattle.faults.proofs.BrokenOff.{broken-off}
 
 -- ---- a module of 255s
@@ -79,10 +80,6 @@ saves : run (standing l211 (formatted l211) zeros) twoCalls .model .checkpoint �
 unfolding model-rules
 saves = refl
 
-permitted : AllPermitted (standing l211 (formatted l211) zeros) twoCalls
-unfolding model-rules small
-permitted = ((small-bytes aWord refl, λ served needs. absurd (false≢true needs)), (tt, tt))
-
 abbrev played : Ops
 played = formatStores l211 ++ openOutcome l211 (formatted l211) longTrace .ops ++ called
 
@@ -105,7 +102,7 @@ refused-later : RefusedLater
 refused-later = record {
   formats = format-by-stores l211 all255 formats;
   opens = opens;
-  permitted = subst (λ (s : State). AllPermitted s twoCalls) (sym starts) permitted;
+  permitted = calls-permitted;
   saved = ap (λ (s : State). run s twoCalls .model .checkpoint) starts ∙ saves;
   left = oldest all255 played .0;
   crash = subst (λ (X : Ops). CrashImage all255 (formatStores l211 ++ openOutcome l211 (formatted l211) longTrace .ops ++ X) (oldest all255 played .0))

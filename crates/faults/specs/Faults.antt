@@ -12,11 +12,11 @@ use Rattle.model.specs.declared.Action.{Action}
 use Rattle.model.specs.declared.Action.the-variants.{Nothing, ZeroMain, CopyToMain}
 use Rattle.model.specs.declared.Plan.{Plan}
 use Rattle.model.specs.declared.Plan.the-variants.{NoCopy, OwnBackup, NewBackup, NoneFree}
-use Rattle.model.specs.Range.{cat, anyB, firstB}
+use Rattle.model.specs.Range.{cat}
 use Rattle.model.specs.Words.{Image}
 use Rattle.model.specs.Layout.{lineSize, unpaired, ssBackup}
 use Rattle.model.specs.Status.{served}
-use Rattle.model.specs.Container.{activeLine, inactiveLine, segState, backupToMain, isPaired, pairedBackup, isFree, byState, checkpointBytes}
+use Rattle.model.specs.Container.{activeLine, inactiveLine, segState, backupToMain, isPaired, pairedBackup, anyFree, newBackup, byState, checkpointBytes}
 use Rattle.model.specs.Session.{dirtyWord, freshSession, withDirty}
 use Rattle.model.specs.Ops.{clwb, sfence, Ops, replay, storeByte}
 use Rattle.model.specs.Format.{container, formatted}
@@ -83,15 +83,15 @@ earlyStateOps l I word i p =
     cond (copies p) (backupOps l I word i p ++ storeByte I (activeLine I + i) ssBackup ∷ sfence ∷ clwb (activeLine I) ∷ sfence ∷ []) []
 
 -- the operations of a write with this fault; what it refuses is not changed
-unfoldable pub earlyWriteOps : Session → Image → WriteArgs → ℕ → Ops
-earlyWriteOps s I w j =
-    cond (served (writeStatus s I w j longTrace))
-    (earlyStateOps (s .layout) I (dirtyWord s (w .main)) (w .main) (copyPlan s I (w .main) j) ++ spanOps (s .layout) I w)
+unfoldable pub earlyWriteOps : Session → Image → WriteArgs → Ops
+earlyWriteOps s I w =
+    cond (served (writeStatus s I w longTrace))
+    (earlyStateOps (s .layout) I (dirtyWord s (w .main)) (w .main) (copyPlan s I (w .main)) ++ spanOps (s .layout) I w)
     []
 
 -- from an unpaired main segment: a word written, cut after 39 of its 43 operations
 abbrev pub EarlyState : Device → Type 0
-EarlyState d = Permitted d (write 0 0 aWord) × Refuses d (take 39 (earlyWriteOps (d .session) (d .image) (writes 0 0 aWord) 0))
+EarlyState d = Permitted (write 0 0 aWord) × Refuses d (take 39 (earlyWriteOps (d .session) (d .image) (writes 0 0 aWord)))
 
 -- a word written and a checkpoint, for what follows
 abbrev pub twoCalls : List Call
@@ -102,10 +102,10 @@ twoCalls = write 0 0 aWord ∷ checkpoint ∷ []
 abbrev pub ShowsBackup : State → Type 0
 ShowsBackup s =
     ShowsOther (λ H. openedImage l111 H longTrace) s (during (write 0 8 aWord) 37)
-    (s .device .played ++ take 37 (earlyWriteOps (s .device .session) (s .device .image) (writes 0 8 aWord) 0))
+    (s .device .played ++ take 37 (earlyWriteOps (s .device .session) (s .device .image) (writes 0 8 aWord)))
 
 abbrev pub EarlyStateUnseen : State → Type 0
-EarlyStateUnseen s = AllPermitted s twoCalls × ShowsBackup (run s twoCalls)
+EarlyStateUnseen s = AllPermitted twoCalls × ShowsBackup (run s twoCalls)
 
 -- ---- 2. marks cleared at a checkpoint
 
@@ -115,7 +115,7 @@ marksCleared s = withSession s (freshSession (s .device .session .layout))
 -- from a paired main segment: the two calls, another word written, this cut after 2 of its 5 operations
 abbrev pub ClearedMarks : State → Type 0
 ClearedMarks s =
-    AllPermitted s twoCalls × CalledShowsOther (λ H. openedImage l111 H longTrace) (marksCleared (run s twoCalls)) (during (write 0 8 aWord) 2)
+    AllPermitted twoCalls × CalledShowsOther (λ H. openedImage l111 H longTrace) (marksCleared (run s twoCalls)) (during (write 0 8 aWord) 2)
 
 -- ---- 3. opening skips the copy to the backup segment
 
@@ -143,15 +143,13 @@ SkippedCopy s = CalledShowsOther (skippingOpened l111) s (during (write 0 0 aWor
 
 -- ---- 4. a free backup segment judged by the inactive line
 
-abbrev pub inactiveFree : Image → ℕ → Bool
-inactiveFree I = isFree (segState I (inactiveLine I)) (backupToMain I)
-
--- the plan of a write that takes the first backup segment that this line calls free, and its operations
+-- the right plan with the states of this line in the place of the active line's, and the operations of a write by it
 unfoldable pub inactivePlan : Session → Image → ℕ → Plan
 inactivePlan s I i =
     cond (needsCopy s I i)
     (cond (isPaired (s .layout) (backupToMain I) i) (OwnBackup (pairedBackup (s .layout) (backupToMain I) i))
-    (cond (anyB (s .layout .backups) (inactiveFree I)) (NewBackup (firstB (s .layout .backups) (inactiveFree I))) NoneFree))
+    (cond (anyFree (s .layout) (segState I (inactiveLine I)) (backupToMain I))
+    (NewBackup (newBackup (s .layout) (segState I (inactiveLine I)) (backupToMain I))) NoneFree))
     NoCopy
 
 unfoldable pub inactiveWriteOps : Session → Image → WriteArgs → Ops
@@ -168,7 +166,7 @@ two =
 -- a word written to main segment 1, which a right write refuses with 9; this one, cut after its first operation
 abbrev pub InactiveLine : Device → Type 0
 InactiveLine d =
-    (writeStatus (d .session) (d .image) (writes 1 0 aWord) 0 longTrace ≡ 9)
+    (writeStatus (d .session) (d .image) (writes 1 0 aWord) longTrace ≡ 9)
     × Refuses d (take 1 (inactiveWriteOps (d .session) (d .image) (writes 1 0 aWord)))
 
 -- ---- 5. only the first block of a span becomes dirty
@@ -193,7 +191,7 @@ firstMarked s = withSession (step s writeTwo) (firstSession (s .device .session)
 -- the two words written, and a checkpoint, played whole, which writes back block 0 alone: opening then shows a page that is neither
 -- this checkpoint nor the one before
 pub record FirstMarked (s : State) : Type 0 where
-  pub permitted : Permitted (s .device) writeTwo
+  pub permitted : Permitted writeTwo
   pub count : length (outcome (firstMarked s .device) checkpoint .ops) ≡ 18
   pub shows : CalledShowsOther (λ H. openedImage l112 H longTrace) (step (firstMarked s) checkpoint) between
   pub mixed : shows .page ≡ s .model .checkpoint → ⊥
@@ -201,7 +199,7 @@ pub record FirstMarked (s : State) : Type 0 where
 -- with both blocks dirty the same calls leave what shows this checkpoint alone
 abbrev pub BothMarked : State → Type 0
 BothMarked s =
-    AllPermitted s (writeTwo ∷ checkpoint ∷ [])
+    AllPermitted (writeTwo ∷ checkpoint ∷ [])
     × OnlyShows (run s (writeTwo ∷ checkpoint ∷ [])) between (replicate 248 0 ++ aWord ++ aWord ++ replicate 248 0)
 
 -- THE FIVE FAULTS, the first both ways, and the last beside what is right

@@ -29,7 +29,7 @@ firstOpening = start l211 (formatted l211) longTrace
 pub record RefusedLater : Type 0 where
   pub formats : Formats l211 all255 (formatStores l211)
   pub opens : openStatus l211 (formatted l211) longTrace ≡ 0
-  pub permitted : AllPermitted firstOpening twoCalls
+  pub permitted : AllPermitted twoCalls
   pub saved : run firstOpening twoCalls .model .checkpoint ≡ aWord ++ replicate 504 0
   pub left : Image
   pub crash : CrashImage all255 (formatStores l211 ++ openOutcome l211 (formatted l211) longTrace .ops ++ run firstOpening twoCalls .device .played) left
@@ -74,7 +74,7 @@ ended = during checkpoint 20
 -- opening serves, and that shows the new bytes of main segment 0 and the old ones of main segment 1: neither checkpoint
 pub record BrokenOff : Type 0 where
   pub opens : openStatus l211 once longTrace ≡ 0
-  pub permitted : AllPermitted (start l211 once longTrace) twoWrites × PermittedAt (edited .device) ended
+  pub permitted : AllPermitted twoWrites × PermittedAt (edited .device) ended
   pub old : edited .model .checkpoint ≡ replicate 256 40 ++ replicate 256 0
   pub new : edited .model .working ≡ (aWord ++ replicate 248 40) ++ (aWord ++ replicate 248 0)
   pub served : openStatus l211 (imageAt (edited .device) ended) longTrace ≡ 0
