@@ -1,10 +1,9 @@
 // The bench cases P1 to P10 of SPECIFICATION 17, run on the library; R1 to R7, a restart with four levels restored from all spares and
 // the first save after it (SPECIFICATION 17.4), which crate `cases` computes (`RestoredStory`); and L1 to L7, long writes of 700 bytes
 // (SPECIFICATION 17.5), which it has too (`LongStory`) and which are read back here, byte by byte. Each line has what
-// was measured. The file `stdout` has the expected lines, worked out by hand from the specification; where it leaves the spare open
-// (10.7), a spare without a level is taken before others, and else the lowest. The cuts of P4, and those of a restart like this one, are
-// tried by the second program (rust/, `bench cases` and `restored levels`), over every permitted image, and those of the long
-// writes (`long writes`) over every image where there are 256 or fewer, and over samples where there are more.
+// was measured. The file `stdout` has the expected lines, worked out by hand from the specification. The cuts of P4, and those of a
+// restart like this one, are tried by the second program (rust/, `bench cases` and `restored levels`), over every permitted image, and
+// those of the long writes (`long writes`) over every image where there are 256 or fewer, and over samples where there are more.
 use libc::STDOUT_FILENO;
 use model::Answer;
 use model::Layout;
