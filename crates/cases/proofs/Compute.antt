@@ -73,3 +73,13 @@ unfolding smallCalls
 all-permitted [] e = tt
 all-permitted (c ∷ cs) e =
     (small-permitted (c .args) (and-left (smallArgs (c .args)) (smallCalls cs) e), all-permitted cs (and-right (smallArgs (c .args)) (smallCalls cs) e))
+
+-- a list computed before it is handed on
+unfoldable pub known : {A : Type 0} → List ℕ → (List ℕ → A) → A
+known [] k = k []
+known (x ∷ xs) k = known xs (λ ys. k (x ∷ ys))
+
+pub known-same : {A : Type 0} (xs : List ℕ) (k : List ℕ → A) → known xs k ≡ k xs
+unfolding known
+known-same [] k = refl
+known-same (x ∷ xs) k = known-same xs (λ ys. k (x ∷ ys))

@@ -7,7 +7,7 @@ use mathlib.Core.List.{List, [], _∷_, _++_, map}
 use Rattle.model.specs.History.{State, start, step}
 use Rattle.cases.specs.Table.{Row, Case, l211, fresh, longTrace, rowOf, history, follow, sizeCases, openCases, copyCase, rows, TableHolds}
 use Rattle.model.proofs.Laws.Range.{and-left, and-right}
-use Rattle.cases.proofs.Compute.{model-rules, same, same-equal}
+use Rattle.cases.proofs.Compute.{model-rules, same, same-equal, known, known-same}
 
 -- ---- a test of rows
 
@@ -21,16 +21,7 @@ agree-equal [] e = refl
 agree-equal (r ∷ rs) e =
     ap₂ _∷_ (same-equal (r .given) (r .expected) (and-left _ (agree rs) e)) (agree-equal rs (and-right (same (r .given) (r .expected)) (agree rs) e))
 
--- ---- a list, and the image of a state, computed before they are handed on
-
-known : {A : Type 0} → List ℕ → (List ℕ → A) → A
-known [] k = k []
-known (x ∷ xs) k = known xs (λ ys. k (x ∷ ys))
-
-known-same : {A : Type 0} (xs : List ℕ) (k : List ℕ → A) → known xs k ≡ k xs
-unfolding known
-known-same [] k = refl
-known-same (x ∷ xs) k = known-same xs (λ ys. k (x ∷ ys))
+-- ---- the image of a state, computed before it is handed on
 
 abbrev withImage : State → List ℕ → State
 withImage s I = record {

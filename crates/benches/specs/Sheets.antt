@@ -1,0 +1,27 @@
+-- Two bench sheets and what they print, byte for byte: the example of SPECIFICATION 16.4, and the sheet of 17.6 that two benches run, in which
+-- backup segments are taken from other main segments. What is expected is copied from the specification. Proved in proofs/Sheets.antt.
+use Prim.Native.String.{String}
+use mathlib.Core.Path.{_≡_}
+use Rattle.text.specs.Text.{text}
+use Rattle.calls.specs.Printed.{printed}
+
+-- the first of these texts is a sheet, and the second is what it prints
+abbrev pub Prints : String → String → Type 0
+Prints sheet expected = printed (text sheet) ≡ text expected
+
+abbrev pub example : String
+example = "mains=2\nspares=1\nframes=1\nlevel=0\nframe=0\nat=6\nbytes=a1b2c3d4\nsave=1\n"
+
+abbrev pub examplePrinted : String
+examplePrinted = "open=0 orders=73\nstep=1 write=0 orders=2 save=0 orders=18 epoch=1\n"
+
+-- examples/benches.sheet
+abbrev pub benches : String
+benches = "mains=3\nspares=2\nframes=1\nlevel=0\nframe=0\nat=0\nbytes=01\nsave=0\nlevel=1\nframe=0\nat=0\nbytes=02\nsave=0\nlevel=2\nframe=0\nat=0\nbytes=03\nsave=1\nlevel=1\nframe=0\nat=0\nbytes=04\nsave=0\nlevel=0\nframe=0\nat=0\nbytes=05\nsave=1\nlevel=2\nframe=0\nat=0\nbytes=06\nsave=0\nlevel=1\nframe=0\nat=0\nbytes=07\nsave=0\nlevel=0\nframe=0\nat=0\nbytes=08\nsave=1\nlevel=0\nframe=0\nat=0\nbytes=09\nsave=0\n"
+
+abbrev pub benchesPrinted : String
+benchesPrinted = "open=0 orders=109\nstep=1 write=0 orders=1 save=- orders=0 epoch=0\nstep=2 write=0 orders=1 save=- orders=0 epoch=0\nstep=3 write=0 orders=1 save=0 orders=26 epoch=1\nstep=4 write=0 orders=43 save=- orders=0 epoch=1\nstep=5 write=0 orders=43 save=0 orders=26 epoch=2\nstep=6 write=0 orders=43 save=- orders=0 epoch=2\nstep=7 write=0 orders=43 save=- orders=0 epoch=2\nstep=8 write=9 orders=0 save=0 orders=26 epoch=3\nstep=9 write=0 orders=43 save=- orders=0 epoch=3\n"
+
+pub record Sheets : Type 0 where
+  pub example : Prints example examplePrinted
+  pub benches : Prints benches benchesPrinted
