@@ -1,6 +1,9 @@
 //! Corner sheets with the output that section 16 asks for, written by hand.
 //!
-//! `selftest` holds `sheet` against them, `sheets` the sheet program.
+//! `selftest` holds `sheet` against them, `sheets` the sheet program. The sheets
+//! of section 17.6 (`benches`) are among them.
+
+use crate::benches;
 
 pub struct Corner {
     pub name: String,
@@ -19,6 +22,7 @@ pub fn all() -> Vec<Corner> {
     corners.extend(broken_off());
     corners.extend(lengths());
     corners.extend(long_writes());
+    corners.extend(benches::sheets().map(|written| corner(written.input, written.printed)));
     corners
 }
 

@@ -6,7 +6,7 @@
 //! opened again, also after openings that were themselves cut, and the first
 //! opening that finishes must be served and show a permitted page. The faults
 //! of section 18 are caught by it (`selftest`). After each call both reads must
-//! give the book's pages, and the laws of sections 11.5 and 10.9 must hold
+//! give the book's pages, and the laws of sections 11.5, 10.9 and 3.4 must hold
 //! (`laws`).
 //!
 //! A page is shown only if the levels that were never set, and no others, are
@@ -82,6 +82,7 @@ pub const LEGEND: &str = "images: contents that a cut can leave, those looked at
 ways: choices of how many of its waiting stores reached each line; several ways can leave the same image
 distinct: images that differ, over all cuts; each is opened again once
 restored levels settled, empty levels kept: those in state 2 and in state 0 that nobody had touched, at served saves
+spares taken: by writes that needed a new one; passed over: with a lower one whose level was in state 2
 long writes: served writes over several frames; refusals 8: those by one of its conditions alone";
 
 /// A history in progress: what stands, the card last answered, the book, and

@@ -199,9 +199,11 @@ impl<'a> Sound<'a> {
             .fold(true, |all, (level, &state)| all & !((state == 1) & touches(level)))
     }
 
-    fn free_spare(&self) -> Option<usize> {
+    /// The lowest unpaired spare; if all are paired, the lowest whose level is in
+    /// state 1.
+    fn new_spare(&self) -> Option<usize> {
         let unpaired = self.pairs.iter().position(|level| *level == UNPAIRED);
-        unpaired.or_else(|| self.pairs.iter().position(|level| self.states[*level as usize] != 2))
+        unpaired.or_else(|| self.pairs.iter().position(|level| self.states[*level as usize] == 1))
     }
 
     /// The spare of a paired level.
@@ -340,7 +342,7 @@ fn writing<F: Form>(
     let needs_copy = sound.states[level] == 1 && card.touched >> level & 1 == 0;
     let before = match (needs_copy, sound.paired[level]) {
         (false, _) => Before::Nothing,
-        (true, false) => Before::Pair(sound.free_spare().ok_or(9u64)?),
+        (true, false) => Before::Pair(sound.new_spare().ok_or(9u64)?),
         (true, true) => Before::Marked(sound.spare_of(level)),
     };
     let copied = match before {

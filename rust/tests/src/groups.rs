@@ -1,6 +1,7 @@
 //! Groups of checks that run over any implementation of the calls: the bench
 //! cases, every permitted image of single calls and short histories, random
-//! histories, and calls with any contents. `restart` and `long` have more.
+//! histories, and calls with any contents. `restart`, `long` and `benches` have
+//! more.
 //!
 //! `selftest` runs them over the reference, `differential` over the library.
 //! Each gives a line of counts or the first failure.
@@ -10,7 +11,7 @@ use crate::book::{state_of, Call, Deed};
 use crate::calls::*;
 use crate::crash::{permitted, Module};
 use crate::explore::*;
-use crate::laws::{NINES, OF_SPANS};
+use crate::laws::{never_at, Tried, OF_SPANS, OF_SPARES, PASSED_OVER};
 use crate::prng::Rng;
 use crate::report::{Found, Outcome};
 
@@ -227,10 +228,11 @@ pub(crate) fn found(text: impl Into<String>, counts: Counts) -> Found {
     found
 }
 
-/// How often the laws were tried, in words; of the spans those that there were.
-fn laws_tried(counts: Counts) -> String {
-    let mut named = counts.tried.named();
-    named.retain(|(name, count)| *count > 0 || !OF_SPANS.contains(name));
+/// How often the laws were tried, in words; of spares and spans those that there
+/// were.
+pub(crate) fn laws_tried(tried: Tried) -> String {
+    let mut named = tried.named();
+    named.retain(|(name, count)| *count > 0 || !(OF_SPANS.contains(name) || OF_SPARES.contains(name)));
     let told: Vec<String> = named.iter().map(|(name, count)| format!("{count} {name}")).collect();
     told.join(", ")
 }
@@ -240,7 +242,7 @@ pub(crate) fn all_found(counts: Counts) -> Found {
     let Counts { histories, calls, cuts, images, ways, distinct, openings, .. } = counts;
     let history = format!("{histories} histories, {calls} calls, {cuts} cuts");
     let seen = format!("{images} images left in {ways} ways, {distinct} distinct");
-    found(format!("{history}, {seen}, {openings} finished openings; {}", laws_tried(counts)), counts)
+    found(format!("{history}, {seen}, {openings} finished openings; {}", laws_tried(counts.tried)), counts)
 }
 
 /// Every permitted image of single calls with one frame a level, all words of
@@ -333,8 +335,7 @@ fn told_after(path: &[Call], what: String) -> String {
 /// call is enough to try each law that these sizes allow.
 pub fn short_histories<C: Calls>(calls: &C, sizes: Sizes, depth: usize) -> Outcome {
     let total = all_short(|| Explorer::new(calls, sizes, 5), sizes, depth)?;
-    let mut left_out = Vec::new();
-    left_out.extend((sizes.levels <= sizes.spares).then_some(NINES));
+    let mut left_out = never_at(sizes);
     left_out.extend(OF_SPANS.iter().filter(|_| sizes.frames == 1));
     total.tried.all_tried(&left_out)?;
     Ok(all_found(total))
@@ -378,8 +379,17 @@ pub struct Random {
     pub calls: usize,
     pub most: usize,
     pub plan: Plan,
-    /// Must each law be tried?
-    pub every_law: bool,
+    pub laws: Laws,
+}
+
+/// What random histories ask of the laws: that each is tried (but spares passed
+/// over, which are rare here: `restart` and `benches` have them), that they hold,
+/// or nothing.
+#[derive(Clone, Copy, PartialEq, Eq, Debug)]
+pub enum Laws {
+    Tried,
+    Held,
+    LeftOut,
 }
 
 /// Random histories from laid-out and from arbitrary sound images, with any
@@ -394,6 +404,9 @@ pub fn random_histories<C: Calls>(calls: &C, random: Random) -> Outcome {
             false => arbitrary::sound_image(&mut rng, sizes),
         };
         let mut explorer = Explorer::new(calls, sizes, rng.word());
+        if random.laws == Laws::LeftOut {
+            explorer = explorer.without_laws();
+        }
         let tell = |what| format!("history {number}, sizes {sizes}: {what}");
         let mut history = explorer.start(&image, random.plan).map_err(tell)?;
         for _ in 0..random.calls {
@@ -402,12 +415,12 @@ pub fn random_histories<C: Calls>(calls: &C, random: Random) -> Outcome {
         }
         add(&mut total, Counts { histories: 1, ..explorer.counts() });
     }
-    if random.every_law {
-        total.tried.all_tried(&[])?;
+    if random.laws == Laws::Tried {
+        total.tried.all_tried(&[PASSED_OVER])?;
     }
     let Counts { histories, calls, cuts, images, openings, .. } = total;
     let history = format!("{histories} histories, {calls} calls, {cuts} cuts, {images} images");
-    Ok(found(format!("{history}, {openings} finished openings; {}", laws_tried(total)), total))
+    Ok(found(format!("{history}, {openings} finished openings; {}", laws_tried(total.tried)), total))
 }
 
 /// Every call with any contents: images sound and damaged, cards true and

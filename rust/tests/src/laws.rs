@@ -1,12 +1,13 @@
-//! The laws of section 11.5, counted over a history, and refusal 8 by its
-//! conditions (section 10.9).
+//! The laws of section 11.5, counted over a history, refusal 8 by its conditions
+//! (section 10.9), and which spare a write takes (section 3.4).
 //!
 //! A tally is fed each call's arguments, its number and the images before and
 //! after it, of which it reads states and pairs (section 2) by itself. The
 //! explorer feeds one in every history, so the laws are held against whatever
 //! histories are run over. What a write's span is follows from its arguments
 //! alone; writes over several frames are counted, and each of refusal 8's
-//! conditions where no other holds.
+//! conditions where no other holds. A spare that is taken is known by the pair
+//! byte that changed, and is judged by the image before.
 
 use crate::book::{state_of, Deed};
 use crate::calls::*;
@@ -37,8 +38,40 @@ pub struct Tried {
     pub copies: u64,
     /// Writes that heard 9.
     pub nines: u64,
+    /// Writes that took a spare, by what it was.
+    pub taken: Taken,
     /// Writes by their spans.
     pub spans: Spans,
+}
+
+/// How many writes took a new spare of each kind.
+#[derive(Clone, Copy, Default, PartialEq, Eq, Debug)]
+pub struct Taken {
+    /// An unpaired one.
+    pub unpaired: u64,
+    /// One that was paired with another level, in state 1.
+    pub of_levels: u64,
+    /// Such a one, with a lower one whose level was in state 2.
+    pub passing: u64,
+}
+
+impl Taken {
+    pub fn add(&mut self, other: Taken) {
+        self.unpaired += other.unpaired;
+        self.of_levels += other.of_levels;
+        self.passing += other.passing;
+    }
+
+    /// The counts under the names that are printed.
+    pub fn named(self) -> [(&'static str, u64); 3] {
+        let [unpaired, of_levels, passing] = OF_SPARES;
+        [(unpaired, self.unpaired), (of_levels, self.of_levels), (passing, self.passing)]
+    }
+
+    /// Fails if one kind was never tried.
+    pub fn all_tried(self) -> Result<(), String> {
+        none_is_zero(&self.named(), &[])
+    }
 }
 
 /// How many writes there were of each kind of span.
@@ -115,12 +148,13 @@ impl Tried {
         self.empty += other.empty;
         self.copies += other.copies;
         self.nines += other.nines;
+        self.taken.add(other.taken);
         self.spans.add(other.spans);
     }
 
     /// The counts under the names that are printed.
     pub fn named(self) -> Vec<(&'static str, u64)> {
-        let Tried { saves, settled, empty, copies, nines, spans } = self;
+        let Tried { saves, settled, empty, copies, nines, taken, spans } = self;
         let mut named = vec![
             ("served saves", saves),
             ("restored levels settled", settled),
@@ -128,6 +162,7 @@ impl Tried {
             ("copying writes", copies),
             (NINES, nines),
         ];
+        named.extend(taken.named());
         named.extend(spans.named());
         named
     }
@@ -147,6 +182,21 @@ fn none_is_zero(named: &[(&str, u64)], left_out: &[&str]) -> Result<(), String> 
 
 /// With as many spares as levels nobody can hear 9.
 pub const NINES: &str = "refusals 9";
+
+/// With as many spares as levels none is taken from a level, and with one spare
+/// none is passed over.
+pub const OF_SPARES: [&str; 3] = ["unpaired spares taken", FROM_LEVELS, PASSED_OVER];
+const FROM_LEVELS: &str = "spares taken from levels";
+pub const PASSED_OVER: &str = "spares in use passed over";
+
+/// What histories at these sizes cannot try of 9 and of the spares.
+pub fn never_at(sizes: Sizes) -> Vec<&'static str> {
+    match (sizes.levels <= sizes.spares, sizes.spares) {
+        (true, _) => vec![NINES, FROM_LEVELS, PASSED_OVER],
+        (false, 1) => vec![PASSED_OVER],
+        (false, _) => vec![],
+    }
+}
 
 /// Levels of one frame have no long writes, and no offset that leaves its frame
 /// and not its level.
@@ -168,9 +218,51 @@ fn in_state_2(image: &[u8], sizes: Sizes) -> u64 {
 
 /// How many spares are not free (section 3.2).
 fn not_free(image: &[u8], sizes: Sizes) -> u64 {
-    let pairs = &image[PAIRS..][..sizes.spares as usize];
     let taken = |level: &&u8| u64::from(**level) < sizes.levels && state_of(image, **level as usize) == 2;
-    pairs.iter().filter(taken).count() as u64
+    pairs(image, sizes).iter().filter(taken).count() as u64
+}
+
+/// The pair byte of each spare.
+fn pairs(image: &[u8], sizes: Sizes) -> &[u8] {
+    &image[PAIRS..][..sizes.spares as usize]
+}
+
+/// What section 3.4 has against this spare as the new one in a sound image.
+fn against(image: &[u8], sizes: Sizes, spare: usize) -> Option<&'static str> {
+    let pairs = pairs(image, sizes);
+    let unpaired = |pair: &u8| *pair == UNPAIRED;
+    let own = |pair: &u8| !unpaired(pair) && state_of(image, *pair as usize) == 1;
+    let Some(pair) = pairs.get(spare) else { return Some("there is none") };
+    let lower = &pairs[..spare];
+    match () {
+        _ if unpaired(pair) => lower.iter().any(unpaired).then_some("a lower one is unpaired"),
+        _ if !own(pair) => Some("its level is not in state 1"),
+        _ if pairs.iter().any(unpaired) => Some("it is paired and another is not"),
+        _ => lower.iter().any(own).then_some("a lower one has its level in state 1"),
+    }
+}
+
+/// Only a write that needs a new spare changes a pair byte: that of the new
+/// spare alone, to its level. Of the other calls the level is none.
+fn spare_taken(level: Option<u8>, before: &[u8], after: &[u8], sizes: Sizes) -> Result<Taken, String> {
+    let changed: Vec<usize> =
+        (0..LINE).filter(|spare| before[PAIRS + spare] != after[PAIRS + spare]).collect();
+    let spare = match (level, &changed[..]) {
+        (None, []) => return Ok(Taken::default()),
+        (Some(level), [spare]) if after[PAIRS + spare] == level => *spare,
+        _ => return Err(format!("pair bytes of spares {changed:?} change, a spare due for level {level:?}")),
+    };
+    if let Some(what) = against(before, sizes, spare) {
+        return Err(format!("spare {spare} is taken: {what}"));
+    }
+    let was_paired = before[PAIRS + spare] != UNPAIRED;
+    let in_use = |pair: &u8| state_of(before, *pair as usize) == 2;
+    let passing = was_paired && pairs(before, sizes)[..spare].iter().any(in_use);
+    Ok(Taken {
+        unpaired: u64::from(!was_paired),
+        of_levels: u64::from(was_paired),
+        passing: u64::from(passing),
+    })
 }
 
 impl Tally {
@@ -183,14 +275,16 @@ impl Tally {
     /// against what it left.
     pub fn feed(&mut self, deed: &Deed, number: u64, before: &[u8], after: &[u8]) -> Result<Tried, String> {
         let mut tried = Tried::default();
+        let mut taker = None;
         match deed {
             Deed::Write(target, bytes) if JUDGED.contains(&number) => {
-                self.feed_write(*target, bytes.len(), number, before, &mut tried)?
+                taker = self.feed_write(*target, bytes.len(), number, before, &mut tried)?
             }
             Deed::Save if number == 0 => self.feed_save(before, &mut tried),
             Deed::Open(_) if number == 0 => self.touched = 0,
             _ => {}
         }
+        tried.taken = spare_taken(taker, before, after, self.sizes)?;
         let due = self.found + self.copied;
         let (levels, spares) = (in_state_2(after, self.sizes), not_free(after, self.sizes));
         match (levels, spares) == (due, due) {
@@ -205,6 +299,7 @@ impl Tally {
         self.touched >> level & 1 == 1
     }
 
+    /// Gives the level if the write must take a new spare for it.
     fn feed_write(
         &mut self,
         target: Target,
@@ -212,7 +307,7 @@ impl Tally {
         number: u64,
         before: &[u8],
         tried: &mut Tried,
-    ) -> Result<(), String> {
+    ) -> Result<Option<u8>, String> {
         let level = target.level as usize;
         let there = target.level < self.sizes.levels;
         let copies = there && state_of(before, level) == 1 && !self.is_touched(level);
@@ -221,18 +316,24 @@ impl Tally {
             return Err(format!("a write (refusal 8 due: {bad_span}) answers {number}"));
         }
         tried.spans.feed(target, length, self.sizes.frames, number, copies);
+        let is_new = |spare: &usize| against(before, self.sizes, *spare).is_none();
+        if let (9, Some(spare)) = (number, (0..self.sizes.spares as usize).find(is_new)) {
+            return Err(format!("a write answers 9, and spare {spare} is a new one"));
+        }
         let all_taken = self.found + self.copied == self.sizes.spares;
         if (number == 9) != (copies && all_taken && !bad_span) {
             let taken = self.found + self.copied;
             return Err(format!("a write (copying: {copies}) answers {number} with {taken} spares taken"));
         }
         tried.nines += u64::from(number == 9);
-        if number == 0 {
-            self.copied += u64::from(copies);
-            tried.copies += u64::from(copies);
-            self.touched |= 1 << level;
+        if number != 0 {
+            return Ok(None);
         }
-        Ok(())
+        self.copied += u64::from(copies);
+        tried.copies += u64::from(copies);
+        self.touched |= 1 << level;
+        let needs_spare = copies && !pairs(before, self.sizes).contains(&(level as u8));
+        Ok(needs_spare.then_some(level as u8))
     }
 
     fn feed_save(&mut self, before: &[u8], tried: &mut Tried) {

@@ -14,6 +14,7 @@
 //! `crpm` and the reference.
 
 pub mod arbitrary;
+pub mod benches;
 pub mod book;
 pub mod calls;
 pub mod compared;

@@ -30,7 +30,8 @@ pub enum Refusal {
 
 /// The faults of section 18.1, which a reader could mistake for good work, and
 /// worthless programs of section 18.2: three wrong rules for the states that a
-/// save stores (section 11.2) and five for long writes (section 10).
+/// save stores (section 11.2), five for long writes (section 10) and six for the
+/// spare that a write takes (section 3.4).
 #[derive(Clone, Copy, PartialEq, Eq, Debug)]
 pub enum Fault {
     StateBeforeFence,
@@ -55,31 +56,32 @@ pub enum Fault {
     StoresFirstFrameOnly,
     /// All words of every frame that a span meets are stored: program 15.
     StoresWholeFrames,
+    /// The highest new spare is taken: program 16.
+    TakesHighest,
+    /// The same, but only where all spares are paired.
+    TakesHighestPaired,
+    /// A paired spare is taken though one is unpaired: program 17.
+    TakesPairedFirst,
+    /// Where all are paired, the spare of a level in state 2: program 18.
+    TakesSpareInUse,
+    /// Where all are paired, the lowest whatever its level's state: program 19.
+    TakesLowestPaired,
+    /// The highest is taken if a number other than 0 stood on the tape.
+    TakesByTape,
 }
 
-/// Which free spare a write takes; section 10 leaves it open.
-#[derive(Clone, Copy, PartialEq, Eq, Debug)]
-pub enum Choice {
-    LowestUnpairedElseLowest,
-    Highest,
-}
-
+#[derive(Clone, Copy)]
 pub struct Reference {
     pub fault: Option<Fault>,
-    pub choice: Choice,
 }
 
 impl Reference {
     pub const fn good() -> Reference {
-        Reference { fault: None, choice: Choice::LowestUnpairedElseLowest }
+        Reference { fault: None }
     }
 
     pub const fn faulty(fault: Fault) -> Reference {
-        Reference { fault: Some(fault), choice: Choice::LowestUnpairedElseLowest }
-    }
-
-    pub const fn choosing(choice: Choice) -> Reference {
-        Reference { fault: None, choice }
+        Reference { fault: Some(fault) }
     }
 
     fn has(&self, fault: Fault) -> bool {
@@ -162,6 +164,23 @@ impl Board {
 
     fn frames(&self) -> std::ops::Range<usize> {
         0..self.sizes.frames as usize
+    }
+
+    /// The spares that are unpaired, upward.
+    fn unpaired(&self) -> impl DoubleEndedIterator<Item = usize> + '_ {
+        (0..self.owners.len()).filter(|spare| self.owners[*spare].is_none())
+    }
+
+    /// The spares whose level is in this state, upward.
+    fn of_levels_in(&self, state: u8) -> impl DoubleEndedIterator<Item = usize> + '_ {
+        let is = move |level: usize| self.levels[level].state() == state;
+        (0..self.owners.len()).filter(move |spare| self.owners[*spare].is_some_and(is))
+    }
+
+    /// The new spare: the lowest that is unpaired; if all are paired, the lowest
+    /// whose level is in state 1.
+    fn new_spare(&self) -> Option<usize> {
+        self.unpaired().next().or_else(|| self.of_levels_in(1).next())
     }
 
     /// Where a frame's saved bytes stand; nowhere in an empty level.
@@ -346,7 +365,7 @@ impl Reference {
         );
     }
 
-    /// Pairs the level with a free spare and copies all its frames there.
+    /// Pairs the level with the new spare and copies all its frames there.
     fn take_spare(
         &self,
         orders: &mut Vec<Order>,
@@ -354,7 +373,7 @@ impl Reference {
         image: &[u8],
         level: usize,
     ) -> Result<(), Refusal> {
-        let spare = self.free_spare(board, image).ok_or(Refusal::Spares)?;
+        let spare = self.spare_to_take(board, image).ok_or(Refusal::Spares)?;
         orders.push(store_byte(image, PAIRS + spare, level as u8));
         orders.push(Order::Flush { place: PAIRS });
         for f in board.frames() {
@@ -363,21 +382,29 @@ impl Reference {
         Ok(())
     }
 
-    fn free_spare(&self, board: &Board, image: &[u8]) -> Option<usize> {
-        let in_use = |level: usize| {
-            if self.has(Fault::FreeByIdleLine) {
-                image[idle_line(board.epoch) + level] == 2
-            } else {
-                matches!(board.levels[level], Level::InSpare { .. })
-            }
-        };
-        let free = |spare: &usize| board.owners[*spare].is_none_or(|level| !in_use(level));
-        let mut spares = 0..board.owners.len();
-        match self.choice {
-            Choice::LowestUnpairedElseLowest => {
-                spares.clone().find(|spare| board.owners[*spare].is_none()).or_else(|| spares.find(free))
-            }
-            Choice::Highest => spares.rev().find(free),
+    /// The new spare, or what a fault takes for it.
+    fn spare_to_take(&self, board: &Board, image: &[u8]) -> Option<usize> {
+        let lowest_unpaired = board.unpaired().next();
+        let highest_of_levels = || board.of_levels_in(1).next_back();
+        match self.fault {
+            Some(Fault::FreeByIdleLine) => lowest_unpaired.or_else(|| {
+                let in_use = |level| image[idle_line(board.epoch) + level] == 2;
+                board.owners.iter().position(|owner| !owner.is_some_and(in_use))
+            }),
+            Some(Fault::TakesHighest) => board.unpaired().next_back().or_else(highest_of_levels),
+            Some(Fault::TakesHighestPaired) => lowest_unpaired.or_else(highest_of_levels),
+            Some(Fault::TakesPairedFirst) => board.of_levels_in(1).next().or(lowest_unpaired),
+            Some(Fault::TakesSpareInUse) => lowest_unpaired.or_else(|| board.of_levels_in(2).next()),
+            Some(Fault::TakesLowestPaired) => lowest_unpaired.or(Some(0)),
+            _ => board.new_spare(),
+        }
+    }
+
+    /// What a fault makes of the reference where these numbers stood on the tape.
+    fn with_tape(&self, tape: &[u64]) -> Reference {
+        match self.has(Fault::TakesByTape) && tape.iter().any(|number| *number != 0) {
+            true => Reference::faulty(Fault::TakesHighest),
+            false => *self,
         }
     }
 
@@ -502,7 +529,8 @@ impl Calls for Reference {
     }
 
     fn write(&self, image: &[u8], card: &mut Card, target: Target, bytes: &[u8], tape: &mut [u64]) -> Answer {
-        let answer = self.writing(image, card, target, bytes).and_then(|(orders, next)| {
+        let writing = self.with_tape(tape).writing(image, card, target, bytes);
+        let answer = writing.and_then(|(orders, next)| {
             let answer = put_on(tape, &orders)?;
             *card = next;
             Ok(answer)

@@ -12,7 +12,7 @@ use crate::book::{Call, Deed};
 use crate::calls::*;
 use crate::explore::*;
 use crate::groups::{all_found, cut_line, due, laid_out, plain, states};
-use crate::laws::OF_SPANS;
+use crate::laws::{never_at, OF_SPANS};
 use crate::report::{Found, Outcome};
 use std::collections::BTreeMap;
 
@@ -160,11 +160,32 @@ impl<C: Calls> Story<'_, C> {
 
 /// The group at these sizes, which have two levels more than spares.
 pub fn restored_levels<C: Calls>(calls: &C, sizes: Sizes) -> Outcome {
+    let (restarts, counts) = all_restarts(calls, sizes, Explorer::new(calls, sizes, 6))?;
+    counts.tried.all_tried(&[never_at(sizes), OF_SPANS.to_vec()].concat())?;
+    Ok(told(restarts, counts))
+}
+
+/// The same with demand 3 and the book alone, for faults that keep them.
+pub fn restored_levels_without_laws<C: Calls>(calls: &C, sizes: Sizes) -> Outcome {
+    let (restarts, counts) = all_restarts(calls, sizes, Explorer::new(calls, sizes, 6).without_laws())?;
+    Ok(told(restarts, counts))
+}
+
+fn told(restarts: String, counts: Counts) -> Found {
+    let Found { text, counts } = all_found(counts);
+    Found { text: format!("{restarts}; {text}"), counts }
+}
+
+/// What was gone through, in words and in counts.
+fn all_restarts<C: Calls>(
+    calls: &C,
+    sizes: Sizes,
+    mut explorer: Explorer<C>,
+) -> Result<(String, Counts), String> {
     let (_, empty) = own_and_empty(sizes);
     due("levels", sizes.levels, empty + 1)?;
     let betweens = [Some(empty), None, Some(0)];
     betweens.iter().try_for_each(|between| by_numbers(calls, sizes, *between))?;
-    let mut explorer = Explorer::new(calls, sizes, 6);
     let start = explorer.start(&laid_out(calls, sizes)?, Plan::ALL)?;
     let first = restarts(&mut explorer, start, &before_restart(sizes))?;
     let mut story = Story { explorer, sizes, histories: 1, cut_lines: 0 };
@@ -182,8 +203,6 @@ pub fn restored_levels<C: Calls>(calls: &C, sizes: Sizes) -> Outcome {
         again += second.len();
     }
     let counts = Counts { histories: story.histories, ..story.explorer.counts() };
-    counts.tried.all_tried(&OF_SPANS)?;
-    let Found { text, counts } = all_found(counts);
     let restarts = format!("{} restarts that differ and {again} after the first save", first.len());
-    Ok(Found { text: format!("{restarts}, {} cut lines of saves; {text}", story.cut_lines), counts })
+    Ok((format!("{restarts}, {} cut lines of saves", story.cut_lines), counts))
 }

@@ -2,7 +2,10 @@
 //!
 //! Written from section 16. Checked against the corner sheets (`corners`),
 //! whose outputs are written by hand; the sheet program is checked against it.
+//! `benches` runs sheets over any implementation of the calls.
 
+use crate::benches::{Bench, Ran, Rubbish};
+use crate::book::{Call, Deed};
 use crate::calls::*;
 use crate::reference::Reference;
 
@@ -25,8 +28,19 @@ struct Group {
 
 /// The whole standard output for this standard input.
 pub fn printed(input: &[u8]) -> Vec<u8> {
+    printed_on(&Reference::good(), Rubbish::Zeros, input, |_, _, _| ())
+}
+
+/// The same on a bench of these calls, whose memory held rubbish. Each call is
+/// shown with the number of its group, 0 for the opening.
+pub fn printed_on<C: Calls>(
+    calls: &C,
+    rubbish: Rubbish,
+    input: &[u8],
+    show: impl FnMut(usize, &Call, &Ran),
+) -> Vec<u8> {
     match Sheet::read(input) {
-        Ok(sheet) => sheet.run().into_bytes(),
+        Ok(sheet) => sheet.run(Bench::laid_out(calls, sheet.sizes, rubbish), show).into_bytes(),
         Err(line) => format!("sheet={line}\n").into_bytes(),
     }
 }
@@ -110,30 +124,25 @@ impl Sheet {
         Ok(Sheet { sizes: Sizes::new(levels, spares, frames), groups })
     }
 
-    fn run(&self) -> String {
-        let calls = Reference::good();
-        let mut bench = Bench {
-            image: vec![0; self.sizes.image_length()],
-            card: Card::zeros(),
-            tape: vec![0; self.sizes.room()],
+    fn run<C: Calls>(&self, mut bench: Bench<C>, mut show: impl FnMut(usize, &Call, &Ran)) -> String {
+        let mut run = |group: usize, deed: Deed| {
+            let call = Call { deed, tape: self.sizes.room() };
+            let ran = bench.run(&call);
+            show(group, &call, &ran);
+            ran
         };
-        calls.lay_out(&mut bench.image, self.sizes);
-        let opened = calls.open(&bench.image, self.sizes, &mut bench.card, &mut bench.tape);
-        bench.play(opened);
+        let Ran { answer: opened, .. } = run(0, Deed::Open(self.sizes));
         let mut text = format!("open={} orders={}\n", opened.number, opened.orders);
-        for (i, group) in self.groups.iter().enumerate() {
-            let (target, bytes) = (group.target, &group.bytes);
-            let written = calls.write(&bench.image, &mut bench.card, target, bytes, &mut bench.tape);
-            bench.play(written);
-            text += &format!("step={} write={} orders={} ", i + 1, written.number, written.orders);
+        for (i, group) in (1..).zip(&self.groups) {
+            let mut ran = run(i, Deed::Write(group.target, group.bytes.clone()));
+            text += &format!("step={i} write={} orders={} ", ran.answer.number, ran.answer.orders);
             if group.save {
-                let saved = calls.save(&bench.image, &mut bench.card, &mut bench.tape);
-                bench.play(saved);
-                text += &format!("save={} orders={}", saved.number, saved.orders);
+                ran = run(i, Deed::Save);
+                text += &format!("save={} orders={}", ran.answer.number, ran.answer.orders);
             } else {
                 text += "save=- orders=0";
             }
-            text += &format!(" epoch={}\n", word_at(&bench.image, EPOCH));
+            text += &format!(" epoch={}\n", word_at(&ran.dump, EPOCH));
         }
         text
     }
@@ -147,18 +156,5 @@ impl Group {
         let bytes = lines.read("bytes", hexadecimal)?;
         let save = lines.read("save", flag)?;
         Ok(Group { target: Target { level, frame, offset }, bytes, save })
-    }
-}
-
-struct Bench {
-    image: Vec<u8>,
-    card: Card,
-    tape: Vec<u64>,
-}
-
-impl Bench {
-    fn play(&mut self, answer: Answer) {
-        let part = &self.tape[..3 * answer.orders as usize];
-        Reference::good().play(&mut self.image, part, answer.orders);
     }
 }

@@ -1,9 +1,9 @@
-//! The tally of section 11.5's laws over single calls, each law broken by hand.
+//! The tally of the laws over single calls, each law broken by hand.
 
 use crpm_tests::arbitrary::{distinct_data, image_of, Metadata};
 use crpm_tests::book::Deed;
 use crpm_tests::calls::*;
-use crpm_tests::laws::{conditions_of_8, Spans, Tally, Tried, NINES, OF_SPANS};
+use crpm_tests::laws::{conditions_of_8, Spans, Taken, Tally, Tried, NINES, OF_SPANS, OF_SPARES};
 
 const SIZES: Sizes = Sizes::new(3, 2, 1);
 
@@ -89,9 +89,86 @@ fn from_save_to_save() {
     for (deed, number, before, after) in calls {
         total.add(tally.feed(&deed, number, before, after).expect("the laws hold"));
     }
-    let Tried { saves, settled, empty, copies, nines, spans } = total;
+    let Tried { saves, settled, empty, copies, nines, taken, spans } = total;
     assert_eq!((saves, settled, empty, copies, nines), (1, 2, 0, 2, 2));
+    assert_eq!(taken, Taken { unpaired: 1, ..Taken::default() });
     assert_eq!(spans, Spans::default());
+}
+
+/// A write to the last level, in state 1 and without a spare, from these states
+/// of the others and these pairs: what was taken, or what was said.
+fn taking(states: [u8; 2], before: [u8; 2], after: [u8; 2]) -> Result<Taken, String> {
+    let [first, second] = states;
+    let (before, after) = (image([first, second, 1], before), image([first, second, 2], after));
+    one(&write_to(2), 0, &before, &after).map(|tried| tried.taken)
+}
+
+const NONE: Taken = Taken { unpaired: 0, of_levels: 0, passing: 0 };
+
+/// The lowest unpaired spare; if all are paired, the lowest whose level is in
+/// state 1; its pair byte and no other changes.
+#[test]
+fn the_new_spare_is_taken() {
+    let unpaired = Ok(Taken { unpaired: 1, ..NONE });
+    let of_level = Ok(Taken { of_levels: 1, ..NONE });
+    assert_eq!(taking([1, 1], [UNPAIRED; 2], [2, UNPAIRED]), unpaired);
+    assert_eq!(taking([1, 1], [0, UNPAIRED], [0, 2]), unpaired);
+    assert_eq!(taking([2, 1], [0, UNPAIRED], [0, 2]), unpaired);
+    assert_eq!(taking([1, 1], [UNPAIRED, 0], [2, 0]), unpaired);
+    assert_eq!(taking([1, 1], [0, 1], [2, 1]), of_level);
+    assert_eq!(taking([1, 2], [0, 1], [2, 1]), of_level);
+    assert_eq!(taking([2, 1], [0, 1], [0, 2]), Ok(Taken { of_levels: 1, passing: 1, ..NONE }));
+}
+
+#[test]
+fn no_other_spare_is_taken() {
+    let said = |what: &str| Err(what.to_string());
+    let lower_unpaired = said("spare 1 is taken: a lower one is unpaired");
+    assert_eq!(taking([1, 1], [UNPAIRED; 2], [UNPAIRED, 2]), lower_unpaired);
+    let other_unpaired = said("spare 0 is taken: it is paired and another is not");
+    assert_eq!(taking([1, 1], [0, UNPAIRED], [2, UNPAIRED]), other_unpaired);
+    let lower = said("spare 1 is taken: a lower one has its level in state 1");
+    assert_eq!(taking([1, 1], [0, 1], [0, 2]), lower);
+    assert_eq!(taking([2, 1], [0, 1], [2, 1]), said("spare 0 is taken: its level is not in state 1"));
+    assert_eq!(
+        taking([2, 1], [0, UNPAIRED], [2, UNPAIRED]),
+        said("spare 0 is taken: its level is not in state 1")
+    );
+    let two = said("pair bytes of spares [0, 1] change, a spare due for level Some(2)");
+    assert_eq!(taking([1, 1], [0, 1], [2, UNPAIRED]), two);
+    let none = said("pair bytes of spares [] change, a spare due for level Some(2)");
+    assert_eq!(taking([1, 1], [0, 1], [0, 1]), none);
+    assert!(taking([1, 1], [0, 1], [1, 1]).is_err());
+    let (mut before, mut after) = (image([1, 1, 1], [0, 1]), image([1, 1, 2], [0, 1]));
+    after[PAIRS + 2] = 2;
+    let none = "spare 2 is taken: there is none".to_string();
+    assert_eq!(one(&write_to(2), 0, &before, &after).err(), Some(none));
+    before = image([1, 1, 1], [2, 1]);
+    after = image([1, 1, 2], [2, 2]);
+    let own = "pair bytes of spares [1] change, a spare due for level None".to_string();
+    assert_eq!(one(&write_to(2), 0, &before, &after).err(), Some(own));
+}
+
+/// No pair byte changes in any other call.
+#[test]
+fn other_calls_take_no_spare() {
+    let (before, after) = (image([1, 1, 1], [0, UNPAIRED]), image([1, 1, 1], [0, 2]));
+    let said = "pair bytes of spares [1] change, a spare due for level None".to_string();
+    for (deed, number) in [(Deed::Save, 0), (Deed::Open(SIZES), 0), (write_to(2), 11), (write_to(3), 6)] {
+        assert_eq!(one(&deed, number, &before, &after).err(), Some(said.clone()));
+    }
+}
+
+/// 9 only where no spare is a new one.
+#[test]
+fn no_nine_beside_a_new_spare() {
+    for (states, pairs, spare) in
+        [([2, 1, 1], [0, 1], 1), ([1, 1, 1], [0, 1], 0), ([2, 1, 1], [0, UNPAIRED], 1)]
+    {
+        let image = image(states, pairs);
+        let said = format!("a write answers 9, and spare {spare} is a new one");
+        assert_eq!(one(&write_to(2), 9, &image, &image).err(), Some(said));
+    }
 }
 
 const FRAMES: Sizes = Sizes::new(1, 1, 3);
@@ -143,12 +220,19 @@ fn eight_exactly_where_due() {
 #[test]
 fn untried_laws_fail() {
     let spans = Spans { long: 1, long_copies: 1, eights: [1; 3] };
-    let tried = Tried { saves: 1, settled: 1, empty: 1, copies: 1, nines: 1, spans };
+    let taken = Taken { unpaired: 1, of_levels: 1, passing: 1 };
+    let tried = Tried { saves: 1, settled: 1, empty: 1, copies: 1, nines: 1, taken, spans };
     assert!(tried.all_tried(&[]).is_ok());
     assert!(Tried { nines: 0, ..tried }.all_tried(&[NINES]).is_ok());
     assert!(Tried { spans: Spans::default(), ..tried }.all_tried(&OF_SPANS).is_ok());
     for untried in [Tried { nines: 0, ..tried }, Tried { settled: 0, ..tried }, Tried { saves: 0, ..tried }] {
         assert!(untried.all_tried(&[]).is_err());
+    }
+    assert!(Tried { taken: Taken::default(), ..tried }.all_tried(&OF_SPARES).is_ok());
+    for taken in
+        [Taken { unpaired: 0, ..taken }, Taken { of_levels: 0, ..taken }, Taken { passing: 0, ..taken }]
+    {
+        assert!(Tried { taken, ..tried }.all_tried(&[NINES]).is_err());
     }
     for spans in [
         Spans { long: 0, ..spans },

@@ -4,22 +4,22 @@
 //! Compared byte for byte: each call with any contents; random histories step
 //! by step, cut at every order and opened again through the library's own
 //! calls; every permitted image of single calls, of short histories and of the
-//! first save after a restart; the story of long writes at every cut. In every
-//! history the laws of sections 11.5 and 10.9 are counted. Then the library's
-//! answers are spoiled one at a time, and each group must notice. Seeds are
-//! fixed.
+//! first save after a restart; the story of long writes at every cut; sheets and
+//! random histories on two benches. In every history the laws of sections 11.5,
+//! 10.9 and 3.4 are counted. Then the library's answers are spoiled one at a
+//! time, and each group must notice. Seeds are fixed.
 
-use crpm_tests::arbitrary;
 use crpm_tests::calls::*;
 use crpm_tests::compared::Compared;
 use crpm_tests::corrupted::{CallKind, Corrupted, Spoil};
 use crpm_tests::explore::{Images, Plan, LEGEND};
-use crpm_tests::groups::{self, Random};
+use crpm_tests::groups::{self, Laws, Random};
 use crpm_tests::library::{Library, Wrapped};
 use crpm_tests::long::{after_cuts, long_writes, longest_writes};
 use crpm_tests::reference::Reference;
 use crpm_tests::report::{arguments, Found, Outcome, Suite};
 use crpm_tests::restart::restored_levels;
+use crpm_tests::{arbitrary, benches};
 use std::process::ExitCode;
 
 const USAGE: &str = "usage: differential [--quick]
@@ -67,10 +67,12 @@ fn all(suite: &mut Suite) {
     suite.add("long writes at 1,1,4", || compared(&Library, |both| long_writes(both, FEW_IMAGES)));
     suite.add("long writes after cuts", || compared(&Library, |both| after_cuts(both)));
     suite.add("longest writes", || compared(&Library, |both| longest_writes(both)));
+    suite.add("two benches, one sheet", || compared(&Library, |both| benches::one_sheet(both)));
+    suite.add("two benches, random histories", || two_benches(1000));
     suite.add("random histories, sizes 1 to 3", || histories(random(41, 1200, 12, 3, EVERY_CUT)));
     suite.add("random histories, sizes 1 to 9", || histories(random(42, 150, 40, 9, SOME_CUTS)));
     suite.add("random histories, sizes 1 to 64", || {
-        histories(Random { every_law: false, ..random(43, 5, 16, 64, SOME_CUTS) })
+        histories(Random { laws: Laws::Held, ..random(43, 5, 16, 64, SOME_CUTS) })
     });
     suite.add("single calls at 1,1,1", || compared(&Library, |both| groups::single_calls(both)));
     suite.add("histories up to 5 at 1,1,1", || short(SMALL, 5));
@@ -89,6 +91,8 @@ fn quick(suite: &mut Suite) {
     suite.add("bench cases", || compared(&Library, |both| groups::bench_cases(both)));
     suite.add("restored levels at 6,4,1", || restored(STORY));
     suite.add("long writes at 1,1,4", || compared(&Library, |both| long_writes(both, FEW_IMAGES)));
+    suite.add("two benches, one sheet", || compared(&Library, |both| benches::one_sheet(both)));
+    suite.add("two benches, random histories", || two_benches(200));
     suite.add("random histories, sizes 1 to 3", || histories(random(41, 40, 12, 3, EVERY_CUT)));
     suite.add("histories up to 3 at 2,1,1", || short(TWO, 3));
     suite.add("histories up to 3 at 1,1,2", || short(SMALL_OF_FRAMES, 3));
@@ -141,9 +145,13 @@ fn restored(sizes: Sizes) -> Outcome {
     compared(&Library, |both| restored_levels(both, sizes))
 }
 
+fn two_benches(histories: u64) -> Outcome {
+    compared(&Library, |both| benches::random_histories(both, 45, histories))
+}
+
 /// Random histories that must try each law.
 const fn random(seed: u64, histories: usize, calls: usize, most: usize, plan: Plan) -> Random {
-    Random { seed, histories, calls, most, plan, every_law: true }
+    Random { seed, histories, calls, most, plan, laws: Laws::Tried }
 }
 
 fn histories(random: Random) -> Outcome {
@@ -179,14 +187,15 @@ fn spoiled_contents() -> Outcome {
 /// One spoiled answer in a history, by the group that runs it.
 fn spoiled_histories() -> Outcome {
     let plan = Plan { images: Images::Some { samples: 1 }, every_cut_up_to: 20 };
-    let random = Random { every_law: false, ..random(44, 8, 8, 2, plan) };
+    let random = Random { laws: Laws::Held, ..random(44, 8, 8, 2, plan) };
     let (all, few) = (Spoil::all(), [Spoil::Number(CallKind::Write), Spoil::PlayedImage, Spoil::ReadStart]);
-    let runs: [(&str, &[Spoil], SpoiledRun); 8] = [
+    let runs: [(&str, &[Spoil], SpoiledRun); 9] = [
         ("bench cases", &all, &|both| groups::bench_cases(both)),
         ("waiting lines", &all, &|both| groups::waiting_lines(both)),
         ("restored levels", &all, &|both| restored_levels(both, SHORT_STORY)),
         ("long writes", &all, &|both| long_writes(both, SOME_OF_SAVES)),
         ("long writes after cuts", &few, &|both| after_cuts(both)),
+        ("two benches", &all, &|both| benches::one_sheet(both)),
         ("random histories", &all, &|both| groups::random_histories(both, random)),
         ("single calls", &few, &|both| groups::single_calls(both)),
         ("short histories", &all, &|both| groups::short_histories(both, SMALL, 2)),

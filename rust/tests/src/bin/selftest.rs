@@ -3,20 +3,21 @@
 //! Checked against the specification: the bench cases, the cut model, demand 3
 //! over every permitted image of single calls, of short histories and of the
 //! first save after a restart, over the story of long writes and over random
-//! histories, for another choice of free spares too, with the laws of sections
-//! 11.5 and 10.9 counted in all of them; each fault must be caught by what it
-//! breaks; the corner sheets print as they should.
+//! histories, with the laws of sections 11.5, 10.9 and 3.4 counted in all of
+//! them; sheets and random histories on two benches; each fault must be caught
+//! by what it breaks, and those that keep demand 3 must keep it; the corner
+//! sheets print as they should.
 
 use crpm_tests::calls::Sizes;
 use crpm_tests::compared::Compared;
 use crpm_tests::explore::{Images, Plan, LEGEND};
 use crpm_tests::fast::Fast;
-use crpm_tests::groups::{self, Random};
+use crpm_tests::groups::{self, Laws, Random};
 use crpm_tests::long::{after_cuts, long_writes, longest_writes};
-use crpm_tests::reference::{Choice, Fault, Reference};
+use crpm_tests::reference::{Fault, Reference};
 use crpm_tests::report::{arguments, Found, Outcome, Suite};
-use crpm_tests::restart::restored_levels;
-use crpm_tests::{arbitrary, corners, sheet};
+use crpm_tests::restart::{restored_levels, restored_levels_without_laws};
+use crpm_tests::{arbitrary, benches, corners, sheet};
 use std::process::ExitCode;
 
 const USAGE: &str = "usage: selftest
@@ -26,6 +27,7 @@ A line for each group, totals at the end. Status: 0 passed, 1 failed, 2 wrong ar
 const SMALL: Sizes = Sizes::new(1, 1, 1);
 const TWO: Sizes = Sizes::new(2, 1, 1);
 const FOUR: Sizes = Sizes::new(2, 2, 1);
+const FIVE: Sizes = Sizes::new(3, 2, 1);
 const SMALL_OF_FRAMES: Sizes = Sizes::new(1, 1, 2);
 const TWO_OF_FRAMES: Sizes = Sizes::new(2, 1, 2);
 const STORY: Sizes = Sizes::new(6, 4, 1);
@@ -37,7 +39,6 @@ fn main() -> ExitCode {
     }
     println!("{LEGEND}");
     let good = Reference::good();
-    let other = Reference::choosing(Choice::Highest);
     let mut suite = Suite::default();
     suite.add("cut model", || groups::crash_model(4000));
     suite.add("bench cases", || groups::bench_cases(&good));
@@ -46,17 +47,16 @@ fn main() -> ExitCode {
     suite.add("histories up to 5 at 1,1,1", || groups::short_histories(&good, SMALL, 5));
     suite.add("histories up to 4 at 2,1,1", || groups::short_histories(&good, TWO, 4));
     suite.add("histories up to 2 at 2,2,1", || groups::short_histories(&good, FOUR, 2));
-    suite.add("other spares, histories up to 2 at 2,2,1", || groups::short_histories(&other, FOUR, 2));
     suite.add("histories up to 4 at 1,1,2", || groups::short_histories(&good, SMALL_OF_FRAMES, 4));
     suite.add("histories up to 3 at 2,1,2", || groups::short_histories(&good, TWO_OF_FRAMES, 3));
     suite.add("long writes at 1,1,4", || long_writes(&good, EVERY_CUT));
     suite.add("long writes after cuts", || after_cuts(&good));
     suite.add("longest writes", || longest_writes(&good));
     suite.add("random histories", || groups::random_histories(&good, random(21, 40)));
-    suite.add("other spares, random histories", || groups::random_histories(&other, random(22, 20)));
     suite.add("restored levels at 6,4,1", || restored_levels(&good, STORY));
     suite.add("restored levels at 4,2,2", || restored_levels(&good, STORY_OF_FRAMES));
-    suite.add("other spares, restored levels at 6,4,1", || restored_levels(&other, STORY));
+    suite.add("two benches, one sheet", || benches::one_sheet(&good));
+    suite.add("two benches, random histories", || benches::random_histories(&good, 45, 200));
     for (fault, sizes, breaks) in FAULTS {
         suite.add(format!("fault {fault:?}"), move || caught(fault, sizes, breaks));
     }
@@ -68,6 +68,18 @@ fn main() -> ExitCode {
         let story = move || long_writes(&Reference::faulty(fault), EVERY_CUT);
         suite.add(format!("fault {fault:?} in long writes"), move || heard(story(), breaks));
     }
+    for (fault, breaks, on_sheets) in FAULTS_OF_SPARE {
+        suite.add(format!("fault {fault:?} keeps demand 3"), move || keeps_demand_3(fault));
+        let faulty = Reference::faulty(fault);
+        let laws = move || {
+            groups::short_histories(&faulty, FOUR, 1)?;
+            restored_levels(&faulty, STORY_OF_FRAMES)
+        };
+        suite.add(format!("fault {fault:?} by the laws"), move || heard(laws(), breaks));
+        let sheets = move || benches::one_sheet(&faulty);
+        suite.add(format!("fault {fault:?} on the sheets"), move || heard(sheets(), on_sheets));
+    }
+    suite.add("fault TakesByTape on two benches", || heard(by_tape(), "two benches have different orders"));
     suite.add("faults of writes among any contents", || differ(&good));
     suite.add("forms of the benchmark", || forms_agree(&good));
     suite.add("corner sheets", corner_sheets);
@@ -80,11 +92,13 @@ const FRAMES: &[Sizes] = &[SMALL_OF_FRAMES];
 /// Each fault that the explorer shows, the sizes of the histories, and what
 /// must be said of it. A save that keeps restored levels and a write that takes
 /// offset 256 break neither demand 3 nor the book, and only the laws show them.
-const FAULTS: [(Fault, &[Sizes], &str); 11] = [
+const FAULTS: [(Fault, &[Sizes], &str); 13] = [
     (Fault::StateBeforeFence, ONE_FRAME, "opening again answers 4"),
     (Fault::MarksClearedAtSave, ONE_FRAME, "opening again shows a page that is not permitted"),
     (Fault::OpeningSkipsLevelToSpare, ONE_FRAME, "opening again shows a page that is not permitted"),
     (Fault::FreeByIdleLine, ONE_FRAME, "opening again answers 4"),
+    (Fault::TakesSpareInUse, ONE_FRAME, "opening again answers 4"),
+    (Fault::TakesLowestPaired, ONE_FRAME, "opening again answers 4"),
     (Fault::SaveKeepsRestored, ONE_FRAME, "save: levels in state 2: 1, spares not free: 1, due 0 of each"),
     (Fault::SaveSetsEmpty, ONE_FRAME, "opening again shows other levels empty than those never set"),
     (Fault::SaveTurnsOwnToSpare, ONE_FRAME, "opening again answers 4"),
@@ -111,11 +125,33 @@ const FAULTS_OF_WRITE: [(Fault, &str); 6] = [
     (Fault::StoresWholeFrames, "L2 orders: 96, due 89"),
 ];
 
+/// The faults of the new spare that keep demand 3: what the law of section 3.4
+/// says of each, and where it leaves what is written of the sheets. The first
+/// prints what the reference prints, from every laid-out image: it is the
+/// reference with the spares counted downward.
+const FAULTS_OF_SPARE: [(Fault, &str, &str); 3] = [
+    (
+        Fault::TakesHighest,
+        "spare 1 is taken: a lower one is unpaired",
+        "the sheet of 17.6, pairs after group 4: [255, 1], due [1, 255]",
+    ),
+    (
+        Fault::TakesHighestPaired,
+        "spare 1 is taken: a lower one has its level in state 1",
+        "the sheet of 17.6: \"step=7 write=0 orders=41 save=- orders=0 epoch=2\", due \"step=7 write=0 orders=43 save=- orders=0 epoch=2\"",
+    ),
+    (
+        Fault::TakesPairedFirst,
+        "spare 0 is taken: it is paired and another is not",
+        "the sheet of an unpaired spare: \"step=5 write=0 orders=43 save=- orders=0 epoch=3\", due \"step=5 write=0 orders=41 save=- orders=0 epoch=3\"",
+    ),
+];
+
 const EVERY_CUT: Plan = Plan { images: Images::Few { cap: 256, samples: 32 }, every_cut_up_to: usize::MAX };
 
 fn random(seed: u64, histories: usize) -> Random {
     let plan = Plan { images: Images::Some { samples: 2 }, every_cut_up_to: 300 };
-    Random { seed, histories, calls: 12, most: 3, plan, every_law: true }
+    Random { seed, histories, calls: 12, most: 3, plan, laws: Laws::Tried }
 }
 
 /// The explorer must find what the fault breaks, by demand 3 and the book
@@ -134,6 +170,26 @@ fn caught(fault: Fault, sizes: &[Sizes], breaks: &str) -> Outcome {
     Err("not caught".to_string())
 }
 
+/// The explorer finds nothing by demand 3 and the book.
+fn keeps_demand_3(fault: Fault) -> Outcome {
+    let faulty = Reference::faulty(fault);
+    let random = Random { laws: Laws::LeftOut, ..random(22, 20) };
+    let runs = [
+        groups::short_histories_without_laws(&faulty, FOUR, 2)?,
+        groups::random_histories(&faulty, random)?,
+        restored_levels_without_laws(&faulty, STORY)?,
+        restored_levels_without_laws(&faulty, STORY_OF_FRAMES)?,
+    ];
+    let counts: Vec<(&str, u64)> = runs.into_iter().flat_map(|found| found.counts).collect();
+    let sum = |what| counts.iter().filter(|(name, _)| *name == what).map(|(_, count)| count).sum::<u64>();
+    Ok(Found { text: format!("{} histories, {} images", sum("histories"), sum("images")), counts })
+}
+
+/// What two benches do if the spare depends on what stood on the tape.
+fn by_tape() -> Outcome {
+    benches::random_histories(&Reference::faulty(Fault::TakesByTape), 45, 200)
+}
+
 /// The numbers and the reads of a story must show the fault.
 fn heard(story: Outcome, breaks: &str) -> Outcome {
     match story {
@@ -142,14 +198,20 @@ fn heard(story: Outcome, breaks: &str) -> Outcome {
     }
 }
 
-/// Among calls with any contents each fault of long writes answers or leaves
-/// something else than the reference.
+/// Among calls with any contents each fault of long writes and of the new spare
+/// answers or leaves something else than the reference.
 fn differ(good: &Reference) -> Outcome {
     let mut differences = Vec::new();
-    for (fault, _) in FAULTS_OF_WRITE {
-        let faulty = Reference::faulty(fault);
+    let of_writes = FAULTS_OF_WRITE.map(|(fault, _)| fault);
+    let of_spares = FAULTS_OF_SPARE.map(|(fault, ..)| fault);
+    let in_use = [Fault::TakesSpareInUse, Fault::TakesLowestPaired];
+    for fault in of_writes.iter().chain(&of_spares).chain(&in_use) {
+        let faulty = Reference::faulty(*fault);
         let both = Compared::new(good, &faulty);
-        groups::any_contents(&both, 33, 200, |rng| arbitrary::sizes(rng, 3));
+        match of_writes.contains(fault) {
+            true => groups::any_contents(&both, 33, 200, |rng| arbitrary::sizes(rng, 3)),
+            false => groups::any_contents(&both, 33, 200, |_| FIVE),
+        }
         if both.differences() == 0 {
             return Err(format!("{fault:?} is not noticed"));
         }

@@ -3,7 +3,11 @@
 //!
 //! Seeds are fixed.
 
+use crpm_tests::benches::Rubbish;
+use crpm_tests::book::Deed;
+use crpm_tests::laws::{Tally, Tried};
 use crpm_tests::prng::Rng;
+use crpm_tests::reference::Reference;
 use crpm_tests::report::{arguments, Found, Outcome, Suite, NOT_RUN};
 use crpm_tests::{corners, corners::Corner, sheet};
 use std::io::{self, Write};
@@ -51,10 +55,11 @@ fn corner_sheets(program: &Path) -> Outcome {
 fn random_sheets(program: &Path) -> Outcome {
     let start = Instant::now();
     let mut rng = Rng::new(61);
-    let (mut good, mut bad, mut long) = (0, 0, 0);
+    let (mut good, mut bad, mut long, mut tried) = (0, 0, 0, Tried::default());
     for number in 0..RANDOM_SHEETS {
         let input = random_sheet(&mut rng);
-        let due = sheet::printed(&input);
+        let (due, laws) = printed_by_laws(&input)?;
+        tried.add(laws);
         let pieces = if number < IN_PIECES { rng.range(2, 4) } else { 1 };
         check(program, &input, &due, pieces)?;
         match due.starts_with(b"sheet=") {
@@ -71,8 +76,32 @@ fn random_sheets(program: &Path) -> Outcome {
     if long == 0 {
         return Err("no good sheet has bytes for more than a frame".to_string());
     }
+    tried.taken.all_tried()?;
+    if tried.nines == 0 {
+        return Err("no write hears 9".to_string());
+    }
     let text = format!("{good} good, {long} of them with bytes for more than a frame, {bad} bad");
+    let spares = tried.taken.named().map(|(name, count)| format!("{count} {name}")).join(", ");
+    let text = format!("{text}; {spares}, {} refusals 9", tried.nines);
     Ok(Found::new(text, &[("sheets compared", good + bad)]))
+}
+
+/// What a sheet prints, and what it tries of the laws, which must hold.
+fn printed_by_laws(input: &[u8]) -> Result<(Vec<u8>, Tried), String> {
+    let (mut tally, mut all) = (None, Ok(Tried::default()));
+    let due = sheet::printed_on(&Reference::good(), Rubbish::Zeros, input, |_, call, ran| {
+        match (&call.deed, &mut tally, &mut all) {
+            (Deed::Open(sizes), _, _) => tally = Some(Tally::start(&ran.before, *sizes)),
+            (deed, Some(tally), Ok(tried)) => {
+                match tally.feed(deed, ran.answer.number, &ran.before, &ran.dump) {
+                    Ok(more) => tried.add(more),
+                    Err(what) => all = Err(format!("{call}: {what}")),
+                }
+            }
+            _ => {}
+        }
+    });
+    Ok((due, all?))
 }
 
 fn has_long_line(sheet: &[u8]) -> bool {

@@ -1,0 +1,223 @@
+//! Two benches, one sheet (section 17.6): nothing is left to choose, so what
+//! stood in memory beforehand makes no difference.
+//!
+//! A bench is a module with its card and a tape. Its image is laid out over
+//! rubbish, and its tape holds rubbish before every call. The sheets here are
+//! written with what they print and with the pairs after each group; each runs
+//! on two benches, one of whose memory held zeros, the other's random numbers,
+//! and after every call both have the same orders, cards and dumps. So do
+//! random histories. Like the other groups these run over any implementation of
+//! the calls.
+
+use crate::arbitrary;
+use crate::book::{Call, Deed};
+use crate::calls::*;
+use crate::groups::{due, laws_tried, plain};
+use crate::laws::{Tally, Tried};
+use crate::prng::Rng;
+use crate::report::{Found, Outcome};
+use crate::sheet;
+
+/// What stands in memory before anyone writes there.
+pub enum Rubbish {
+    Zeros,
+    Random(Rng),
+}
+
+impl Rubbish {
+    fn numbers(&mut self, length: usize) -> Vec<u64> {
+        match self {
+            Rubbish::Zeros => vec![0; length],
+            Rubbish::Random(rng) => rng.words(length),
+        }
+    }
+
+    fn bytes(&mut self, length: usize) -> Vec<u8> {
+        match self {
+            Rubbish::Zeros => vec![0; length],
+            Rubbish::Random(rng) => rng.bytes(length),
+        }
+    }
+}
+
+pub struct Bench<'a, C: Calls> {
+    calls: &'a C,
+    rubbish: Rubbish,
+    image: Vec<u8>,
+    card: Card,
+}
+
+/// What a call answered, wrote and left on a bench.
+#[derive(Clone)]
+pub struct Ran {
+    pub answer: Answer,
+    /// The numbers of its orders.
+    pub orders: Vec<u64>,
+    pub card: Card,
+    /// The image before it, and after its orders were played.
+    pub before: Vec<u8>,
+    pub dump: Vec<u8>,
+}
+
+impl<'a, C: Calls> Bench<'a, C> {
+    /// A bench whose image is laid out over rubbish.
+    pub fn laid_out(calls: &'a C, sizes: Sizes, mut rubbish: Rubbish) -> Bench<'a, C> {
+        let mut image = rubbish.bytes(sizes.image_length());
+        calls.lay_out(&mut image, sizes);
+        Bench { calls, rubbish, image, card: Card::zeros() }
+    }
+
+    /// Runs a call, with rubbish on its tape, and plays its orders.
+    pub fn run(&mut self, call: &Call) -> Ran {
+        let mut tape = self.rubbish.numbers(call.tape);
+        let (image, card) = (&self.image, &mut self.card);
+        let answer = match &call.deed {
+            Deed::Open(sizes) => self.calls.open(image, *sizes, card, &mut tape),
+            Deed::Write(target, bytes) => self.calls.write(image, card, *target, bytes, &mut tape),
+            Deed::Save => self.calls.save(image, card, &mut tape),
+        };
+        tape.truncate(answer.orders.saturating_mul(3) as usize);
+        let before = self.image.clone();
+        self.calls.play(&mut self.image, &tape, answer.orders);
+        Ran { answer, orders: tape, card: self.card, before, dump: self.image.clone() }
+    }
+}
+
+/// A sheet of levels of one frame with two spares, what it prints, and the pair
+/// bytes of the spares after each of its groups.
+pub struct Written {
+    pub name: &'static str,
+    pub input: String,
+    pub printed: &'static str,
+    pairs: &'static [[u8; 2]],
+}
+
+/// Unpaired.
+const NO: u8 = UNPAIRED;
+
+pub fn sheets() -> [Written; 2] {
+    [
+        Written {
+            name: "the sheet of 17.6",
+            input: include_str!("../../../examples/benches.sheet").to_string(),
+            printed: "open=0 orders=109
+step=1 write=0 orders=1 save=- orders=0 epoch=0
+step=2 write=0 orders=1 save=- orders=0 epoch=0
+step=3 write=0 orders=1 save=0 orders=26 epoch=1
+step=4 write=0 orders=43 save=- orders=0 epoch=1
+step=5 write=0 orders=43 save=0 orders=26 epoch=2
+step=6 write=0 orders=43 save=- orders=0 epoch=2
+step=7 write=0 orders=43 save=- orders=0 epoch=2
+step=8 write=9 orders=0 save=0 orders=26 epoch=3
+step=9 write=0 orders=43 save=- orders=0 epoch=3
+",
+            pairs: &[[NO, NO], [NO, NO], [NO, NO], [1, NO], [1, 0], [2, 0], [2, 1], [2, 1], [0, 1]],
+        },
+        // Level 1 takes spare 1, which is unpaired, and not that of level 0,
+        // which is in state 1; so level 0 still has its own.
+        Written {
+            name: "the sheet of an unpaired spare",
+            input: "mains=2\nframes=1\n".to_string()
+                + &[(0, 0), (1, 1), (0, 1), (1, 1), (0, 0)]
+                    .map(|(level, save)| format!("level={level}\nframe=0\nat=0\nbytes=5a\nsave={save}\n"))
+                    .concat(),
+            printed: "open=0 orders=73
+step=1 write=0 orders=1 save=- orders=0 epoch=0
+step=2 write=0 orders=1 save=0 orders=22 epoch=1
+step=3 write=0 orders=43 save=0 orders=22 epoch=2
+step=4 write=0 orders=43 save=0 orders=22 epoch=3
+step=5 write=0 orders=41 save=- orders=0 epoch=3
+",
+            pairs: &[[NO, NO], [NO, NO], [0, NO], [0, 1], [0, 1]],
+        },
+    ]
+}
+
+/// Runs a sheet on a bench, which must print what is written, line by line, and
+/// have the pairs after each group.
+fn as_written<C: Calls>(calls: &C, written: &Written, rubbish: Rubbish) -> Result<Vec<Ran>, String> {
+    let Written { name, input, printed, pairs } = written;
+    let (mut all_ran, mut pairs_seen) = (Vec::new(), vec![[0; 2]; pairs.len() + 1]);
+    let output = sheet::printed_on(calls, rubbish, input.as_bytes(), |group, _, ran| {
+        pairs_seen[group].copy_from_slice(&ran.dump[PAIRS..][..2]);
+        all_ran.push(ran.clone());
+    });
+    let output = String::from_utf8_lossy(&output).into_owned();
+    for (got, expected) in output.lines().zip(printed.lines()) {
+        due(name, got, expected)?;
+    }
+    due(name, &output[..], printed)?;
+    for (group, expected) in (1..).zip(*pairs) {
+        due(&format!("{name}, pairs after group {group}"), pairs_seen[group], *expected)?;
+    }
+    Ok(all_ran)
+}
+
+/// Both benches ran this call with the same outcome.
+fn same(call: &str, first: &Ran, second: &Ran) -> Result<(), String> {
+    let alike = |what: &str, alike: bool| match alike {
+        true => Ok(()),
+        false => Err(format!("{call}: two benches have different {what}")),
+    };
+    alike("answers", first.answer == second.answer)?;
+    alike("orders", first.orders == second.orders)?;
+    alike("cards", first.card == second.card)?;
+    alike("dumps", first.before == second.before && first.dump == second.dump)
+}
+
+/// Each of the sheets on two benches: as written, and the same after every call.
+pub fn one_sheet<C: Calls>(calls: &C) -> Outcome {
+    let mut ran = 0;
+    for written in &sheets() {
+        let first = as_written(calls, written, Rubbish::Zeros)?;
+        let second = as_written(calls, written, Rubbish::Random(Rng::new(9)))?;
+        due("calls", first.len(), second.len())?;
+        for (number, (first, second)) in first.iter().zip(&second).enumerate() {
+            same(&format!("{}, call {number}", written.name), first, second)?;
+        }
+        ran += first.len();
+    }
+    let text =
+        format!("{} sheets on two benches each, {ran} calls with the same orders and dumps", sheets().len());
+    Ok(Found::new(text, &[]))
+}
+
+/// Random histories on two benches, from laid-out images and from sound ones,
+/// with the same orders and dumps after every call. Each law must be tried.
+pub fn random_histories<C: Calls>(calls: &C, seed: u64, histories: u64) -> Outcome {
+    let mut rng = Rng::new(seed);
+    let (mut tried, mut ran) = (Tried::default(), 0);
+    for number in 0..histories {
+        let sizes = match number % 50 {
+            0 => arbitrary::edge_sizes(&mut rng),
+            _ => arbitrary::sizes(&mut rng, 4),
+        };
+        let rubbish = [Rubbish::Zeros, Rubbish::Random(Rng::new(rng.word()))];
+        let mut benches = rubbish.map(|rubbish| Bench::laid_out(calls, sizes, rubbish));
+        if !rng.once_in(3) {
+            let image = arbitrary::sound_image(&mut rng, sizes);
+            benches.iter_mut().for_each(|bench| bench.image.clone_from(&image));
+        }
+        let mut tally = Tally::start(&benches[0].image, sizes);
+        let more = (0..CALLS).map(|_| arbitrary::call(&mut rng, sizes));
+        for call in [plain(Deed::Open(sizes), sizes)].into_iter().chain(more) {
+            let [first, second] = benches.each_mut().map(|bench| bench.run(&call));
+            let told = format!("history {number}, sizes {sizes}: {call}");
+            same(&told, &first, &second)?;
+            let fed = tally.feed(&call.deed, first.answer.number, &first.before, &first.dump);
+            tried.add(fed.map_err(|what| format!("{told}: {what}"))?);
+            ran += 1;
+        }
+    }
+    tried.all_tried(&[])?;
+    let text = format!("{histories} histories, {ran} calls with the same orders and dumps on two benches");
+    let mut found = Found::new(
+        format!("{text}; {}", laws_tried(tried)),
+        &[("histories", histories), ("calls of histories", ran)],
+    );
+    found.counts.extend(tried.named());
+    Ok(found)
+}
+
+/// How many calls a random history has after its opening.
+const CALLS: usize = 24;
