@@ -7,7 +7,7 @@
 //! on two benches, one of whose memory held zeros, the other's random numbers,
 //! and after every call both have the same orders, cards and dumps. So do
 //! random histories. Like the other groups these run over any implementation of
-//! the calls.
+//! the calls; over a `Compared` what the benches do is the reference's too.
 
 use crate::arbitrary;
 use crate::book::{Call, Deed};
@@ -40,6 +40,7 @@ impl Rubbish {
     }
 }
 
+/// A module with its card; what stands on its tape before a call is rubbish.
 pub struct Bench<'a, C: Calls> {
     calls: &'a C,
     rubbish: Rubbish,
@@ -95,6 +96,8 @@ pub struct Written {
 /// Unpaired.
 const NO: u8 = UNPAIRED;
 
+/// The sheet of section 17.6, and one that it leaves out: a write that must take
+/// an unpaired spare though a lower one could be taken from a level.
 pub fn sheets() -> [Written; 2] {
     [
         Written {
@@ -171,15 +174,13 @@ pub fn one_sheet<C: Calls>(calls: &C) -> Outcome {
     for written in &sheets() {
         let first = as_written(calls, written, Rubbish::Zeros)?;
         let second = as_written(calls, written, Rubbish::Random(Rng::new(9)))?;
-        due("calls", first.len(), second.len())?;
         for (number, (first, second)) in first.iter().zip(&second).enumerate() {
             same(&format!("{}, call {number}", written.name), first, second)?;
         }
-        ran += first.len();
+        ran += first.len() as u64;
     }
-    let text =
-        format!("{} sheets on two benches each, {ran} calls with the same orders and dumps", sheets().len());
-    Ok(Found::new(text, &[]))
+    let text = format!("2 sheets as written, {ran} calls with the same orders and dumps on two benches");
+    Ok(Found::new(text, &[("calls on two benches", ran)]))
 }
 
 /// Random histories on two benches, from laid-out images and from sound ones,
@@ -188,10 +189,7 @@ pub fn random_histories<C: Calls>(calls: &C, seed: u64, histories: u64) -> Outco
     let mut rng = Rng::new(seed);
     let (mut tried, mut ran) = (Tried::default(), 0);
     for number in 0..histories {
-        let sizes = match number % 50 {
-            0 => arbitrary::edge_sizes(&mut rng),
-            _ => arbitrary::sizes(&mut rng, 4),
-        };
+        let sizes = sizes(&mut rng);
         let rubbish = [Rubbish::Zeros, Rubbish::Random(Rng::new(rng.word()))];
         let mut benches = rubbish.map(|rubbish| Bench::laid_out(calls, sizes, rubbish));
         if !rng.once_in(3) {
@@ -211,13 +209,18 @@ pub fn random_histories<C: Calls>(calls: &C, seed: u64, histories: u64) -> Outco
     }
     tried.all_tried(&[])?;
     let text = format!("{histories} histories, {ran} calls with the same orders and dumps on two benches");
-    let mut found = Found::new(
-        format!("{text}; {}", laws_tried(tried)),
-        &[("histories", histories), ("calls of histories", ran)],
-    );
-    found.counts.extend(tried.named());
-    Ok(found)
+    Ok(Found::new(format!("{text}; {}", laws_tried(tried)), &[("calls on two benches", ran)]))
 }
 
 /// How many calls a random history has after its opening.
 const CALLS: usize = 24;
+
+/// Any small sizes; as often more levels than spares, of which there are two or
+/// three; sometimes edges.
+fn sizes(rng: &mut Rng) -> Sizes {
+    match rng.below(50) {
+        0 => arbitrary::edge_sizes(rng),
+        1..=24 => Sizes::new(rng.range(4, 6) as u64, rng.range(2, 3) as u64, rng.range(1, 2) as u64),
+        _ => arbitrary::sizes(rng, 4),
+    }
+}

@@ -4,9 +4,9 @@
 //! `Board` whose levels are an enum, so that an unsound image cannot be
 //! represented; a call first makes its whole list of orders and the next card,
 //! and only then touches the tape, so that a refusal changes nothing. Checked
-//! against the bench cases P1 to P10 and L1 to L7 of section 17 (`groups`, `long`)
-//! and, by the explorer, against demand 3 (section 15); the library is checked
-//! against it.
+//! against the bench cases P1 to P10 and L1 to L7 and the sheet of section 17
+//! (`groups`, `long`, `benches`) and, by the explorer, against demand 3 (section
+//! 15); the library is checked against it.
 
 use crate::calls::*;
 use std::ops::RangeInclusive;
@@ -29,9 +29,9 @@ pub enum Refusal {
 }
 
 /// The faults of section 18.1, which a reader could mistake for good work, and
-/// worthless programs of section 18.2: three wrong rules for the states that a
-/// save stores (section 11.2), five for long writes (section 10) and six for the
-/// spare that a write takes (section 3.4).
+/// worthless programs of section 18.2 or like them: three wrong rules for the
+/// states that a save stores (section 11.2), five for long writes (section 10)
+/// and six for the spare that a write takes (section 3.4).
 #[derive(Clone, Copy, PartialEq, Eq, Debug)]
 pub enum Fault {
     StateBeforeFence,
@@ -177,8 +177,8 @@ impl Board {
         (0..self.owners.len()).filter(move |spare| self.owners[*spare].is_some_and(is))
     }
 
-    /// The new spare: the lowest that is unpaired; if all are paired, the lowest
-    /// whose level is in state 1.
+    /// The new spare (section 3.4): the lowest that is unpaired; if all are
+    /// paired, the lowest whose level is in state 1.
     fn new_spare(&self) -> Option<usize> {
         self.unpaired().next().or_else(|| self.of_levels_in(1).next())
     }

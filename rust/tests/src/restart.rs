@@ -171,6 +171,7 @@ pub fn restored_levels_without_laws<C: Calls>(calls: &C, sizes: Sizes) -> Outcom
     Ok(told(restarts, counts))
 }
 
+/// The line of the group.
 fn told(restarts: String, counts: Counts) -> Found {
     let Found { text, counts } = all_found(counts);
     Found { text: format!("{restarts}; {text}"), counts }

@@ -40,23 +40,37 @@ fn main() -> ExitCode {
     println!("{LEGEND}");
     let good = Reference::good();
     let mut suite = Suite::default();
+    all_good(&mut suite, &good);
+    faults(&mut suite);
+    suite.add("faults of writes among any contents", || differ(&good));
+    suite.add("forms of the benchmark", || forms_agree(&good));
+    suite.add("corner sheets", corner_sheets);
+    suite.run("selftest")
+}
+
+/// The reference by every group.
+fn all_good<'a>(suite: &mut Suite<'a>, good: &'a Reference) {
     suite.add("cut model", || groups::crash_model(4000));
-    suite.add("bench cases", || groups::bench_cases(&good));
-    suite.add("waiting lines", || groups::waiting_lines(&good));
-    suite.add("single calls 1,1,1", || groups::single_calls(&good));
-    suite.add("histories up to 5 at 1,1,1", || groups::short_histories(&good, SMALL, 5));
-    suite.add("histories up to 4 at 2,1,1", || groups::short_histories(&good, TWO, 4));
-    suite.add("histories up to 2 at 2,2,1", || groups::short_histories(&good, FOUR, 2));
-    suite.add("histories up to 4 at 1,1,2", || groups::short_histories(&good, SMALL_OF_FRAMES, 4));
-    suite.add("histories up to 3 at 2,1,2", || groups::short_histories(&good, TWO_OF_FRAMES, 3));
-    suite.add("long writes at 1,1,4", || long_writes(&good, EVERY_CUT));
-    suite.add("long writes after cuts", || after_cuts(&good));
-    suite.add("longest writes", || longest_writes(&good));
-    suite.add("random histories", || groups::random_histories(&good, random(21, 40)));
-    suite.add("restored levels at 6,4,1", || restored_levels(&good, STORY));
-    suite.add("restored levels at 4,2,2", || restored_levels(&good, STORY_OF_FRAMES));
-    suite.add("two benches, one sheet", || benches::one_sheet(&good));
-    suite.add("two benches, random histories", || benches::random_histories(&good, 45, 200));
+    suite.add("bench cases", || groups::bench_cases(good));
+    suite.add("waiting lines", || groups::waiting_lines(good));
+    suite.add("single calls 1,1,1", || groups::single_calls(good));
+    suite.add("histories up to 5 at 1,1,1", || groups::short_histories(good, SMALL, 5));
+    suite.add("histories up to 4 at 2,1,1", || groups::short_histories(good, TWO, 4));
+    suite.add("histories up to 2 at 2,2,1", || groups::short_histories(good, FOUR, 2));
+    suite.add("histories up to 4 at 1,1,2", || groups::short_histories(good, SMALL_OF_FRAMES, 4));
+    suite.add("histories up to 3 at 2,1,2", || groups::short_histories(good, TWO_OF_FRAMES, 3));
+    suite.add("long writes at 1,1,4", || long_writes(good, EVERY_CUT));
+    suite.add("long writes after cuts", || after_cuts(good));
+    suite.add("longest writes", || longest_writes(good));
+    suite.add("random histories", || groups::random_histories(good, random(21, 40)));
+    suite.add("restored levels at 6,4,1", || restored_levels(good, STORY));
+    suite.add("restored levels at 4,2,2", || restored_levels(good, STORY_OF_FRAMES));
+    suite.add("two benches, one sheet", || benches::one_sheet(good));
+    suite.add("two benches, random histories", || benches::random_histories(good, 45, 200));
+}
+
+/// Each fault by what it breaks.
+fn faults(suite: &mut Suite) {
     for (fault, sizes, breaks) in FAULTS {
         suite.add(format!("fault {fault:?}"), move || caught(fault, sizes, breaks));
     }
@@ -80,10 +94,6 @@ fn main() -> ExitCode {
         suite.add(format!("fault {fault:?} on the sheets"), move || heard(sheets(), on_sheets));
     }
     suite.add("fault TakesByTape on two benches", || heard(by_tape(), "two benches have different orders"));
-    suite.add("faults of writes among any contents", || differ(&good));
-    suite.add("forms of the benchmark", || forms_agree(&good));
-    suite.add("corner sheets", corner_sheets);
-    suite.run("selftest")
 }
 
 const ONE_FRAME: &[Sizes] = &[SMALL, TWO];
@@ -138,12 +148,14 @@ const FAULTS_OF_SPARE: [(Fault, &str, &str); 3] = [
     (
         Fault::TakesHighestPaired,
         "spare 1 is taken: a lower one has its level in state 1",
-        "the sheet of 17.6: \"step=7 write=0 orders=41 save=- orders=0 epoch=2\", due \"step=7 write=0 orders=43 save=- orders=0 epoch=2\"",
+        "the sheet of 17.6: \"step=7 write=0 orders=41 save=- orders=0 epoch=2\", \
+         due \"step=7 write=0 orders=43 save=- orders=0 epoch=2\"",
     ),
     (
         Fault::TakesPairedFirst,
         "spare 0 is taken: it is paired and another is not",
-        "the sheet of an unpaired spare: \"step=5 write=0 orders=43 save=- orders=0 epoch=3\", due \"step=5 write=0 orders=41 save=- orders=0 epoch=3\"",
+        "the sheet of an unpaired spare: \"step=5 write=0 orders=43 save=- orders=0 epoch=3\", \
+         due \"step=5 write=0 orders=41 save=- orders=0 epoch=3\"",
     ),
 ];
 
@@ -239,6 +251,7 @@ fn forms_agree(good: &Reference) -> Outcome {
         restored_levels(&compared, STORY_OF_FRAMES)?;
         long_writes(&compared, EVERY_CUT)?;
         longest_writes(&compared)?;
+        benches::one_sheet(&compared)?;
         compared.verdict()?;
         compared.spans().all_tried()?;
         calls += compared.calls();
