@@ -1,9 +1,11 @@
--- The two sheets, computed: what they print is made another way, with the image of each device computed once before the next call reads it.
+-- The two sheets, computed: what they print, and the pairs, are made another way, with the image of each device computed once before the next
+-- call reads it.
 use Prim.Native.Nat.{ℕ, suc}
-use mathlib.Core.Path.{_≡_, refl, sym, ap, _∙_}
-use mathlib.Core.Bool.{true}
+use mathlib.Core.Path.{_≡_, refl, sym, _∙_}
+use mathlib.Core.Bool.{Bool, true, _&&_}
 use mathlib.Core.List.{List, [], _∷_, _++_}
 use Rattle.model.specs.Range.{cat}
+use Rattle.model.specs.Layout.{unpaired}
 use Rattle.model.specs.Container.{committedEpoch}
 use Rattle.model.specs.Format.{formatted}
 use Rattle.model.specs.History.{Device, outcome, deviceStep, start}
@@ -12,8 +14,9 @@ use Rattle.lines.specs.Line.{key, named, valueOf, goodLine}
 use Rattle.parser.specs.Script.{Script, bad, good, Group, firstBad, groupOf, firstGroups, groupsOf, defaultBackups, blocksLine, sizesOf, parse}
 use Rattle.printer.specs.Decimal.{decimalIn, decimal}
 use Rattle.calls.specs.Printed.{blank, answerText, writeOf, checkpointed, checkpointText, afterGroup, groupText, groupsText, openText, scriptText}
+use Rattle.model.proofs.Laws.Range.{and-left, and-right}
 use Rattle.cases.proofs.Compute.{model-rules, same, same-equal, known, known-same}
-use Rattle.benches.specs.Sheets.{Prints, example, examplePrinted, benches, benchesPrinted, Sheets}
+use Rattle.benches.specs.Sheets.{Prints, example, examplePrinted, benches, benchesPrinted, pairsOf, pairsAfter, sheetPairs, benchesPairs, Sheets}
 
 -- ---- the image of a device, computed before it is handed on
 
@@ -32,49 +35,60 @@ lineOf d e f n g =
     ++ text " epoch=" ++ decimal (committedEpoch (f .image))
     ++ text "\n"
 
-groupsKnown : Device → ℕ → List Group → List ℕ
-groupsKnown d n [] = []
-groupsKnown d n (g ∷ gs) =
-    knownDevice (deviceStep d (writeOf g)) (λ e. knownDevice (checkpointed e (g .checkpoint)) (λ f. lineOf d e f n g ++ groupsKnown f (suc n) gs))
+-- the lines and the pairs of some groups, handed on together
+ranKnown : {A : Type 0} → Device → ℕ → List Group → (List ℕ → List ℕ → A) → A
+ranKnown d n [] k = k [] []
+ranKnown d n (g ∷ gs) k =
+    knownDevice (deviceStep d (writeOf g)) (λ e. knownDevice (checkpointed e (g .checkpoint)) (λ f.
+    ranKnown f (suc n) gs (λ t ps. k (lineOf d e f n g ++ t) (pairsOf f ++ ps))))
 
-groups-same : (d : Device) (n : ℕ) (gs : List Group) → groupsKnown d n gs ≡ groupsText d n gs
-unfolding groupsKnown groupsText groupText afterGroup
-groups-same d n [] = refl
-groups-same d n (g ∷ gs) =
+ran-same : {A : Type 0} (d : Device) (n : ℕ) (gs : List Group) (k : List ℕ → List ℕ → A) → ranKnown d n gs k ≡ k (groupsText d n gs) (pairsAfter d gs)
+unfolding ranKnown groupsText groupText afterGroup pairsAfter
+ran-same d n [] k = refl
+ran-same d n (g ∷ gs) k =
     let e = deviceStep d (writeOf g) in
     let f = checkpointed e (g .checkpoint) in
-    known-same (e .image) (λ I. knownDevice (checkpointed (withImage e I) (g .checkpoint)) (λ f. lineOf d (withImage e I) f n g ++ groupsKnown f (suc n) gs))
-    ∙ known-same (f .image) (λ I. lineOf d e (withImage f I) n g ++ groupsKnown (withImage f I) (suc n) gs)
-    ∙ ap (λ (t : List ℕ). lineOf d e f n g ++ t) (groups-same f (suc n) gs)
+    known-same (e .image) (λ I. knownDevice (checkpointed (withImage e I) (g .checkpoint)) (λ f. ranKnown f (suc n) gs (λ t ps. k (lineOf d (withImage e I) f n g ++ t) (pairsOf f ++ ps))))
+    ∙ known-same (f .image) (λ I. ranKnown (withImage f I) (suc n) gs (λ t ps. k (lineOf d e (withImage f I) n g ++ t) (pairsOf (withImage f I) ++ ps)))
+    ∙ ran-same f (suc n) gs (λ t ps. k (lineOf d e f n g ++ t) (pairsOf f ++ ps))
 
-scriptKnown : Script → List ℕ
-scriptKnown (bad n) = scriptText (bad n)
-scriptKnown (good l gs) = openText l ++ knownDevice (start l (formatted l) blank .device) (λ d. groupsKnown d 1 gs)
+-- and of a sheet
+sheetKnown : {A : Type 0} → Script → (List ℕ → List ℕ → A) → A
+sheetKnown (bad n) k = k (scriptText (bad n)) []
+sheetKnown (good l gs) k = knownDevice (start l (formatted l) blank .device) (λ d. ranKnown d 1 gs (λ t ps. k (openText l ++ t) ps))
 
-script-same : (s : Script) → scriptKnown s ≡ scriptText s
-unfolding scriptKnown scriptText
-script-same (bad n) = refl
-script-same (good l gs) =
+sheet-same : {A : Type 0} (s : Script) (k : List ℕ → List ℕ → A) → sheetKnown s k ≡ k (scriptText s) (sheetPairs s)
+unfolding sheetKnown scriptText sheetPairs
+sheet-same (bad n) k = refl
+sheet-same (good l gs) k =
     let d = start l (formatted l) blank .device in
-    ap (λ (t : List ℕ). openText l ++ t) (known-same (d .image) (λ I. groupsKnown (withImage d I) 1 gs) ∙ groups-same d 1 gs)
+    known-same (d .image) (λ I. ranKnown (withImage d I) 1 gs (λ t ps. k (openText l ++ t) ps)) ∙ ran-same d 1 gs (λ t ps. k (openText l ++ t) ps)
 
 -- ---- the two sheets
 
+-- a test of both
+agrees : List ℕ → List ℕ → List ℕ → List ℕ → Bool
+agrees expected pairs t ps = same t expected && same ps pairs
+
 -- every definition of the sheet
 unfoldable sheet-rules : Unit {0}
-unfolding model-rules cat text startsWith linesOf numberOf hexPairs hexBytes key named valueOf goodLine firstBad groupOf firstGroups groupsOf defaultBackups blocksLine sizesOf parse decimalIn decimal blank answerText checkpointed checkpointText openText known groupsKnown scriptKnown same
+unfolding model-rules cat text startsWith linesOf numberOf hexPairs hexBytes key named valueOf goodLine firstBad groupOf firstGroups groupsOf defaultBackups blocksLine sizesOf parse decimalIn decimal blank answerText checkpointed checkpointText openText known ranKnown sheetKnown same agrees
 sheet-rules = tt
 
-prints : (input expected : List ℕ) → same (scriptKnown (parse input)) expected ≡ true → scriptText (parse input) ≡ expected
-prints input expected test = sym (script-same (parse input)) ∙ same-equal _ _ test
+-- what the test means
+given : (s : Script) (expected pairs : List ℕ) → sheetKnown s (agrees expected pairs) ≡ true → (scriptText s ≡ expected) × (sheetPairs s ≡ pairs)
+unfolding agrees
+given s expected pairs test =
+    let both : (same (scriptText s) expected && same (sheetPairs s) pairs) ≡ true = sym (sheet-same s (agrees expected pairs)) ∙ test in
+    (same-equal _ _ (and-left _ _ both), same-equal _ _ (and-right (same (scriptText s) expected) _ both))
 
-example-prints : Prints example examplePrinted
+example-given : Prints example examplePrinted × (sheetPairs (parse (text example)) ≡ unpaired ∷ [])
 unfolding sheet-rules
-example-prints = prints (text example) (text examplePrinted) refl
+example-given = given (parse (text example)) (text examplePrinted) (unpaired ∷ []) refl
 
-benches-print : Prints benches benchesPrinted
+benches-given : Prints benches benchesPrinted × (sheetPairs (parse (text benches)) ≡ benchesPairs)
 unfolding sheet-rules
-benches-print = prints (text benches) (text benchesPrinted) refl
+benches-given = given (parse (text benches)) (text benchesPrinted) benchesPairs refl
 
 pub sheets : Sheets
-sheets = record { example = example-prints; benches = benches-print }
+sheets = record { examplePrints = example-given .0; benchesPrint = benches-given .0; benchesPair = benches-given .1 }

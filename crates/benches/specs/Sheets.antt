@@ -1,9 +1,17 @@
 -- Two bench sheets and what they print, byte for byte: the example of SPECIFICATION 16.4, and the sheet of 17.6 that two benches run, in which
--- backup segments are taken from other main segments. What is expected is copied from the specification. Proved in proofs/Sheets.antt.
+-- backup segments are taken from other main segments; of this one also the pairs that stand on the board after each group. What is
+-- expected is copied from the specification. Proved in proofs/Sheets.antt.
+use Prim.Native.Nat.{ℕ}
 use Prim.Native.String.{String}
 use mathlib.Core.Path.{_≡_}
+use mathlib.Core.List.{List, [], _∷_, _++_}
+use lib.ListN.{take, drop}
+use Rattle.model.specs.Layout.{pairsAt, unpaired}
+use Rattle.model.specs.Format.{formatted}
+use Rattle.model.specs.History.{Device, start}
 use Rattle.text.specs.Text.{text}
-use Rattle.calls.specs.Printed.{printed}
+use Rattle.parser.specs.Script.{Script, bad, good, Group, parse}
+use Rattle.calls.specs.Printed.{blank, afterGroup, printed}
 
 -- the first of these texts is a sheet, and the second is what it prints
 abbrev pub Prints : String → String → Type 0
@@ -22,6 +30,30 @@ benches = "mains=3\nspares=2\nframes=1\nlevel=0\nframe=0\nat=0\nbytes=01\nsave=0
 abbrev pub benchesPrinted : String
 benchesPrinted = "open=0 orders=109\nstep=1 write=0 orders=1 save=- orders=0 epoch=0\nstep=2 write=0 orders=1 save=- orders=0 epoch=0\nstep=3 write=0 orders=1 save=0 orders=26 epoch=1\nstep=4 write=0 orders=43 save=- orders=0 epoch=1\nstep=5 write=0 orders=43 save=0 orders=26 epoch=2\nstep=6 write=0 orders=43 save=- orders=0 epoch=2\nstep=7 write=0 orders=43 save=- orders=0 epoch=2\nstep=8 write=9 orders=0 save=0 orders=26 epoch=3\nstep=9 write=0 orders=43 save=- orders=0 epoch=3\n"
 
+-- the pairs of the backup segments where a module stands; after each of some groups; and after each group of a sheet
+abbrev pub pairsOf : Device → List ℕ
+pairsOf d = take (d .layout .backups) (drop pairsAt (d .image))
+
+unfoldable pub pairsAfter : Device → List Group → List ℕ
+pairsAfter d [] = []
+pairsAfter d (g ∷ gs) = pairsOf (afterGroup d g) ++ pairsAfter (afterGroup d g) gs
+
+unfoldable pub sheetPairs : Script → List ℕ
+sheetPairs (bad n) = []
+sheetPairs (good l gs) = pairsAfter (start l (formatted l) blank .device) gs
+
+abbrev pub benchesPairs : List ℕ
+benchesPairs =
+    unpaired ∷ unpaired ∷ unpaired ∷ unpaired ∷ unpaired ∷ unpaired
+    ∷ 1 ∷ unpaired
+    ∷ 1 ∷ 0
+    ∷ 2 ∷ 0
+    ∷ 2 ∷ 1
+    ∷ 2 ∷ 1
+    ∷ 0 ∷ 1
+    ∷ []
+
 pub record Sheets : Type 0 where
-  pub example : Prints example examplePrinted
-  pub benches : Prints benches benchesPrinted
+  pub examplePrints : Prints example examplePrinted
+  pub benchesPrint : Prints benches benchesPrinted
+  pub benchesPair : sheetPairs (parse (text benches)) ≡ benchesPairs
