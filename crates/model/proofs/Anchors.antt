@@ -141,15 +141,16 @@ pub mark-copied : (I : Image) → length (copyDirty small I (dirtyWord (withChec
 unfolding withCheckpoint withDirty freshSession setBits setBit copyDirty persistCopy putBlock stores clwbs cat bit
 mark-copied I = refl
 
--- two main segments: the first in state 2, with backup segment 0, the second in state 1 and unpaired; by the inactive line
--- both are in state 1. So backup segment 0 holds a checkpoint, though it would be free by the inactive line
-abbrev taken : ℕ → Image
-taken backups =
-    container (layoutOf 2 backups 1) 0 (2 ∷ 1 ∷ replicate 62 0) (1 ∷ 1 ∷ replicate 62 0) (0 ∷ replicate 63 unpaired)
-    (replicate (256 * (2 + backups)) 0)
+-- three main segments: the first in state 2, with backup segment 0; the others in state 1, the second with backup segment 1 if there is one;
+-- by the inactive line all are in state 1. So backup segment 0 holds a checkpoint, though it would be free by the inactive line
+abbrev taken : ℕ → List ℕ → Image
+taken backups pairs =
+    container (layoutOf 3 backups 1) 0 (2 ∷ 1 ∷ 1 ∷ replicate 61 0) (1 ∷ 1 ∷ 1 ∷ replicate 61 0) (pairs ++ replicate 62 unpaired)
+    (replicate (256 * (3 + backups)) 0)
 
--- with no other backup segment a write to the second main segment finds none free, and with another one it takes that
-pub none-free : (copyPlan (freshSession (layoutOf 2 1 1)) (taken 1) 1 ≡ NoneFree) × (copyPlan (freshSession (layoutOf 2 2 1)) (taken 2) 1 ≡ NewBackup 1)
+-- with no other backup segment a write to the third main segment finds none free, and with backup segment 1 it takes that
+pub none-free : (copyPlan (freshSession (layoutOf 3 1 1)) (taken 1 (0 ∷ unpaired ∷ [])) 2 ≡ NoneFree)
+    × (copyPlan (freshSession (layoutOf 3 2 1)) (taken 2 (0 ∷ 1 ∷ [])) 2 ≡ NewBackup 1)
 unfolding copyPlan needsCopy dirtySegment freshSession bit isPaired anyFree isFree newBackup anyB firstB orNext container bytesOf stateLine wordOf littleEndian
 none-free = (refl, refl)
 
