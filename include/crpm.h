@@ -70,9 +70,9 @@ extern "C" {
 #endif
 
 /* The version of this interface: its first number is raised whenever a signature
-   or a struct changes, its second when what a call does changes and programs
-   need no change. `pkg-config --modversion crpm` says the same. */
-#define CRPM_VERSION "1.2.0"
+   or a struct changes, its second when what a call does, or what is promised of
+   it, changes and programs need no change. `pkg-config --modversion crpm` says the same. */
+#define CRPM_VERSION "1.3.0"
 
 /* ---- the layout of an image */
 
@@ -191,9 +191,12 @@ uint64_t crpm_open(
    through the following blocks, to the end of the main segment: the offset is 0
    to 255, and offset and length together at most 256 times the blocks from this
    one on. Byte k of a main segment has block k / 256 and offset k % 256. The
-   main segment is copied once at most, however long the write is. Takes the
-   session that the last call on the image wrote and writes the next one; to
-   `ops` the number of operations. Refusals: 1 to 9, 11. */
+   main segment is copied once at most, however long the write is. If it needs a
+   new backup segment for that, it takes the lowest unpaired one; if all are
+   paired, the lowest whose main segment is in state 1. So the same calls on the
+   same image always give the same operations. Takes the session that the last
+   call on the image wrote and writes the next one; to `ops` the number of
+   operations. Refusals: 1 to 9, 11. */
 uint64_t crpm_write(
     const uint8_t *image, size_t image_length,
     struct crpm_session *session,

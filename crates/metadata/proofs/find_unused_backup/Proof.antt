@@ -36,7 +36,8 @@ returns : tie.Need-returns Inv-loop μ-loop
 returns c =
     let b = c .before .before .before .before in
     let l = c .before .before .before .loop-test .taken in
-    found-at _ _ _ l (first-found _ _ (b .loop .j) l (b .loop .inv .1) (eq-eqb _ _ (sym (c .before .paired-state .ensures) ∙ c .if1 .taken)))
+    let one : c .before .paired-state .result ≡ 1 = c .if1 .taken in
+    found-at _ _ _ l (first-found _ _ (b .loop .j) l (b .loop .inv .1) (eq-eqb _ _ (sym (c .before .paired-state .ensures) ∙ one)))
 
 add-j : tie.Need-add-j Inv-loop μ-loop
 add-j c = search needs
