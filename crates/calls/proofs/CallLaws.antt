@@ -1,7 +1,7 @@
 -- Laws of a call made on the blank trace: it is the module's step, and its answer is printed.
 use Prim.Native.Nat.{ℕ}
 use Prim.Native.String.{String}
-use mathlib.Core.Path.{_≡_, refl, sym, _∙_, subst₂}
+use mathlib.Core.Path.{_≡_, sym, _∙_, subst₂}
 use mathlib.Core.Bool.{Bool, true, false}
 use mathlib.Core.List.{List, [], _++_, append-assoc}
 use lib.ListN.{length}
@@ -15,7 +15,7 @@ use Rattle.model.specs.History.{Call, Device, outcome, deviceStep}
 use Rattle.driver.specs.Stepped.{reportOf, Called, Stepped}
 use Rattle.driver.proofs.SteppedLaws.{stepped-device}
 use Rattle.text.specs.Text.{text}
-use Rattle.printer.specs.Decimal.{decimal, Appended}
+use Rattle.printer.specs.Decimal.{Appended}
 use Rattle.printer.proofs.AppendedLaws.{appended-as}
 use Rattle.calls.specs.declared.Ran.{Ran}
 use Rattle.calls.specs.Printed.{answerText, checkpointCall, checkpointed, checkpointText}

@@ -1,6 +1,6 @@
 -- The trace that every call of a sheet gets is long enough: a good sheet's opening is served, and no write or checkpoint is refused
 -- with 11. Proved in proofs/SheetTrace.antt. Assumes nothing.
-use Prim.Native.Nat.{ℕ, _≤_}
+use Prim.Native.Nat.{_≤_}
 use mathlib.Core.Path.{_≡_}
 use mathlib.Core.Logic.{_≢_}
 use Rattle.model.specs.declared.Layout.{Layout}

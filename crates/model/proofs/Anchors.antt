@@ -15,8 +15,8 @@ use Rattle.model.specs.Words.{Image, littleEndian, wordOf, wordAt, bytes
 use Rattle.model.specs.Layout.{lineSize, unpaired, ssMain, layoutOf, inRange, sizesOk, imageSize, stateLine, epochAt}
 use Rattle.model.specs.Status.{firstError}
 use Rattle.model.specs.Container.{committedEpoch, activeLine, inactiveLine, isPaired, validMetadata, isFree, anyFree, newBackup, byState, headerOk}
-use Rattle.model.specs.Session.{bit, setBit, setBits, dirtyWord, dirtySegment, freshSession, zeroSession, withDirty, withCheckpoint, validSession}
-use Rattle.model.specs.Ops.{store, clwb, sfence, Trace, encode, traceShort, replay, stores, clwbs, putBlock, persistCopy, copySegment, storeByte}
+use Rattle.model.specs.Session.{bit, setBit, setBits, dirtyWord, dirtySegment, freshSession, zeroSession, withDirty, withCheckpoint}
+use Rattle.model.specs.Ops.{store, clwb, sfence, Trace, encode, replay, stores, clwbs, putBlock, persistCopy, copySegment, storeByte}
 use Rattle.model.specs.Outcome.{outcomeOf}
 use Rattle.model.specs.Replay.{wellFormed, allWellFormed, replayCount, replayStatus}
 use Rattle.model.specs.Format.{container, formatted}

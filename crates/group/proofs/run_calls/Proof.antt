@@ -1,7 +1,6 @@
 use native.Mathlib.Omega.{arith}
 use borrow.Author.Needs.{needs}
-use Rattle.calls.specs.Printed.{writeOf}
-use Rattle.calls.specs.Ran.{groupOfParts, CallRan, CheckpointRan}
+use Rattle.calls.specs.Ran.{groupOfParts, CheckpointRan}
 use Rattle.group.proofs.GroupLaws.{calls-ran}
 use Rattle.group.proofs.run_calls.Statement.{statement}
 use Rattle.group.proofs.run_calls.Tie as tie

@@ -1,5 +1,5 @@
 -- A checkpoint in a history.
-use Prim.Native.Nat.{ℕ, suc, _-_, _^_, _<_}
+use Prim.Native.Nat.{suc, _-_, _^_, _<_}
 use mathlib.Core.Path.{_≡_, refl, sym, ap, ap₂, _∙_, subst₂}
 use mathlib.Core.Logic.{_≢_, inl, inr, ⊎-elim}
 use mathlib.Core.Bool.{Bool, true}

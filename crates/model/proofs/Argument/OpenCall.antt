@@ -1,5 +1,4 @@
 -- An opening in a history: it is recovery by the active line, with the history's sizes or refused.
-use Prim.Native.Nat.{ℕ}
 use mathlib.Core.Path.{_≡_, refl, sym, ap, _∙_, subst}
 use mathlib.Core.Logic.{inl, inr}
 use mathlib.Core.Bool.{Bool, true}

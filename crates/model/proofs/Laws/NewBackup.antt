@@ -5,14 +5,13 @@ use mathlib.Core.Logic.{_↔_, _≢_, inl, inr, ⊎-elim}
 use mathlib.Core.Bool.{Bool, true, false, true≢false}
 use native.Mathlib.Omega.{arith}
 use lib.Dec.{ltb, eqb}
-use lib.ListN.{take}
-use borrow.Author.Tests.{lt-ltb, ltb-true, eqb-true, eqb-false, eq-eqb, ne-eqb}
+use borrow.Author.Tests.{lt-ltb, ltb-true, eqb-true, eqb-false, eq-eqb}
 use Rattle.model.specs.declared.Layout.{Layout}
 use Rattle.model.specs.Range.{anyB, firstB}
 use Rattle.model.specs.Layout.{unpaired, ssMain}
 use Rattle.model.specs.Container.{Valid, Free, anyFree, newBackup}
 use Rattle.model.specs.Write.{pairOps, backupOps, copyOnWriteOps, writeOps, writeStatus}
-use Rattle.model.specs.NewBackup.{Lowest, AllPaired, TakenNew, NewBackupExactly, NewBackupFree, FreeWhereValid, WriteTakesNew}
+use Rattle.model.specs.NewBackup.{Lowest, AllPaired, TakenNew, NewBackupExactly, FreeWhereValid, WriteTakesNew}
 use Rattle.model.proofs.Laws.Range.{same-test, any-at, any-none, first-found, first-some, first-before, any-first}
 use Rattle.model.proofs.Laws.Container.{any-free, container-then}
 use Rattle.model.proofs.Laws.Write.{plan-new, served-free}

@@ -1,5 +1,4 @@
 -- A refused opening answers the session of zeros, and that is refused with 1.
-use Prim.Native.Nat.{ℕ}
 use mathlib.Core.Path.{_≡_, refl}
 use mathlib.Core.Logic.{_≢_}
 use borrow.Author.Tests.{ne-eqb}

@@ -1,7 +1,7 @@
 -- How many operations a write has, by its plan.
 use Prim.Native.Nat.{ℕ, _+_, _*_}
-use mathlib.Core.Path.{_≡_, refl, sym, _∙_, ap, ap₂}
-use mathlib.Core.Bool.{Bool, true, false, cond}
+use mathlib.Core.Path.{_≡_, refl, _∙_, ap₂}
+use mathlib.Core.Bool.{true}
 use mathlib.Core.List.{_++_, [], _∷_}
 use native.Mathlib.Omega.{arith}
 use lib.ListN.{length, length-append}
@@ -11,10 +11,9 @@ use Rattle.model.specs.declared.Plan.{Plan}
 use Rattle.model.specs.declared.Plan.the-variants.{NoCopy, OwnBackup, NewBackup, NoneFree}
 use Rattle.model.specs.Words.{Image}
 use Rattle.model.specs.Layout.{mainAt, backupAt}
-use Rattle.model.specs.Container.{activeState, backupToMain, isPaired, pairedBackup, anyFree}
 use Rattle.model.specs.Session.{dirtyWord}
-use Rattle.model.specs.Ops.{sfence, Ops, Trace, traceShort, persistCopy}
-use Rattle.model.specs.Write.{WriteArgs, needsCopy, copyPlan, copies, noneFree, pairOps, copyDirty, backupOps, copyOnWriteOps, spanAt, spanWords, spanOps, writeOps, writeStatus}
+use Rattle.model.specs.Ops.{sfence, Ops, persistCopy}
+use Rattle.model.specs.Write.{WriteArgs, copyPlan, copies, pairOps, copyDirty, backupOps, copyOnWriteOps, spanAt, spanWords, spanOps, writeOps}
 use Rattle.model.specs.Counts.{dirtyCount}
 use Rattle.model.proofs.Argument.Phases.{statePhase, copy-phases}
 use Rattle.model.proofs.Laws.Counts.{length-stores, length-put-block, length-copy-segment, length-dirty}
