@@ -1,5 +1,5 @@
--- The two sheets, computed: what they print, and the pairs, are made another way, with the image of each device computed once before the next
--- call reads it.
+-- The two sheets, computed: what they print, and the pairs, are made another way, with the image of each device computed once before the
+-- next call reads it.
 use Prim.Native.Nat.{ℕ, suc}
 use mathlib.Core.Path.{_≡_, refl, sym, _∙_}
 use mathlib.Core.Bool.{Bool, true, _&&_}
@@ -13,10 +13,10 @@ use Rattle.text.specs.Text.{text, startsWith, linesOf, numberOf, hexPairs, hexB
 use Rattle.lines.specs.Line.{key, named, valueOf, goodLine}
 use Rattle.parser.specs.Script.{Script, bad, good, Group, firstBad, groupOf, firstGroups, groupsOf, defaultBackups, blocksLine, sizesOf, parse}
 use Rattle.printer.specs.Decimal.{decimalIn, decimal}
-use Rattle.calls.specs.Printed.{blank, answerText, writeOf, checkpointed, checkpointText, afterGroup, groupText, groupsText, openText, scriptText}
+use Rattle.calls.specs.Printed.{blank, answerText, writeOf, checkpointed, checkpointText, afterGroup, groupText, groupsText, openText, scriptText, printed}
 use Rattle.model.proofs.Laws.Range.{and-left, and-right}
 use Rattle.cases.proofs.Compute.{model-rules, same, same-equal, known, known-same}
-use Rattle.benches.specs.Sheets.{Prints, example, examplePrinted, benches, benchesPrinted, pairsOf, pairsAfter, sheetPairs, benchesPairs, Sheets}
+use Rattle.benches.specs.Sheets.{example, examplePrinted, twoBenches, twoBenchesPrinted, pairsOf, groupsPairs, sheetPairs, twoBenchesPairs, Sheets}
 
 -- ---- the image of a device, computed before it is handed on
 
@@ -42,8 +42,8 @@ ranKnown d n (g ∷ gs) k =
     knownDevice (deviceStep d (writeOf g)) (λ e. knownDevice (checkpointed e (g .checkpoint)) (λ f.
     ranKnown f (suc n) gs (λ t ps. k (lineOf d e f n g ++ t) (pairsOf f ++ ps))))
 
-ran-same : {A : Type 0} (d : Device) (n : ℕ) (gs : List Group) (k : List ℕ → List ℕ → A) → ranKnown d n gs k ≡ k (groupsText d n gs) (pairsAfter d gs)
-unfolding ranKnown groupsText groupText afterGroup pairsAfter
+ran-same : {A : Type 0} (d : Device) (n : ℕ) (gs : List Group) (k : List ℕ → List ℕ → A) → ranKnown d n gs k ≡ k (groupsText d n gs) (groupsPairs d gs)
+unfolding ranKnown groupsText groupText afterGroup groupsPairs
 ran-same d n [] k = refl
 ran-same d n (g ∷ gs) k =
     let e = deviceStep d (writeOf g) in
@@ -82,13 +82,13 @@ given s expected pairs test =
     let both : (same (scriptText s) expected && same (sheetPairs s) pairs) ≡ true = sym (sheet-same s (agrees expected pairs)) ∙ test in
     (same-equal _ _ (and-left _ _ both), same-equal _ _ (and-right (same (scriptText s) expected) _ both))
 
-example-given : Prints example examplePrinted × (sheetPairs (parse (text example)) ≡ unpaired ∷ [])
+example-given : (printed (text example) ≡ text examplePrinted) × (sheetPairs (parse (text example)) ≡ unpaired ∷ [])
 unfolding sheet-rules
 example-given = given (parse (text example)) (text examplePrinted) (unpaired ∷ []) refl
 
-benches-given : Prints benches benchesPrinted × (sheetPairs (parse (text benches)) ≡ benchesPairs)
+two-benches-given : (printed (text twoBenches) ≡ text twoBenchesPrinted) × (sheetPairs (parse (text twoBenches)) ≡ twoBenchesPairs)
 unfolding sheet-rules
-benches-given = given (parse (text benches)) (text benchesPrinted) benchesPairs refl
+two-benches-given = given (parse (text twoBenches)) (text twoBenchesPrinted) twoBenchesPairs refl
 
 pub sheets : Sheets
-sheets = record { examplePrints = example-given .0; benchesPrint = benches-given .0; benchesPair = benches-given .1 }
+sheets = record { onExample = example-given .0; onTwoBenches = two-benches-given .0; pairsOnTwoBenches = two-benches-given .1 }

@@ -1,6 +1,7 @@
--- Two bench sheets and what they print, byte for byte: the example of SPECIFICATION 16.4, and the sheet of 17.6 that two benches run, in which
--- backup segments are taken from other main segments; of this one also the pairs that stand on the board after each group. What is
--- expected is copied from the specification. Proved in proofs/Sheets.antt.
+-- Two bench sheets and what they print, byte for byte: the example of SPECIFICATION 16.4, and the sheet of 17.6 that two benches run, in
+-- which backup segments are taken from other main segments; of this one also the pairs that stand on the board after each group. What is
+-- expected is copied from the specification; the gate compares the sheets with examples/ (tests/sheet). Proved in proofs/Sheets.antt.
+-- Assumes nothing.
 use Prim.Native.Nat.{ℕ}
 use Prim.Native.String.{String}
 use mathlib.Core.Path.{_≡_}
@@ -13,9 +14,7 @@ use Rattle.text.specs.Text.{text}
 use Rattle.parser.specs.Script.{Script, bad, good, Group, parse}
 use Rattle.calls.specs.Printed.{blank, afterGroup, printed}
 
--- the first of these texts is a sheet, and the second is what it prints
-abbrev pub Prints : String → String → Type 0
-Prints sheet expected = printed (text sheet) ≡ text expected
+-- ---- the example
 
 abbrev pub example : String
 example = "mains=2\nspares=1\nframes=1\nlevel=0\nframe=0\nat=6\nbytes=a1b2c3d4\nsave=1\n"
@@ -23,27 +22,28 @@ example = "mains=2\nspares=1\nframes=1\nlevel=0\nframe=0\nat=6\nbytes=a1b2c3d4\n
 abbrev pub examplePrinted : String
 examplePrinted = "open=0 orders=73\nstep=1 write=0 orders=2 save=0 orders=18 epoch=1\n"
 
--- examples/benches.sheet
-abbrev pub benches : String
-benches = "mains=3\nspares=2\nframes=1\nlevel=0\nframe=0\nat=0\nbytes=01\nsave=0\nlevel=1\nframe=0\nat=0\nbytes=02\nsave=0\nlevel=2\nframe=0\nat=0\nbytes=03\nsave=1\nlevel=1\nframe=0\nat=0\nbytes=04\nsave=0\nlevel=0\nframe=0\nat=0\nbytes=05\nsave=1\nlevel=2\nframe=0\nat=0\nbytes=06\nsave=0\nlevel=1\nframe=0\nat=0\nbytes=07\nsave=0\nlevel=0\nframe=0\nat=0\nbytes=08\nsave=1\nlevel=0\nframe=0\nat=0\nbytes=09\nsave=0\n"
+-- ---- two benches (examples/benches.sheet)
 
-abbrev pub benchesPrinted : String
-benchesPrinted = "open=0 orders=109\nstep=1 write=0 orders=1 save=- orders=0 epoch=0\nstep=2 write=0 orders=1 save=- orders=0 epoch=0\nstep=3 write=0 orders=1 save=0 orders=26 epoch=1\nstep=4 write=0 orders=43 save=- orders=0 epoch=1\nstep=5 write=0 orders=43 save=0 orders=26 epoch=2\nstep=6 write=0 orders=43 save=- orders=0 epoch=2\nstep=7 write=0 orders=43 save=- orders=0 epoch=2\nstep=8 write=9 orders=0 save=0 orders=26 epoch=3\nstep=9 write=0 orders=43 save=- orders=0 epoch=3\n"
+abbrev pub twoBenches : String
+twoBenches = "mains=3\nspares=2\nframes=1\nlevel=0\nframe=0\nat=0\nbytes=01\nsave=0\nlevel=1\nframe=0\nat=0\nbytes=02\nsave=0\nlevel=2\nframe=0\nat=0\nbytes=03\nsave=1\nlevel=1\nframe=0\nat=0\nbytes=04\nsave=1\nlevel=0\nframe=0\nat=0\nbytes=05\nsave=1\nlevel=2\nframe=0\nat=0\nbytes=06\nsave=0\nlevel=1\nframe=0\nat=0\nbytes=07\nsave=0\nlevel=0\nframe=0\nat=0\nbytes=08\nsave=1\nlevel=0\nframe=0\nat=0\nbytes=09\nsave=0\n"
+
+abbrev pub twoBenchesPrinted : String
+twoBenchesPrinted = "open=0 orders=109\nstep=1 write=0 orders=1 save=- orders=0 epoch=0\nstep=2 write=0 orders=1 save=- orders=0 epoch=0\nstep=3 write=0 orders=1 save=0 orders=26 epoch=1\nstep=4 write=0 orders=43 save=0 orders=26 epoch=2\nstep=5 write=0 orders=43 save=0 orders=26 epoch=3\nstep=6 write=0 orders=43 save=- orders=0 epoch=3\nstep=7 write=0 orders=43 save=- orders=0 epoch=3\nstep=8 write=9 orders=0 save=0 orders=26 epoch=4\nstep=9 write=0 orders=43 save=- orders=0 epoch=4\n"
 
 -- the pairs of the backup segments where a module stands; after each of some groups; and after each group of a sheet
 abbrev pub pairsOf : Device → List ℕ
 pairsOf d = take (d .layout .backups) (drop pairsAt (d .image))
 
-unfoldable pub pairsAfter : Device → List Group → List ℕ
-pairsAfter d [] = []
-pairsAfter d (g ∷ gs) = pairsOf (afterGroup d g) ++ pairsAfter (afterGroup d g) gs
+unfoldable pub groupsPairs : Device → List Group → List ℕ
+groupsPairs d [] = []
+groupsPairs d (g ∷ gs) = pairsOf (afterGroup d g) ++ groupsPairs (afterGroup d g) gs
 
 unfoldable pub sheetPairs : Script → List ℕ
 sheetPairs (bad n) = []
-sheetPairs (good l gs) = pairsAfter (start l (formatted l) blank .device) gs
+sheetPairs (good l gs) = groupsPairs (start l (formatted l) blank .device) gs
 
-abbrev pub benchesPairs : List ℕ
-benchesPairs =
+abbrev pub twoBenchesPairs : List ℕ
+twoBenchesPairs =
     unpaired ∷ unpaired ∷ unpaired ∷ unpaired ∷ unpaired ∷ unpaired
     ∷ 1 ∷ unpaired
     ∷ 1 ∷ 0
@@ -54,6 +54,6 @@ benchesPairs =
     ∷ []
 
 pub record Sheets : Type 0 where
-  pub examplePrints : Prints example examplePrinted
-  pub benchesPrint : Prints benches benchesPrinted
-  pub benchesPair : sheetPairs (parse (text benches)) ≡ benchesPairs
+  pub onExample : printed (text example) ≡ text examplePrinted
+  pub onTwoBenches : printed (text twoBenches) ≡ text twoBenchesPrinted
+  pub pairsOnTwoBenches : sheetPairs (parse (text twoBenches)) ≡ twoBenchesPairs

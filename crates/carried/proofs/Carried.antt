@@ -8,8 +8,8 @@ use Rattle.model.specs.Outcome.{Outcome}
 use Rattle.interface.specs.Interface.{Words, sessionIn, returned, Returns}
 use Rattle.interface.proofs.WordsLaws.{session-words}
 use Rattle.driver.specs.Stepped.{Reports, Called, OfLibrary}
-use Rattle.driver.proofs.Driven.{driven-histories, driven-alike, driven-safety, driven-opening-safety}
-use Rattle.carried.specs.Carried.{reportIn, Exported, opens, writes, checkpoints, CarriedSafety, CarriedHistories}
+use Rattle.driver.proofs.Driven.{driven-histories, driven-same-board, driven-safety, driven-opening-safety}
+use Rattle.carried.specs.Carried.{reportIn, Exported, opens, writes, checkpoints, CarriedSafety, CarriedHistories, CarriedSameBoard}
 
 returned-reports : (o : Outcome) (T : Trace) (number : ℕ) (v : Words) (t : Trace) (ops : ℕ) → Returns (returned T o) number v t ops
     → Reports o T (reportIn number v ops) t
@@ -26,4 +26,7 @@ pub carried-safety : CarriedSafety
 carried-safety = (driven-safety Exported exported-called, driven-opening-safety Exported exported-called)
 
 pub carried-histories : CarriedHistories
-carried-histories = (driven-histories Exported exported-called, driven-alike Exported exported-called)
+carried-histories = driven-histories Exported exported-called
+
+pub carried-same-board : CarriedSameBoard
+carried-same-board = driven-same-board Exported exported-called

@@ -1,6 +1,6 @@
 -- Programs in C that carry the operations out themselves: what the contracts of the exported calls say of a call (`Exported`;
 -- the functions of src/lib.rt show that they do), and demands 2 and 3 of programs that make their calls so (`CarriedSafety`),
--- whose calls are histories (`CarriedHistories`). Proved in proofs/Carried.antt. Assumes what driver's specs/Driven.antt does;
+-- whose calls are histories (`CarriedHistories`) and, if they are the same, leave the same (`CarriedSameBoard`). Proved in proofs/Carried.antt. Assumes what driver's specs/Driven.antt does;
 -- and of the caller, that he hands over the words that the last call left, and carries out the operations that a call reports,
 -- the first `ops` on the trace, all of them and in their order, before the next call.
 use Prim.Native.Nat.{ℕ}
@@ -13,7 +13,7 @@ use Rattle.model.specs.Write.{WriteArgs}
 use Rattle.model.specs.History.{Call, callOpen, callWrite, callCheckpoint}
 use Rattle.interface.specs.Interface.{Words, sessionIn, openReturned, writeReturned, checkpointReturned, Returns}
 use Rattle.driver.specs.Stepped.{Report}
-use Rattle.driver.specs.Driven.{DrivenHistories, DrivenAlike, DrivenSafety, DrivenOpeningSafety}
+use Rattle.driver.specs.Driven.{DrivenHistories, DrivenSameBoard, DrivenSafety, DrivenOpeningSafety}
 
 -- what an exported call reports: the number that it returned, the session that stands in the words that it left, and the
 -- number of operations
@@ -34,6 +34,10 @@ pub data Exported (I : Image) (s : Session) : Call → Report → Trace → Type
 abbrev pub CarriedSafety : Type 0
 CarriedSafety = DrivenSafety Exported × DrivenOpeningSafety Exported
 
--- their calls are histories, and the same calls leave the same
+-- their calls are histories
 abbrev pub CarriedHistories : Type 0
-CarriedHistories = DrivenHistories Exported × DrivenAlike Exported
+CarriedHistories = DrivenHistories Exported
+
+-- the same calls leave the same
+abbrev pub CarriedSameBoard : Type 0
+CarriedSameBoard = DrivenSameBoard Exported

@@ -30,7 +30,7 @@ pub struct Segment {
 
 // ---- the plan
 
-// Whether a main segment is to be copied, and to which backup segment: its own, or a new one. The plan is that of a session with this
+// Whether a main segment is to be copied, and to which backup segment: its own, or the new one. The plan is that of a session with this
 // layout and this word of dirty segments, whatever its words of dirty blocks.
 pub fn plan_copy(image: &[u8], layout: Layout, segments: u64, main: u64) -> Plan
     requires { ⌜ Writable layout (now image) main ⌝ }
@@ -120,7 +120,7 @@ fn put_state(image: &[u8], main: u64, trace: &mut [u64], n: usize) -> usize
     trace::put_sfence(trace, fence)
 }
 
-// Makes the bytes of a main segment stand in the plan's backup segment: its dirty blocks in its own, all in a new one, which
+// Makes the bytes of a main segment stand in the plan's backup segment: its dirty blocks in its own, all in the new one, which
 // is given to it first.
 fn put_backup(image: &[u8], segment: Segment, plan: Plan, trace: &mut [u64], n: usize) -> usize
     requires { ⌜ Writable (segment .layout) (now image) (segment .main) ⌝ }

@@ -1,6 +1,6 @@
 -- A program that makes call after call runs a permitted history, so demands 2 and 3 hold of the code, however the calls are made.
 use mathlib.Core.Path.{_≡_, refl, sym, ap, _∙_, subst}
-use mathlib.Core.Logic.{_≢_}
+use mathlib.Core.Logic.{_≢_, _⊎_, inl, inr, ⊎-elim}
 use mathlib.Core.List.{List, [], _++_, append-nil}
 use native.Mathlib.Omega.{arith}
 use lib.ListN.{length}
@@ -14,13 +14,14 @@ use Rattle.model.specs.Outcome.{Outcome, outcomeOf}
 use Rattle.model.specs.Open.{openStatus, openOutcome}
 use Rattle.model.specs.Crash.{CrashImage}
 use Rattle.model.specs.Reference.{Page, modelStep}
-use Rattle.model.specs.History.{Call, callOpen, Device, State, outcome, deviceStep, step, run, start, openedImage, AllPermitted}
+use Rattle.model.specs.History.{Call, callOpen, Device, State, outcome, reported, deviceStep, step, run, start, openedImage, AllPermitted}
+use Rattle.model.specs.Sisters.{SameCall, SameCalls}
 use Rattle.model.specs.CrashSafety.{Moment, PermittedAt, playedAt, CutOpenings, Reads, Recovers, InEveryHistory}
 use Rattle.model.specs.CrashSafety as model
 use Rattle.model.proofs.CrashSafety.{crash-safety}
 use Rattle.model.proofs.Sisters.{reads-follow-model, same-board, opening-safety}
-use Rattle.driver.specs.Stepped.{Report, Calls, Called, OfLibrary, Stepped}
-use Rattle.driver.specs.Driven.{savedModel, opened, after, Driven, done, next, Made, rests, makes, CutDriven, none, again, DrivenHistories, DrivenAlike, ShowsAfter, DrivenSafety, DrivenOpeningSafety}
+use Rattle.driver.specs.Stepped.{Report, Reports, Calls, Called, OfLibrary, Stepped}
+use Rattle.driver.specs.Driven.{savedModel, opened, after, Driven, done, next, Made, rests, makes, CutDriven, none, again, SameReport, DrivenHistories, DrivenSameBoard, ShowsAfter, DrivenSafety, DrivenOpeningSafety}
 use Rattle.driver.proofs.SteppedLaws.{part-reported, called-carried, stepped-device}
 
 -- ---- the program's state is the history's
@@ -71,10 +72,22 @@ opened-starts l I x T r t I₁ k =
       model = savedModel l I;
     }
 
+-- two openings of the same image with the same sizes are the same call
+openings-same : (l : Layout) (I : Image) (x : Session) (T U : Trace) → (length T ≡ length U) ⊎ ((openStatus l I T ≢ 11) × (openStatus l I U ≢ 11))
+    → SameCall (deviceAt x I) (callOpen l T) (callOpen l U)
+unfolding openOutcome outcomeOf
+openings-same l I x T U h = (refl, h)
+
 -- ---- reports
 
-same-report : (r q : Report) → r .number ≡ q .number → r .session ≡ q .session → r .ops ≡ q .ops → r ≡ q
-same-report r q n s o = λ i. record { number = n i; session = s i; ops = o i }
+-- reports of the same outcome are the same
+reports-same : (o p : Outcome) (T U : Trace) (r q : Report) (t u : Trace) → Reports o T r t → Reports p U q u → (o ≡ p) × (reported (o .ops) T ≡ reported (p .ops) U)
+    → SameReport r t q u
+reports-same o p T U r q t u g h e =
+    let n = g .0 ∙ ap (λ (x : Outcome). x .status) (e .0) ∙ sym (h .0) in
+    let s = g .1 ∙ ap (λ (x : Outcome). x .session) (e .0) ∙ sym (h .1) in
+    let m = g .2 ∙ ap (λ (x : Outcome). length (x .ops)) (e .0) ∙ sym (h .2) in
+    (λ i. record { number = n i; session = s i; ops = m i }, part-reported o T r t g ∙ e .1 ∙ sym (part-reported p U q u h))
 
 -- ---- programs whose calls are the library's, however they make them
 
@@ -137,24 +150,23 @@ module _ (C : Calls) (made : OfLibrary C) where
       )
 
   -- SAME BOARD, SAME TAPE
-  pub driven-alike : DrivenAlike C
-  driven-alike = record {
-    calls = λ I s b c same r q t u j k.
-        let g = made I s b r t j .1 in
-        let h = made I s c q u k .1 in
-        let e = same-board .calls (deviceAt s I) b c same in (
-          same-report r q (g .0 ∙ ap (λ (o : Outcome). o .status) (e .0) ∙ sym (h .0)) (g .1 ∙ ap (λ (o : Outcome). o .session) (e .0) ∙ sym (h .1))
-              (g .2 ∙ ap (λ (o : Outcome). length (o .ops)) (e .0) ∙ sym (h .2)),
-          part-reported _ (b .trace) r t g ∙ e .1 ∙ sym (part-reported _ (c .trace) q u h),
+  pub driven-same-board : DrivenSameBoard C
+  driven-same-board = record {
+    calls = λ d b c same r q t u j k.
+        reports-same (outcome d b) (outcome d c) (b .trace) (c .trace) r q t u (made _ _ b r t j .1) (made _ _ c q u k .1) (same-board .calls d b c same);
+    programs = λ l I T U x r t I₁ j y q u J₁ k long bs cs same s s′ d f.
+        let a = by-library j in
+        let b = by-library k in
+        let e = opened-starts l I x T r t I₁ a in
+        let h : (length T ≡ length U) ⊎ ((openStatus l I T ≢ 11) × (openStatus l I U ≢ 11)) =
+        ⊎-elim inl (λ z. inr (λ m. z .0 (opened-status l I x T r t (a .0) ∙ m), λ m. z .1 (opened-status l I y U q u (b .0) ∙ m))) long in (
+          reports-same (openOutcome l I T) (openOutcome l I U) T U r q t u (a .0 .1) (b .0 .1)
+              (same-board .calls (deviceAt x I) (callOpen l T) (callOpen l U) (openings-same l I x T U h)),
+          sym (ap (λ (z : State). run z bs) e ∙ driven-runs (opened l I r I₁) s bs d .1)
+              ∙ same-board .histories l I T U h bs cs (subst (λ (z : State). SameCalls z bs cs) (sym e) same)
+              ∙ ap (λ (z : State). run z cs) (opened-starts l I y U q u J₁ b) ∙ driven-runs (opened l I q J₁) s′ cs f .1,
         );
-    programs = λ l I T U h x r t I₁ j y q u J₁ k bs cs same s s′ d f.
-        sym (starts-runs l I x T r t I₁ j bs s d) ∙ same-board .histories l I T U h bs cs same ∙ starts-runs l I y U q u J₁ k cs s′ f;
   }
-    where
-      starts-runs : (l : Layout) (I : Image) (x : Session) (T : Trace) (r : Report) (t : Trace) (I₁ : Image) → Stepped C I x (callOpen l T) r t I₁
-          → (cs : List Call) (s : State) → Driven C (opened l I r I₁) cs s → run (start l I T) cs ≡ s
-      starts-runs l I x T r t I₁ k cs s d =
-          ap (λ (h : State). run h cs) (opened-starts l I x T r t I₁ (by-library k)) ∙ driven-runs (opened l I r I₁) s cs d .1
 
   -- so what holds wherever a history stands holds wherever the program does
   everywhere : (P : State → Type 0) → InEveryHistory P → (l : Layout) (I : Image) (T : Trace) → Bytes I → (x : Session) (r : Report) (t : Trace) (I₁ : Image)
@@ -189,8 +201,8 @@ called I s c r t k = k
 pub called-safety : DrivenSafety Called × DrivenOpeningSafety Called
 called-safety = (driven-safety Called called, driven-opening-safety Called called)
 
-pub called-alike : DrivenAlike Called
-called-alike = driven-alike Called called
+pub called-same-board : DrivenSameBoard Called
+called-same-board = driven-same-board Called called
 
 pub called-histories : DrivenHistories Called
 called-histories = driven-histories Called called

@@ -1,15 +1,14 @@
 -- Programs that open a container and then make call after call, each on the image and the session that the last one left:
--- their calls are histories (`DrivenHistories`), the same calls leave the same (`DrivenAlike`), and demands 2 and 3 hold of them
--- (`DrivenSafety`), for each way C of making
--- the calls: by the library (`Called`), or by the C interface (`Exported` of crate carried). Where such a program stands is
--- said in terms of the code: the images that stood, the sessions that were answered, the operations read from the traces and
--- carried out, and a reference model that is fed whether each call was served by its number. The call in which power failed,
--- the openings that were cut and the last one are calls that the code made too. Proved in proofs/Driven.antt. Assumes what
+-- their calls are histories (`DrivenHistories`), the same calls leave the same (`DrivenSameBoard`), and demands 2 and 3 hold of them
+-- (`DrivenSafety`), for each way C of making the calls: by the library (`Called`), or by the C interface (`Exported` of crate carried).
+-- Where such a program stands is said in terms of the code: the images that stood, the sessions that were answered, the operations read
+-- from the traces and carried out, and a reference model that is fed whether each call was served by its number. The call in which power
+-- failed, the openings that were cut and the last one are calls that the code made too. Proved in proofs/Driven.antt. Assumes what
 -- model's specs/Crash.antt does of the hardware, and that the image handed to the first opening was durable: then so is what
 -- that opening leaves (`OpeningSettles`; after a format `FormatSettles`, when a program starts again `FlushDurable`).
 use Prim.Native.Nat.{ℕ, _*_, _≤_, _<_}
 use mathlib.Core.Path.{_≡_}
-use mathlib.Core.Logic.{_≢_}
+use mathlib.Core.Logic.{_≢_, _⊎_}
 use mathlib.Core.List.{List, [], _∷_, _++_}
 use lib.ListN.{length, take}
 use Rattle.model.specs.declared.Layout.{Layout}
@@ -21,7 +20,7 @@ use Rattle.model.specs.Ops.{opNumbers, Ops, Trace}
 use Rattle.model.specs.Open.{openStatus}
 use Rattle.model.specs.Crash.{CrashImage}
 use Rattle.model.specs.Reference.{Page, Model, modelStep}
-use Rattle.model.specs.History.{Call, callOpen, State, outcome, run, start, Permitted, AllPermitted}
+use Rattle.model.specs.History.{Call, callOpen, Device, State, outcome, run, start, Permitted, AllPermitted}
 use Rattle.model.specs.Sisters.{SameCall, SameCalls}
 use Rattle.model.specs.CrashSafety.{Moment, between, during, MayShow, Reads}
 use Rattle.driver.specs.Stepped.{Report, Calls, carried, Stepped}
@@ -56,6 +55,10 @@ pub data Driven (C : Calls) : State → List Call → State → Type 0 where
   next : (s s″ : State) (c : Call) (cs : List Call) (r : Report) (t : Trace) (I′ : Image)
       → Stepped C (s .device .image) (s .device .session) c r t I′ → Driven C (after s c r t I′) cs s″ → Driven C s (c ∷ cs) s″
 
+-- two reports are the same, and so are the parts of the traces that they report
+abbrev pub SameReport : Report → Trace → Report → Trace → Type 0
+SameReport r t q u = (r ≡ q) × (take (opNumbers * r .ops) t ≡ take (opNumbers * q .ops) u)
+
 -- the crash falls between two steps, or after the first p operations of a call that the code makes where it stands and that
 -- reports more; with the operations of that call that were carried out
 pub data Made (C : Calls) (s : State) : Moment → Ops → Type 0 where
@@ -84,18 +87,20 @@ DrivenHistories C =
     × ((c : Call) (q : Report) (u : Trace) → C (s .device .image) (s .device .session) c q u
     → Permitted c × (q .number ≡ outcome (s .device) c .status))
 
--- same board, same tape, of the code: two programs that make the same calls, whatever stood on their traces
-pub record DrivenAlike (C : Calls) : Type 0 where
-  -- a call on the same image with the same session reports the same, and puts the same on the trace
-  pub calls : (I : Image) (s : Session) (b c : Call) → SameCall b c → (r q : Report) (t u : Trace) → C I s b r t → C I s c q u
-      → (r ≡ q) × (take (opNumbers * r .ops) t ≡ take (opNumbers * q .ops) u)
-  -- opened on the same image with the same sizes, they stand at the same place afterwards: image, session, all operations carried out, and
-  -- model
-  pub programs : (l : Layout) (I : Image) (T U : Trace) → length T ≡ length U
-      → (x : Session) (r : Report) (t : Trace) (I₁ : Image) → Stepped C I x (callOpen l T) r t I₁
+-- same board, same tape, of the code (model's `SameBoard`): two programs that make the same calls, whatever stood on their traces. It is
+-- not about crashes and assumes nothing
+pub record DrivenSameBoard (C : Calls) : Type 0 where
+  -- where they stand alike, a call reports the same, and puts the same on the trace
+  pub calls : (d : Device) (b c : Call) → SameCall d b c → (r q : Report) (t u : Trace) → C (d .image) (d .session) b r t → C (d .image) (d .session) c q u
+      → SameReport r t q u
+  -- opened on the same image with the same sizes, they report the same, and the calls that follow leave them at the same place: image,
+  -- session, all operations carried out, and model
+  pub programs : (l : Layout) (I : Image) (T U : Trace) (x : Session) (r : Report) (t : Trace) (I₁ : Image) → Stepped C I x (callOpen l T) r t I₁
       → (y : Session) (q : Report) (u : Trace) (J₁ : Image) → Stepped C I y (callOpen l U) q u J₁
-      → (bs cs : List Call) → SameCalls bs cs
-      → (s s′ : State) → Driven C (opened l I r I₁) bs s → Driven C (opened l I q J₁) cs s′ → s ≡ s′
+      → (length T ≡ length U) ⊎ ((r .number ≢ 11) × (q .number ≢ 11))
+      → (bs cs : List Call) → SameCalls (opened l I r I₁) bs cs
+      → (s s′ : State) → Driven C (opened l I r I₁) bs s → Driven C (opened l I q J₁) cs s′
+      → SameReport r t q u × (s ≡ s′)
 
 -- after the crash image H: any number of openings that are cut, which leave H′, and one that is not. It is served, and both
 -- reads of the image that it leaves give a page Q of which May holds; H′ are bytes, and the pages with which a program starts

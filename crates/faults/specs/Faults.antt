@@ -141,7 +141,7 @@ skippingStart l I = record {
 abbrev pub SkippedCopy : State → Type 0
 SkippedCopy s = CalledShowsOther (skippingOpened l111) s (during (write 0 0 aWord) 2)
 
--- ---- 4. a free backup segment judged by the inactive line
+-- ---- 4. whether a backup segment is free, and which is the new one, judged by the inactive line
 
 -- the right plan with the states of this line in the place of the active line's, and the operations of a write by it
 unfoldable pub inactivePlan : Session → Image → ℕ → Plan

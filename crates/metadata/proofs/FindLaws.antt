@@ -13,7 +13,7 @@ use Rattle.model.specs.Layout.{unpaired, ssMain}
 use Rattle.model.specs.Container.{Valid, isPaired, pairedBackup, newBackup}
 use Rattle.model.proofs.Laws.Range.{any-first}
 use Rattle.model.proofs.Laws.Container.{unpaired-none}
-use Rattle.model.proofs.Laws.NewBackup.{new-alone, new-settled}
+use Rattle.model.proofs.Laws.NewBackup.{new-alone, new-unused}
 use Rattle.metadata.specs.declared.Found.{Found}
 use Rattle.metadata.specs.declared.Found.the-variants.{Missing, Backup}
 use Rattle.metadata.specs.Find.{foundBelow}
@@ -75,4 +75,4 @@ module _ (l : Layout) (st pr : ℕ → ℕ) where
 
   pub second-search : l .backups ≤ alone → newBackup l st pr ≡ firstB (l .backups) (λ j. eqb (st (pr j)) ssMain)
   unfolding isPaired pairedBackup
-  second-search h = new-settled l st pr (is-paired l pr unpaired ∙ le-ltb _ _ h)
+  second-search h = new-unused l st pr (is-paired l pr unpaired ∙ le-ltb _ _ h)

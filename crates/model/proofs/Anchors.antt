@@ -1,5 +1,5 @@
--- Single rules of the specification, each on an instance that is small enough to be computed: closed numbers, a container of
--- one main segment, one backup segment and one block, an image of a few hundred bytes. They need the definitions alone, and no
+-- Single rules of the specification, each on an instance that is small enough to be computed: closed numbers, a container of a
+-- few segments of one block, an image of some hundred bytes. They need the definitions alone, and no
 -- law rests on them. The checker takes modules by name, this one before all laws: a definition that departs from its rule is
 -- refused here, with the two sides that then differ.
 use Prim.Native.Nat.{ℕ, suc, _+_, _*_, _/_, _≤_}
@@ -141,14 +141,14 @@ pub mark-copied : (I : Image) → length (copyDirty small I (dirtyWord (withChec
 unfolding withCheckpoint withDirty freshSession setBits setBit copyDirty persistCopy putBlock stores clwbs cat bit
 mark-copied I = refl
 
--- three main segments: the first in state 2, with backup segment 0; the others in state 1, the second with backup segment 1 if there is one;
--- by the inactive line all are in state 1. So backup segment 0 holds a checkpoint, though it would be free by the inactive line
+-- three main segments: the first in state 2, the others in state 1; by the inactive line all are in state 1. So the backup segment of the
+-- first holds a checkpoint, though it would be free by the inactive line
 abbrev taken : ℕ → List ℕ → Image
 taken backups pairs =
     container (layoutOf 3 backups 1) 0 (2 ∷ 1 ∷ 1 ∷ replicate 61 0) (1 ∷ 1 ∷ 1 ∷ replicate 61 0) (pairs ++ replicate 62 unpaired)
     (replicate (256 * (3 + backups)) 0)
 
--- with no other backup segment a write to the third main segment finds none free, and with backup segment 1 it takes that
+-- with no other backup segment a write to the third main segment finds none free, and with that of the second it takes that one
 pub none-free : (copyPlan (freshSession (layoutOf 3 1 1)) (taken 1 (0 ∷ unpaired ∷ [])) 2 ≡ NoneFree)
     × (copyPlan (freshSession (layoutOf 3 2 1)) (taken 2 (0 ∷ 1 ∷ [])) 2 ≡ NewBackup 1)
 unfolding copyPlan needsCopy dirtySegment freshSession bit isPaired anyFree isFree newBackup anyB firstB orNext container bytesOf stateLine wordOf littleEndian

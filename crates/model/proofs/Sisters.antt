@@ -2,21 +2,23 @@
 -- finished opening settles, openings alone are safe, the epoch counts the checkpoints.
 use Prim.Native.Nat.{ℕ, _+_}
 use mathlib.Core.Path.{_≡_, refl, sym, ap, _∙_, subst, subst₂}
+use mathlib.Core.Logic.{_≢_, _⊎_, inl, inr, ⊎-elim}
+use mathlib.Core.Bool.{Bool, true, false, cond}
 use mathlib.Core.List.{List, [], _∷_, _++_}
 use native.Mathlib.Omega.{arith}
 use lib.ListN.{length}
 use Rattle.model.specs.declared.Layout.{Layout}
 use Rattle.model.specs.declared.Session.{Session}
 use Rattle.model.specs.Words.{Image}
-use Rattle.model.specs.Status.{served}
-use Rattle.model.specs.Container.{committedEpoch, activeLine, checkpointBytes}
-use Rattle.model.specs.Session.{zeroSession}
+use Rattle.model.specs.Status.{Errors, firstError, served}
+use Rattle.model.specs.Container.{committedEpoch, activeLine, checkpointBytes, containerErrors}
+use Rattle.model.specs.Session.{freshSession, zeroSession, withCheckpoint, contextErrors}
 use Rattle.model.specs.Ops.{Ops, Trace, traceShort, replay}
-use Rattle.model.specs.Outcome.{Outcome}
+use Rattle.model.specs.Outcome.{Outcome, outcomeOf}
 use Rattle.model.specs.Replay.{replayOutcome, replayedOps}
 use Rattle.model.specs.Open.{recoveryOps, openStatus, openOutcome}
-use Rattle.model.specs.Write.{writeStatus, writeOutcome}
-use Rattle.model.specs.Checkpoint.{checkpointStatus, checkpointOutcome}
+use Rattle.model.specs.Write.{copyPlan, writeOps, writeSession, backupErrors, earlyErrors, writeStatus, writeOutcome}
+use Rattle.model.specs.Checkpoint.{checkpointOps, epochErrors, checkpointStatus, checkpointOutcome}
 use Rattle.model.specs.Reference.{CallArgs, openArgs, writeArgs, checkpointArgs, modelStep}
 use Rattle.model.specs.Crash.{CrashImage}
 use Rattle.model.specs.History.{Call, Device, State, answers, outcome, reported, playedOps, replayedImage, deviceStep, step, run, openedImage, start, AllPermitted}
@@ -43,16 +45,43 @@ reads-follow-model l I t b h cs permitted =
 
 -- ---- same board, same tape
 
--- a call looks at nothing of its trace but the length
-answers-same : (s : Session) (I : Image) (a : CallArgs) (t u : Trace) → length t ≡ length u → answers s I a t ≡ answers s I a u
-unfolding openOutcome openStatus writeOutcome writeStatus checkpointOutcome checkpointStatus traceShort
-answers-same s I (openArgs l) t u e = rw e
-answers-same s I (writeArgs w) t u e = rw e
-answers-same s I checkpointArgs t u e = rw e
+-- of two lists of refusals that differ in 11 at their end, neither of which gives 11, both give the same
+short-last : (es : Errors) (a b : Bool) → firstError (es ++ (11, a) ∷ []) ≢ 11 → firstError (es ++ (11, b) ∷ []) ≢ 11
+    → firstError (es ++ (11, a) ∷ []) ≡ firstError (es ++ (11, b) ∷ [])
+unfolding firstError
+short-last [] true b x y = absurd (x refl)
+short-last [] false true x y = absurd (y refl)
+short-last [] false false x y = refl
+short-last (e ∷ es) a b x y = go (e .1) x y (short-last es a b)
+  where
+    go : {m n : ℕ} (h : Bool) → cond h (e .0) m ≢ 11 → cond h (e .0) n ≢ 11 → (m ≢ 11 → n ≢ 11 → m ≡ n) → cond h (e .0) m ≡ cond h (e .0) n
+    go true x y f = refl
+    go false x y f = f x y
 
-outcomes-same : (d : Device) (b c : Call) → SameCall b c → outcome d b ≡ outcome d c
+-- a call looks at nothing of its trace but the length, and only to see whether it is too short
+module _ (s : Session) (I : Image) (t u : Trace) where
+  long-same : (a : CallArgs) → length t ≡ length u → answers s I a t ≡ answers s I a u
+  unfolding openOutcome openStatus writeOutcome writeStatus checkpointOutcome checkpointStatus traceShort
+  long-same (openArgs l) e = rw e
+  long-same (writeArgs w) e = rw e
+  long-same checkpointArgs e = rw e
+
+  enough-same : (a : CallArgs) → answers s I a t .status ≢ 11 → answers s I a u .status ≢ 11 → answers s I a t ≡ answers s I a u
+  unfolding openOutcome openStatus writeOutcome writeStatus checkpointOutcome checkpointStatus outcomeOf
+  enough-same (openArgs l) x y = ap (λ (e : ℕ). outcomeOf e zeroSession (freshSession l) (recoveryOps l I (activeLine I)))
+      (short-last (containerErrors l I) _ _ x y)
+  enough-same (writeArgs w) x y = ap (λ (e : ℕ). outcomeOf e s (writeSession s I w) (writeOps s I w))
+      (short-last (earlyErrors s I w ++ backupErrors (copyPlan s I (w .main))) _ _ x y)
+  enough-same checkpointArgs x y = ap (λ (e : ℕ). outcomeOf e s (withCheckpoint s) (checkpointOps s I))
+      (short-last (contextErrors s I ++ epochErrors I) _ _ x y)
+
+  answers-same : (a : CallArgs) → (length t ≡ length u) ⊎ ((answers s I a t .status ≢ 11) × (answers s I a u .status ≢ 11)) → answers s I a t ≡ answers s I a u
+  answers-same a = ⊎-elim (long-same a) (λ x. enough-same a (x .0) (x .1))
+
+outcomes-same : (d : Device) (b c : Call) → SameCall d b c → outcome d b ≡ outcome d c
 outcomes-same d b c (e, h) =
-    ap (λ (a : CallArgs). answers (d .session) (d .image) a (b .trace)) e ∙ answers-same (d .session) (d .image) (c .args) (b .trace) (c .trace) h
+    let at : outcome d b ≡ answers (d .session) (d .image) (c .args) (b .trace) = ap (λ (a : CallArgs). answers (d .session) (d .image) a (b .trace)) e in
+    at ∙ answers-same (d .session) (d .image) (b .trace) (c .trace) (c .args) (⊎-elim inl (λ x. inr (subst (λ (o : Outcome). o .status ≢ 11) at (x .0), x .1)) h)
 
 -- and reports the same, whatever stood on the trace
 reported-same : (O : Ops) (t u : Trace) → reported O t ≡ reported O u
@@ -66,7 +95,7 @@ image-same : (I : Image) (O : Ops) (t u : Trace) (p : ℕ) → replayedImage I O
 unfolding replayedImage
 image-same I O t u p = ap (λ (x : Trace). replayOutcome I x p .image) (reported-same O t u)
 
-step-same : (s : State) (b c : Call) → SameCall b c → step s b ≡ step s c
+step-same : (s : State) (b c : Call) → SameCall (s .device) b c → step s b ≡ step s c
 unfolding step deviceStep
 step-same s b c same =
     let d : Device = s .device in
@@ -80,24 +109,27 @@ step-same s b c same =
       model = modelStep (d .layout) (same .0 i) (served (o i .status)) (s .model);
     }
 
-run-same : (s : State) (bs cs : List Call) → SameCalls bs cs → run s bs ≡ run s cs
+run-same : (s : State) (bs cs : List Call) → SameCalls s bs cs → run s bs ≡ run s cs
 unfolding run
 run-same s [] [] same = refl
 run-same s [] (c ∷ cs) same = absurd same
 run-same s (b ∷ bs) [] same = absurd same
-run-same s (b ∷ bs) (c ∷ cs) same = ap (λ (x : State). run x bs) (step-same s b c (same .0)) ∙ run-same (step s c) bs cs (same .1)
+run-same s (b ∷ bs) (c ∷ cs) same = run-same (step s b) bs cs (same .1) ∙ ap (λ (x : State). run x cs) (step-same s b c (same .0))
 
-start-same : (l : Layout) (I : Image) (t u : Trace) → length t ≡ length u → start l I t ≡ start l I u
+opened-same : (l : Layout) (I : Image) (t u : Trace) → (length t ≡ length u) ⊎ ((openStatus l I t ≢ 11) × (openStatus l I u ≢ 11)) → openOutcome l I t ≡ openOutcome l I u
+unfolding openOutcome outcomeOf
+opened-same l I t u h = answers-same zeroSession I t u (openArgs l) h
+
+start-same : (l : Layout) (I : Image) (t u : Trace) → openOutcome l I t ≡ openOutcome l I u → start l I t ≡ start l I u
 unfolding start openedImage
-start-same l I t u h =
-    rw (answers-same zeroSession I (openArgs l) t u h, image-same I (openOutcome l I u .ops) t u (length (openOutcome l I u .ops))) refl
+start-same l I t u e = rw (e, image-same I (openOutcome l I u .ops) t u (length (openOutcome l I u .ops))) refl
 
 pub same-board : SameBoard
 same-board = record {
   calls = λ d b c same.
       let o = outcomes-same d b c same in
       (o, ap (λ (x : Outcome). reported (x .ops) (b .trace)) o ∙ reported-same (outcome d c .ops) (b .trace) (c .trace));
-  histories = λ l I t u h bs cs same. ap (λ (s : State). run s bs) (start-same l I t u h) ∙ run-same (start l I u) bs cs same;
+  histories = λ l I t u h bs cs same. run-same (start l I t) bs cs same ∙ ap (λ (s : State). run s cs) (start-same l I t u (opened-same l I t u h));
 }
 
 -- ---- openings

@@ -1,35 +1,41 @@
 -- Segment states and pairs over histories (specs/States.antt), proved: each call makes the states and pairs that it should (`Argument`), and
 -- a segment that is empty stays empty until it is written.
 use Prim.Native.Nat.{ℕ, _<_}
-use mathlib.Core.Path.{_≡_, refl, sym, ap, ap₂, _∙_}
+use mathlib.Core.Path.{_≡_, refl, sym, ap, ap₂, _∙_, subst}
+use mathlib.Core.Logic.{_≢_}
 use mathlib.Core.Bool.{Bool, true, false, cond, _&&_, and-true, and-false}
 use mathlib.Core.List.{List, [], _∷_}
 use native.Mathlib.Omega.{arith}
+use native.Mathlib.Decide.{ℕ-discrete}
 use lib.Dec.{eqb}
-use borrow.Author.Tests.{eqb-false, ne-eqb}
+use borrow.Author.Tests.{eqb-false, eq-eqb, ne-eqb, not-true}
 use Rattle.model.specs.declared.Layout.{Layout}
 use Rattle.model.specs.declared.Session.{Session}
 use Rattle.model.specs.Words.{Image, Bytes}
 use Rattle.model.specs.Layout.{layoutOf}
 use Rattle.model.specs.Status.{served}
-use Rattle.model.specs.Container.{activeState, activeLine, backupToMain, byState, checkpointLocated}
+use Rattle.model.specs.Container.{activeState, activeLine, backupToMain, Valid, newBackup, byState, checkpointLocated}
 use Rattle.model.specs.Session.{dirtySegment, freshSession, zeroSession, withCheckpoint}
 use Rattle.model.specs.Ops.{Trace, replay}
 use Rattle.model.specs.Outcome.{outcomeOf}
 use Rattle.model.specs.Open.{recoveryOps, openStatus, openOutcome}
-use Rattle.model.specs.Write.{needsCopy, spanBlocks, writeSession, writeStatus, writeOutcome}
+use Rattle.model.specs.Write.{WriteArgs, needsCopy, needsBackup, spanBlocks, writeSession, writeStatus, writeOutcome}
 use Rattle.model.specs.Checkpoint.{nextState, checkpointStatus, checkpointOutcome}
 use Rattle.model.specs.Reads.{readStatus, noPart, locatedPart, partOf, checkpointPart, checkpointBlock}
 use Rattle.model.specs.Reference.{CallArgs, openArgs, writeArgs, checkpointArgs}
-use Rattle.model.specs.History.{Call, State, answers, outcome, deviceStep, step, run, openedImage, start, AllPermitted}
-use Rattle.model.specs.States.{servedState, StatesFollow, PairsFollow, isWriteTo, writesTo, Empty, EmptyStays}
-use Rattle.model.proofs.Laws.Range.{no-one}
+use Rattle.model.specs.History.{Call, callWrite, Device, State, answers, outcome, deviceStep, step, run, openedImage, start, AllPermitted}
+use Rattle.model.specs.States.{servedState, StatesFollow, PairsFollow, TakenUnpaired, isWriteTo, writesTo, Empty, EmptyStays}
+use Rattle.model.specs.NewBackup.{TakenNew}
+use Rattle.model.proofs.Laws.Range.{and-right, no-one}
+use Rattle.model.proofs.Laws.Container.{unpaired-none}
+use Rattle.model.proofs.Laws.Open.{zero-write}
+use Rattle.model.proofs.Laws.NewBackup.{new-backup-exactly}
 use Rattle.model.proofs.Laws.Session.{dirty-segment-other, checkpoint-segment, fresh-segment}
 use Rattle.model.proofs.Laws.Checkpoint.{next-clean}
 use Rattle.model.proofs.Argument.Recovery.{meta}
 use Rattle.model.proofs.Argument.Recovery.Opening.{open-clear}
 use Rattle.model.proofs.Argument.View.{low-states, low-pairs}
-use Rattle.model.proofs.Argument.Stands.{Stands}
+use Rattle.model.proofs.Argument.Stands.{Stands, session-known}
 use Rattle.model.proofs.Argument.Openings.{opened-is, starting}
 use Rattle.model.proofs.CrashSafety.{argument, history-stands}
 
@@ -59,6 +65,47 @@ pairs-follow = record {
       ∙ low-pairs I [] (recoveryOps l I (activeLine I)) (λ k p q. open-clear l I _ r k (meta (omega arith))) j m;
   calls = λ l I t b h cs permitted c p j m. argument _ (history-stands l I t b h cs permitted) c p .pairs j m;
 }
+
+module _ (s : State) (st : Stands s) (w : WriteArgs) (t : Trace) (small : Bytes (w .bytes)) (h : outcome (s .device) (callWrite w t) .status ≡ 0)
+    (needs : needsBackup (s .device .session) (s .device .image) (w .main) ≡ true) where
+  abbrev d : Device
+  d = s .device
+
+  abbrev pr : ℕ → ℕ
+  pr = backupToMain (d .image)
+
+  -- the session is that of the last served call, so its sizes are the module's
+  sized : d .session .layout ≡ d .layout
+  unfolding writeOutcome outcomeOf
+  sized = ap (λ (x : Session). x .layout) (session-known s st (λ x. writeStatus x (d .image) w t) (zero-write (d .image) w t) (λ x. omega (arith, h, x))) ∙ st .sized
+
+  valid : Valid (d .layout) (activeState (d .image)) pr
+  valid = subst (λ (J : Image). Valid (d .layout) (activeState J) (backupToMain J)) (sym (st .image)) (st .inv .recovers .holds .valid)
+
+  -- the main segment that is written has no backup segment
+  bare : (k : ℕ) → k < d .layout .backups → pr k ≢ w .main
+  unfolding needsBackup
+  bare = subst (λ (l : Layout). (k : ℕ) → k < l .backups → pr k ≢ w .main) sized
+      (unpaired-none (d .session .layout) pr (w .main) (not-true _ (and-right (needsCopy (d .session) (d .image) (w .main)) _ needs)))
+
+  taken-unpaired-here : (j : ℕ) → TakenNew (d .layout) (activeState (d .image)) pr j → pr j < d .layout .mains
+      → (k : ℕ) → k < d .layout .backups → backupToMain (step s (callWrite w t) .device .image) k ≢ pr j
+  taken-unpaired-here j taken main k b e = go (ℕ-discrete k j)
+    where
+      new : (newBackup (d .session .layout) (activeState (d .image)) pr ≡ j) × (j < d .layout .backups)
+      new = let n = new-backup-exactly (d .layout) (activeState (d .image)) pr j .1 taken in (ap (λ (l : Layout). newBackup l (activeState (d .image)) pr) sized ∙ n .0, n .1)
+
+      -- the pair of k afterwards
+      after : cond (eqb k j) (w .main) (pr k) ≡ pr j
+      after =
+          sym (rw (eq-eqb _ _ h, needs, new .0) at (argument s st (callWrite w t) small .pairs k (omega (arith, b, st .inv .recovers .fit .sizes .1)))) ∙ e
+
+      go : Dec (k ≡ j) → ⊥
+      go (yes q) = bare j (new .1) (sym (rw (eq-eqb k j q) at after))
+      go (no q) = q (sym (valid .once j k (new .1) b main (sym (rw (ne-eqb k j q) at after))))
+
+pub taken-unpaired : TakenUnpaired
+taken-unpaired l I t b h cs permitted w u small ok needs = taken-unpaired-here _ (history-stands l I t b h cs permitted) w u small ok needs
 
 -- ---- empty stays empty
 

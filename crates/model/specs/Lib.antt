@@ -26,7 +26,8 @@ pub mod Crash
 pub mod CrashSafety
 pub mod Sisters
 pub mod FlushDurable
--- further statements: what no call reads, which backup segment a write takes, what it meets, the epoch, segment states, free backup segments, lengths of a trace, the crash relation taken apart
+-- further statements: what no call reads, which backup segment a write takes, what it meets, the epoch, segment states and pairs, free
+-- backup segments, lengths of a trace, the crash relation taken apart
 pub mod Unread
 pub mod NewBackup
 pub mod Span

@@ -1,18 +1,19 @@
--- Which backup segment a write takes where it needs a new one (SPECIFICATION 3.4, 10.3), in plain words of states and pairs. The contract of
--- write cites `writeOutcome`, which is made by `newBackup` (Container.antt) and `copyPlan` (Write.antt); here stands what these say. Proved
--- in proofs/Laws/NewBackup.antt. Assumes nothing.
+-- Which backup segment a write takes where it needs a new one (SPECIFICATION 3.3, 3.4, 10.3), in plain words of states and pairs. The
+-- contract of write cites `writeOutcome`, which is made by `newBackup` (Container.antt) and `copyPlan` (Write.antt); here stands what these
+-- say. Proved in proofs/Laws/NewBackup.antt. Assumes nothing.
 use Prim.Native.Nat.{ℕ, _<_}
 use mathlib.Core.Path.{_≡_}
 use mathlib.Core.Logic.{_↔_, _≢_, _⊎_}
-use mathlib.Core.Bool.{true}
-use lib.ListN.{take}
+use mathlib.Core.Bool.{false}
+use mathlib.Core.List.{[], _∷_, _++_}
 use Rattle.model.specs.declared.Layout.{Layout}
 use Rattle.model.specs.declared.Session.{Session}
 use Rattle.model.specs.Words.{Image}
-use Rattle.model.specs.Layout.{unpaired, ssMain}
+use Rattle.model.specs.Layout.{unpaired, ssMain, mainAt, backupAt}
 use Rattle.model.specs.Container.{activeState, backupToMain, Valid, Free, newBackup}
-use Rattle.model.specs.Ops.{Trace}
-use Rattle.model.specs.Write.{WriteArgs, needsBackup, pairOps, writeOps, writeStatus}
+use Rattle.model.specs.Session.{dirtySegment}
+use Rattle.model.specs.Ops.{sfence, Trace, copySegment}
+use Rattle.model.specs.Write.{WriteArgs, pairOps, stateOps, spanOps, writeOps, writeStatus}
 
 -- j is the lowest number below n of which P holds
 abbrev pub Lowest : ℕ → (ℕ → Type 0) → ℕ → Type 0
@@ -28,7 +29,7 @@ TakenNew l st pr j =
     Lowest (l .backups) (λ k. pr k ≡ unpaired) j
     ⊎ (AllPaired l pr × Lowest (l .backups) (λ k. st (pr k) ≡ ssMain) j)
 
--- the definition is these two sentences, whatever the states and pairs
+-- the definition is these two sentences, whatever the states and pairs; where they name none, it is no backup segment
 abbrev pub NewBackupExactly : Type 0
 NewBackupExactly =
     (l : Layout) (st pr : ℕ → ℕ) (j : ℕ) → ((newBackup l st pr ≡ j) × (j < l .backups)) ↔ TakenNew l st pr j
@@ -43,9 +44,14 @@ pub record NewBackupFree (l : Layout) (st pr : ℕ → ℕ) : Type 0 where
 abbrev pub FreeWhereValid : Type 0
 FreeWhereValid = (l : Layout) (st pr : ℕ → ℕ) → Valid l st pr → NewBackupFree l st pr
 
--- a served write that needs a new backup segment takes that one: its first operations are its pair byte stored and written back
+-- a served write to a main segment that is not dirty, in state 1 and without a backup segment takes that one: its operations are the pair
+-- byte stored and written back, all blocks copied there, a fence, state 2, a fence, and the span
 abbrev pub WriteTakesNew : Type 0
 WriteTakesNew =
-    (s : Session) (I : Image) (w : WriteArgs) (t : Trace) → writeStatus s I w t ≡ 0 → needsBackup s I (w .main) ≡ true
+    (s : Session) (I : Image) (w : WriteArgs) (t : Trace) → writeStatus s I w t ≡ 0
+    → dirtySegment s (w .main) ≡ false → activeState I (w .main) ≡ ssMain
+    → ((k : ℕ) → k < s .layout .backups → backupToMain I k ≢ w .main)
     → (j : ℕ) × TakenNew (s .layout) (activeState I) (backupToMain I) j × Free (s .layout) (activeState I) (backupToMain I) j
-    × (take 2 (writeOps s I w) ≡ pairOps I (w .main) j)
+    × (writeOps s I w
+    ≡ (pairOps I (w .main) j ++ copySegment (s .layout) I (mainAt (s .layout) (w .main)) (backupAt (s .layout) j)
+    ++ sfence ∷ stateOps I (w .main) ++ sfence ∷ []) ++ spanOps (s .layout) I w)

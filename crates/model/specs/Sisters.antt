@@ -1,9 +1,10 @@
 -- Demand 2 over a whole history (`ReadsFollowModel`); that the same calls on the same board leave the same tape and the same bytes
 -- (`SameBoard`); and sisters of demand 3: replay serves every trace that a call writes, a finished opening leaves nothing open, openings
--- alone are safe. Proved in proofs/Sisters.antt, `ReplayServesAll` in proofs/Laws/Replay.antt. Assumes what specs/Crash.antt does of the hardware, where a crash is spoken of.
+-- alone are safe. Proved in proofs/Sisters.antt, `ReplayServesAll` in proofs/Laws/Replay.antt. Assumes what specs/Crash.antt does of the
+-- hardware, where a crash is spoken of.
 use Prim.Native.Nat.{ℕ, _%_}
 use mathlib.Core.Path.{_≡_}
-use mathlib.Core.Logic.{_≢_}
+use mathlib.Core.Logic.{_≢_, _⊎_}
 use mathlib.Core.List.{List, [], _∷_}
 use lib.ListN.{length, take}
 use Rattle.model.specs.declared.Layout.{Layout}
@@ -14,32 +15,36 @@ use Rattle.model.specs.Ops.{Trace}
 use Rattle.model.specs.Replay.{replayOutcome}
 use Rattle.model.specs.Open.{openStatus, openOutcome}
 use Rattle.model.specs.Crash.{CrashImage}
-use Rattle.model.specs.History.{Call, Device, outcome, reported, calledOps, run, openedImage, start}
+use Rattle.model.specs.History.{Call, Device, State, outcome, reported, calledOps, step, run, openedImage, start}
 use Rattle.model.specs.CrashSafety.{Reads, Recovers, InEveryHistory, CutOpenings}
 
 -- demand 2: after every call of a history the two reads give the two pages of the reference model
 abbrev pub ReadsFollowModel : Type 0
 ReadsFollowModel = InEveryHistory (λ s. Reads (s .device .layout) (s .device .image) (s .model .working) (s .model .checkpoint))
 
--- the same call, whatever stands on its trace, which has the same length; and lists of such
-abbrev pub SameCall : Call → Call → Type 0
-SameCall b c = (b .args ≡ c .args) × (length (b .trace) ≡ length (c .trace))
+-- the same arguments, whatever stands on the two traces: these have the same length, or neither is too short
+abbrev pub SameCall : Device → Call → Call → Type 0
+SameCall d b c =
+    (b .args ≡ c .args)
+    × ((length (b .trace) ≡ length (c .trace)) ⊎ ((outcome d b .status ≢ 11) × (outcome d c .status ≢ 11)))
 
-abbrev pub SameCalls : List Call → List Call → Type 0
-SameCalls [] [] = Unit {0}
-SameCalls [] (c ∷ cs) = ⊥
-SameCalls (b ∷ bs) [] = ⊥
-SameCalls (b ∷ bs) (c ∷ cs) = SameCall b c × SameCalls bs cs
+-- call after call, from the state s on
+abbrev pub SameCalls : State → List Call → List Call → Type 0
+SameCalls s [] [] = Unit {0}
+SameCalls s [] (c ∷ cs) = ⊥
+SameCalls s (b ∷ bs) [] = ⊥
+SameCalls s (b ∷ bs) (c ∷ cs) = SameCall (s .device) b c × SameCalls (step s b) bs cs
 
 -- same board, same tape (SPECIFICATION 3.4)
 pub record SameBoard : Type 0 where
   -- wherever a module stands, the same call answers the same and reports the same part of the trace
-  pub calls : (d : Device) (b c : Call) → SameCall b c
+  pub calls : (d : Device) (b c : Call) → SameCall d b c
       → (outcome d b ≡ outcome d c) × (reported (outcome d b .ops) (b .trace) ≡ reported (outcome d c .ops) (c .trace))
-  -- two histories that start at the same image with the same sizes, and have the same calls, stand at the same place after them: image,
+  -- two histories that start with the same opening of the same image, and have the same calls, stand at the same place after them: image,
   -- session, all operations played, and model
-  pub histories : (l : Layout) (I : Image) (t u : Trace) → length t ≡ length u → (bs cs : List Call) → SameCalls bs cs
-      → run (start l I t) bs ≡ run (start l I u) cs
+  pub histories : (l : Layout) (I : Image) (t u : Trace)
+      → (length t ≡ length u) ⊎ ((openStatus l I t ≢ 11) × (openStatus l I u ≢ 11))
+      → (bs cs : List Call) → SameCalls (start l I t) bs cs → run (start l I t) bs ≡ run (start l I u) cs
 
 -- every operation that a call writes is well formed, whatever the image and the session: replay serves the reported part
 -- and plays all of it, or the first p where it is stopped there; so it is for openings before, in and after a history

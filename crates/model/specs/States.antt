@@ -1,8 +1,9 @@
--- What the calls of a history make of the segment states (SPECIFICATION 11.2, 11.6) and of the pairs (3.4), and that a main segment without
--- a checkpoint stays empty until it is written. Proved in proofs/States.antt. Assumes nothing.
+-- What the calls of a history make of the segment states (SPECIFICATION 11.2, 11.6) and of the pairs (3.3, 10.7), and that a main segment
+-- without a checkpoint stays empty until it is written. Proved in proofs/States.antt. Assumes nothing.
 use Prim.Native.Nat.{ℕ, _+_, _<_}
 use mathlib.Core.Path.{_≡_}
-use mathlib.Core.Bool.{Bool, false, cond, _&&_}
+use mathlib.Core.Logic.{_≢_}
+use mathlib.Core.Bool.{Bool, true, false, cond, _&&_}
 use mathlib.Core.List.{List, [], _∷_}
 use lib.Dec.{eqb}
 use Rattle.model.specs.declared.Layout.{Layout}
@@ -15,12 +16,13 @@ use Rattle.model.specs.Container.{activeState, backupToMain, newBackup}
 use Rattle.model.specs.Session.{dirtySegment}
 use Rattle.model.specs.Ops.{Trace}
 use Rattle.model.specs.Open.{openStatus}
-use Rattle.model.specs.Write.{needsCopy, needsBackup}
+use Rattle.model.specs.Write.{WriteArgs, needsCopy, needsBackup}
 use Rattle.model.specs.Checkpoint.{nextState}
 use Rattle.model.specs.Reads.{checkpointBlock}
 use Rattle.model.specs.Reference.{CallArgs, openArgs, writeArgs, checkpointArgs}
-use Rattle.model.specs.History.{Call, Device, State, outcome, step, run, openedImage, Permitted, AllPermitted}
+use Rattle.model.specs.History.{Call, callWrite, Device, State, outcome, step, run, openedImage, Permitted, AllPermitted}
 use Rattle.model.specs.CrashSafety.{InEveryHistory}
+use Rattle.model.specs.NewBackup.{TakenNew}
 
 -- the state of main segment i after a served call: an opening keeps it, a write turns that of the segment which it copies to 2,
 -- a checkpoint makes the next states
@@ -50,6 +52,7 @@ servedPair s I (writeArgs w) j =
     cond (needsBackup s I (w .main) && eqb j (newBackup (s .layout) (activeState I) (backupToMain I))) (w .main) (backupToMain I j)
 servedPair s I checkpointArgs j = backupToMain I j
 
+-- and after any call: one that is refused keeps it
 abbrev pub pairAfter : Device → Call → ℕ → ℕ
 pairAfter d c j = cond (served (outcome d c .status)) (servedPair (d .session) (d .image) (c .args) j) (backupToMain (d .image) j)
 
@@ -59,6 +62,16 @@ pub record PairsFollow : Type 0 where
       → (j : ℕ) → j < most → backupToMain (openedImage l I t) j ≡ backupToMain I j
   pub calls : InEveryHistory (λ s.
       (c : Call) → Permitted c → (j : ℕ) → j < most → backupToMain (step s c .device .image) j ≡ pairAfter (s .device) c j)
+
+-- a served write that needs a new backup segment and takes that of another main segment leaves this one without, so that its next copy is
+-- a whole one
+abbrev pub TakenUnpaired : Type 0
+TakenUnpaired = InEveryHistory (λ s.
+    let I : Image = s .device .image in
+    (w : WriteArgs) (t : Trace) → Bytes (w .bytes) → outcome (s .device) (callWrite w t) .status ≡ 0
+    → needsBackup (s .device .session) I (w .main) ≡ true
+    → (j : ℕ) → TakenNew (s .device .layout) (activeState I) (backupToMain I) j → backupToMain I j < s .device .layout .mains
+    → (k : ℕ) → k < s .device .layout .backups → backupToMain (step s (callWrite w t) .device .image) k ≢ backupToMain I j)
 
 -- ---- empty stays empty
 

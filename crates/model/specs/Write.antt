@@ -35,7 +35,7 @@ needsCopy s I i = not (dirtySegment s i) && eqb (activeState I i) ssMain
 unfoldable pub needsBackup : Session → Image → ℕ → Bool
 needsBackup s I i = needsCopy s I i && not (isPaired (s .layout) (backupToMain I) i)
 
--- the plan of the copy: none; to its own backup segment; to a new one; or none is free
+-- the plan of the copy: none; to its own backup segment; to the new one (SPECIFICATION 3.4); or none is free
 unfoldable pub copyPlan : Session → Image → ℕ → Plan
 copyPlan s I i =
     cond (needsCopy s I i)
@@ -67,8 +67,8 @@ pairOps I i j = storeByte I (pairsAt + j) i ∷ clwb pairsAt ∷ []
 unfoldable pub copyDirty : Layout → Image → ℕ → ℕ → ℕ → Ops
 copyDirty l I word i j = eachDirty word (l .blocks) (λ b. persistCopy I (mainAt l i + blockSize * b) (backupAt l j + blockSize * b))
 
--- the bytes of main segment i come to stand in the plan's backup segment too: in its own by the dirty blocks, in a new one
--- by its pair byte and all blocks
+-- the bytes of main segment i come to stand in the plan's backup segment too: in its own by the dirty blocks, in the new
+-- one by its pair byte and all blocks
 unfoldable pub backupOps : Layout → Image → ℕ → ℕ → Plan → Ops
 backupOps l I word i NoCopy = []
 backupOps l I word i (OwnBackup j) = copyDirty l I word i j

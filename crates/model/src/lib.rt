@@ -176,8 +176,8 @@ pub enum Located {
     At(u64),
 }
 
-// What a write does before its stores: no copy; a copy to the backup segment that the main segment has; a copy to a new
-// one; or none is free, and the write is refused.
+// What a write does before its stores: no copy; a copy to the backup segment that the main segment has; a copy to the
+// new one; or none is free, and the write is refused.
 pub enum Plan {
     NoCopy,
     OwnBackup(u64),

@@ -96,8 +96,8 @@ pub struct Written {
 /// Unpaired.
 const NO: u8 = UNPAIRED;
 
-/// The sheet of section 17.6, and one that it leaves out: a write that must take
-/// an unpaired spare though a lower one could be taken from a level.
+/// The sheet of section 17.6, and one whose text shows too that an unpaired spare
+/// comes before a lower one which could be taken from a level.
 pub fn sheets() -> [Written; 2] {
     [
         Written {
@@ -107,12 +107,12 @@ pub fn sheets() -> [Written; 2] {
 step=1 write=0 orders=1 save=- orders=0 epoch=0
 step=2 write=0 orders=1 save=- orders=0 epoch=0
 step=3 write=0 orders=1 save=0 orders=26 epoch=1
-step=4 write=0 orders=43 save=- orders=0 epoch=1
-step=5 write=0 orders=43 save=0 orders=26 epoch=2
-step=6 write=0 orders=43 save=- orders=0 epoch=2
-step=7 write=0 orders=43 save=- orders=0 epoch=2
-step=8 write=9 orders=0 save=0 orders=26 epoch=3
-step=9 write=0 orders=43 save=- orders=0 epoch=3
+step=4 write=0 orders=43 save=0 orders=26 epoch=2
+step=5 write=0 orders=43 save=0 orders=26 epoch=3
+step=6 write=0 orders=43 save=- orders=0 epoch=3
+step=7 write=0 orders=43 save=- orders=0 epoch=3
+step=8 write=9 orders=0 save=0 orders=26 epoch=4
+step=9 write=0 orders=43 save=- orders=0 epoch=4
 ",
             pairs: &[[NO, NO], [NO, NO], [NO, NO], [1, NO], [1, 0], [2, 0], [2, 1], [2, 1], [0, 1]],
         },

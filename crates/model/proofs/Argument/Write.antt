@@ -92,7 +92,7 @@ module _ (O : Ops) (I₀ : Image) (s : Session) (P W : Contents) (held : Bytes I
       go true d = inv .moved i d q
       go false d = true≢false (sym (both (ap not d) (rw q refl)) ∙ e)
 
-  -- the backup segment that is taken: its own, or a free one
+  -- the backup segment that is taken: its own, or the new one
   givable-new : (j : ℕ) → needsCopy s I i ≡ true → isPaired l (backupToMain I) i ≡ false → Free l (activeState I) (backupToMain I) j → Givable l (activeState I) (backupToMain I) i j
   givable-new j e q f = record {
     main = ok .main;

@@ -10,11 +10,11 @@ use Rattle.model.specs.declared.Layout.{Layout}
 use Rattle.model.specs.Range.{anyB, firstB}
 use Rattle.model.specs.Layout.{unpaired, ssMain}
 use Rattle.model.specs.Container.{Valid, Free, anyFree, newBackup}
-use Rattle.model.specs.Write.{pairOps, backupOps, copyOnWriteOps, writeOps, writeStatus}
+use Rattle.model.specs.Write.{backupOps, copyOnWriteOps, writeOps, writeStatus}
 use Rattle.model.specs.NewBackup.{Lowest, AllPaired, TakenNew, NewBackupExactly, FreeWhereValid, WriteTakesNew}
 use Rattle.model.proofs.Laws.Range.{same-test, any-at, any-none, first-found, first-some, first-before, any-first}
 use Rattle.model.proofs.Laws.Container.{any-free, container-then}
-use Rattle.model.proofs.Laws.Write.{plan-new, served-free}
+use Rattle.model.proofs.Laws.Write.{backup-needed, plan-new, served-free}
 
 -- ---- the lowest
 
@@ -46,17 +46,17 @@ module _ (l : Layout) (st pr : ℕ → ℕ) where
   abbrev alone : ℕ → Bool
   alone j = eqb (pr j) unpaired
 
-  abbrev settled : ℕ → Bool
-  settled j = eqb (st (pr j)) ssMain
+  abbrev unused : ℕ → Bool
+  unused j = eqb (st (pr j)) ssMain
 
   -- the definition in its two cases
   pub new-alone : anyB (l .backups) alone ≡ true → newBackup l st pr ≡ firstB (l .backups) alone
   unfolding newBackup
   new-alone e = rw e
 
-  pub new-settled : anyB (l .backups) alone ≡ false → newBackup l st pr ≡ firstB (l .backups) settled
+  pub new-unused : anyB (l .backups) alone ≡ false → newBackup l st pr ≡ firstB (l .backups) unused
   unfolding newBackup
-  new-settled e = rw e
+  new-unused e = rw e
 
   all-paired : anyB (l .backups) alone ≡ false → AllPaired l pr
   all-paired e k b = eqb-false _ _ (any-none (l .backups) alone e k b)
@@ -68,9 +68,9 @@ module _ (l : Layout) (st pr : ℕ → ℕ) where
   taken-alone : anyB (l .backups) alone ≡ true → TakenNew l st pr (newBackup l st pr)
   taken-alone e = rw (new-alone e) (inl (lowest-says (l .backups) pr unpaired _ (first-lowest (l .backups) alone e)))
 
-  taken-settled : anyB (l .backups) alone ≡ false → anyB (l .backups) settled ≡ true → TakenNew l st pr (newBackup l st pr)
-  taken-settled e f =
-      rw (new-settled e) (inr (all-paired e, lowest-says (l .backups) (λ k. st (pr k)) ssMain _ (first-lowest (l .backups) settled f)))
+  taken-unused : anyB (l .backups) alone ≡ false → anyB (l .backups) unused ≡ true → TakenNew l st pr (newBackup l st pr)
+  taken-unused e f =
+      rw (new-unused e) (inr (all-paired e, lowest-says (l .backups) (λ k. st (pr k)) ssMain _ (first-lowest (l .backups) unused f)))
 
   below : (j : ℕ) → TakenNew l st pr j → j < l .backups
   below j t = ⊎-elim (λ x. x .0) (λ x. x .1 .0) t
@@ -81,16 +81,16 @@ module _ (l : Layout) (st pr : ℕ → ℕ) where
       go : (a : Bool) → anyB (l .backups) alone ≡ a → newBackup l st pr ≡ j
       go true e = new-alone e
           ∙ ⊎-elim (λ x. lowest-first (l .backups) alone j (lowest-tests (l .backups) pr unpaired j x)) (λ x. absurd (not-all e (x .0))) t
-      go false e = new-settled e
+      go false e = new-unused e
           ∙ ⊎-elim (λ x. absurd (all-paired e j (x .0) (x .1)))
-          (λ x. lowest-first (l .backups) settled j (lowest-tests (l .backups) (λ k. st (pr k)) ssMain j (x .1))) t
+          (λ x. lowest-first (l .backups) unused j (lowest-tests (l .backups) (λ k. st (pr k)) ssMain j (x .1))) t
 
   new-taken : newBackup l st pr < l .backups → TakenNew l st pr (newBackup l st pr)
   new-taken b = go (anyB (l .backups) alone) refl
     where
       go : (a : Bool) → anyB (l .backups) alone ≡ a → TakenNew l st pr (newBackup l st pr)
       go true e = taken-alone e
-      go false e = taken-settled e (any-first (l .backups) settled ∙ lt-ltb _ _ (subst (λ (n : ℕ). n < l .backups) (new-settled e) b))
+      go false e = taken-unused e (any-first (l .backups) unused ∙ lt-ltb _ _ (subst (λ (n : ℕ). n < l .backups) (new-unused e) b))
 
   -- ---- in valid metadata
 
@@ -114,7 +114,7 @@ module _ (l : Layout) (st pr : ℕ → ℕ) where
       where
         go : (a : Bool) → anyB (l .backups) alone ≡ a → TakenNew l st pr (newBackup l st pr)
         go true e = taken-alone e
-        go false e = taken-settled e (any-at (l .backups) settled j (f .0) (eq-eqb _ _ (paired-free j (f .0) (all-paired e j (f .0)) .0 f)))
+        go false e = taken-unused e (any-at (l .backups) unused j (f .0) (eq-eqb _ _ (paired-free j (f .0) (all-paired e j (f .0)) .0 f)))
 
     -- where some backup segment is free, the new one is
     pub new-free : anyFree l st pr ≡ true → Free l st pr (newBackup l st pr)
@@ -138,8 +138,9 @@ free-where-valid l st pr v = record {
 }
 
 pub write-takes-new : WriteTakesNew
-unfolding writeOps copyOnWriteOps backupOps pairOps writeStatus
-write-takes-new s I w t h n =
+unfolding writeOps copyOnWriteOps backupOps writeStatus
+write-takes-new s I w t h clean one bare =
+    let n = backup-needed s I (w .main) clean one bare in
     let some = served-free s I w t h n in
     let f = any-free (s .layout) _ _ .0 some in
     let v = container-then (s .layout) I _ h .0 .valid in

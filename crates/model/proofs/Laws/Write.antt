@@ -1,6 +1,7 @@
 -- The plan of a write's copy, what it says of refusal 9, and what a span says that 8 does not refuse.
 use Prim.Native.Nat.{ℕ, _+_, _-_, _*_, _≤_, _<_}
 use mathlib.Core.Path.{_≡_, refl, sym, _∙_}
+use mathlib.Core.Logic.{_≢_}
 use mathlib.Core.Bool.{Bool, true, false, not, cond, _&&_, true≢false, _||_}
 use native.Mathlib.Omega.{arith}
 use borrow.Author.Tests.{leb-false, ltb-false, eqb-false, eqb-true, not-true, not-false}
@@ -16,6 +17,7 @@ use Rattle.model.specs.declared.Layout.{Layout}
 use Rattle.model.specs.Layout.{blockSize}
 use Rattle.model.specs.Session.{dirtySegment}
 use Rattle.model.proofs.Laws.Status.{served-condition}
+use Rattle.model.proofs.Laws.Container.{paired-at}
 use Rattle.model.proofs.Laws.Range.{and-left, and-right}
 
 -- ---- the plan of the copy
@@ -24,6 +26,16 @@ use Rattle.model.proofs.Laws.Range.{and-left, and-right}
 pub copy-needed : (s : Session) (I : Image) (i : ℕ) → needsCopy s I i ≡ true → (dirtySegment s i ≡ false) × (activeState I i ≡ 1)
 unfolding needsCopy
 copy-needed s I i e = (not-true _ (and-left _ _ e), eqb-true _ _ (and-right (not (dirtySegment s i)) _ e))
+
+-- a new backup segment is needed where a copy is and no backup segment is the segment's
+pub backup-needed : (s : Session) (I : Image) (i : ℕ) → dirtySegment s i ≡ false → activeState I i ≡ 1
+    → ((k : ℕ) → k < s .layout .backups → backupToMain I k ≢ i) → needsBackup s I i ≡ true
+unfolding needsBackup needsCopy
+backup-needed s I i clean one bare = rw (clean, one) (go (isPaired (s .layout) (backupToMain I) i) refl)
+  where
+    go : (b : Bool) → isPaired (s .layout) (backupToMain I) i ≡ b → not b ≡ true
+    go false e = refl
+    go true e = let p = paired-at (s .layout) (backupToMain I) i e in absurd (bare _ (p .0) (p .1))
 
 -- the new backup segment by the active line, and whether one is free
 abbrev pub newOf : Session → Image → ℕ

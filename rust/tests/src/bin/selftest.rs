@@ -148,14 +148,13 @@ const FAULTS_OF_SPARE: [(Fault, &str, &str); 3] = [
     (
         Fault::TakesHighestPaired,
         "spare 1 is taken: a lower one has its level in state 1",
-        "the sheet of 17.6: \"step=7 write=0 orders=41 save=- orders=0 epoch=2\", \
-         due \"step=7 write=0 orders=43 save=- orders=0 epoch=2\"",
+        "the sheet of 17.6: \"step=7 write=0 orders=41 save=- orders=0 epoch=3\", \
+         due \"step=7 write=0 orders=43 save=- orders=0 epoch=3\"",
     ),
     (
         Fault::TakesPairedFirst,
         "spare 0 is taken: it is paired and another is not",
-        "the sheet of an unpaired spare: \"step=5 write=0 orders=43 save=- orders=0 epoch=3\", \
-         due \"step=5 write=0 orders=41 save=- orders=0 epoch=3\"",
+        "the sheet of 17.6, pairs after group 5: [0, 255], due [1, 0]",
     ),
 ];
 
