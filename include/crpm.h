@@ -71,7 +71,8 @@ extern "C" {
 
 /* The version of this interface: its first number is raised whenever a signature
    or a struct changes, its second when what a call does, or what is promised of
-   it, changes and programs need no change. `pkg-config --modversion crpm` says the same. */
+   it, changes and programs need no change. `pkg-config --modversion crpm` says
+   the same. */
 #define CRPM_VERSION "1.3.0"
 
 /* ---- the layout of an image */

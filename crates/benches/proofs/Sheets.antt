@@ -91,4 +91,4 @@ unfolding sheet-rules
 two-benches-given = given (parse (text twoBenches)) (text twoBenchesPrinted) twoBenchesPairs refl
 
 pub sheets : Sheets
-sheets = record { onExample = example-given .0; onTwoBenches = two-benches-given .0; pairsOnTwoBenches = two-benches-given .1 }
+sheets = record { onExample = example-given .0; pairsOnExample = example-given .1; onTwoBenches = two-benches-given .0; pairsOnTwoBenches = two-benches-given .1 }

@@ -25,10 +25,10 @@ examplePrinted = "open=0 orders=73\nstep=1 write=0 orders=2 save=0 orders=18 epo
 -- ---- two benches (examples/benches.sheet)
 
 abbrev pub twoBenches : String
-twoBenches = "mains=3\nspares=2\nframes=1\nlevel=0\nframe=0\nat=0\nbytes=01\nsave=0\nlevel=1\nframe=0\nat=0\nbytes=02\nsave=0\nlevel=2\nframe=0\nat=0\nbytes=03\nsave=1\nlevel=1\nframe=0\nat=0\nbytes=04\nsave=1\nlevel=0\nframe=0\nat=0\nbytes=05\nsave=1\nlevel=2\nframe=0\nat=0\nbytes=06\nsave=0\nlevel=1\nframe=0\nat=0\nbytes=07\nsave=0\nlevel=0\nframe=0\nat=0\nbytes=08\nsave=1\nlevel=0\nframe=0\nat=0\nbytes=09\nsave=0\n"
+twoBenches = "mains=3\nspares=2\nframes=1\nlevel=0\nframe=0\nat=0\nbytes=01\nsave=0\nlevel=1\nframe=0\nat=0\nbytes=02\nsave=0\nlevel=2\nframe=0\nat=0\nbytes=03\nsave=1\nlevel=1\nframe=0\nat=0\nbytes=04\nsave=1\nlevel=0\nframe=0\nat=0\nbytes=05\nsave=1\nlevel=1\nframe=0\nat=0\nbytes=06\nsave=1\nlevel=2\nframe=0\nat=0\nbytes=07\nsave=0\nlevel=1\nframe=0\nat=0\nbytes=08\nsave=0\nlevel=0\nframe=0\nat=0\nbytes=09\nsave=1\nlevel=0\nframe=0\nat=0\nbytes=0a\nsave=0\n"
 
 abbrev pub twoBenchesPrinted : String
-twoBenchesPrinted = "open=0 orders=109\nstep=1 write=0 orders=1 save=- orders=0 epoch=0\nstep=2 write=0 orders=1 save=- orders=0 epoch=0\nstep=3 write=0 orders=1 save=0 orders=26 epoch=1\nstep=4 write=0 orders=43 save=0 orders=26 epoch=2\nstep=5 write=0 orders=43 save=0 orders=26 epoch=3\nstep=6 write=0 orders=43 save=- orders=0 epoch=3\nstep=7 write=0 orders=43 save=- orders=0 epoch=3\nstep=8 write=9 orders=0 save=0 orders=26 epoch=4\nstep=9 write=0 orders=43 save=- orders=0 epoch=4\n"
+twoBenchesPrinted = "open=0 orders=109\nstep=1 write=0 orders=1 save=- orders=0 epoch=0\nstep=2 write=0 orders=1 save=- orders=0 epoch=0\nstep=3 write=0 orders=1 save=0 orders=26 epoch=1\nstep=4 write=0 orders=43 save=0 orders=26 epoch=2\nstep=5 write=0 orders=43 save=0 orders=26 epoch=3\nstep=6 write=0 orders=41 save=0 orders=26 epoch=4\nstep=7 write=0 orders=43 save=- orders=0 epoch=4\nstep=8 write=0 orders=43 save=- orders=0 epoch=4\nstep=9 write=9 orders=0 save=0 orders=26 epoch=5\nstep=10 write=0 orders=43 save=- orders=0 epoch=5\n"
 
 -- the pairs of the backup segments where a module stands; after each of some groups; and after each group of a sheet
 abbrev pub pairsOf : Device → List ℕ
@@ -47,6 +47,7 @@ twoBenchesPairs =
     unpaired ∷ unpaired ∷ unpaired ∷ unpaired ∷ unpaired ∷ unpaired
     ∷ 1 ∷ unpaired
     ∷ 1 ∷ 0
+    ∷ 1 ∷ 0
     ∷ 2 ∷ 0
     ∷ 2 ∷ 1
     ∷ 2 ∷ 1
@@ -55,5 +56,6 @@ twoBenchesPairs =
 
 pub record Sheets : Type 0 where
   pub onExample : printed (text example) ≡ text examplePrinted
+  pub pairsOnExample : sheetPairs (parse (text example)) ≡ unpaired ∷ []
   pub onTwoBenches : printed (text twoBenches) ≡ text twoBenchesPrinted
   pub pairsOnTwoBenches : sheetPairs (parse (text twoBenches)) ≡ twoBenchesPairs

@@ -1,8 +1,9 @@
 -- Programs in C that carry the operations out themselves: what the contracts of the exported calls say of a call (`Exported`;
 -- the functions of src/lib.rt show that they do), and demands 2 and 3 of programs that make their calls so (`CarriedSafety`),
--- whose calls are histories (`CarriedHistories`) and, if they are the same, leave the same (`CarriedSameBoard`). Proved in proofs/Carried.antt. Assumes what driver's specs/Driven.antt does;
--- and of the caller, that he hands over the words that the last call left, and carries out the operations that a call reports,
--- the first `ops` on the trace, all of them and in their order, before the next call.
+-- whose calls are histories (`CarriedHistories`) and, if they are the same, leave the same (`CarriedSameBoard`). Proved in
+-- proofs/Carried.antt. Assumes what driver's specs/Driven.antt does; and of the caller, that he hands over the words that the last call
+-- left, and carries out the operations that a call reports, the first `ops` on the trace, all of them and in their order, before the next
+-- call.
 use Prim.Native.Nat.{ℕ}
 use mathlib.Core.Path.{_≡_}
 use Rattle.model.specs.declared.Layout.{Layout}

@@ -1,5 +1,5 @@
--- Segment states and pairs over histories (specs/States.antt), proved: each call makes the states and pairs that it should (`Argument`), and
--- a segment that is empty stays empty until it is written.
+-- Segment states and pairs over histories (specs/States.antt), proved: each call makes the states and pairs that it should (`Argument`),
+-- and a segment that is empty stays empty until it is written.
 use Prim.Native.Nat.{ℕ, _<_}
 use mathlib.Core.Path.{_≡_, refl, sym, ap, ap₂, _∙_, subst}
 use mathlib.Core.Logic.{_≢_}

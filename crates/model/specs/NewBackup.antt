@@ -44,8 +44,8 @@ pub record NewBackupFree (l : Layout) (st pr : ℕ → ℕ) : Type 0 where
 abbrev pub FreeWhereValid : Type 0
 FreeWhereValid = (l : Layout) (st pr : ℕ → ℕ) → Valid l st pr → NewBackupFree l st pr
 
--- a served write to a main segment that is not dirty, in state 1 and without a backup segment takes that one: its operations are the pair
--- byte stored and written back, all blocks copied there, a fence, state 2, a fence, and the span
+-- a served write to a main segment that is not dirty, in state 1 and without a backup segment takes the new one, which is free: its
+-- operations are the pair byte stored and written back, all blocks copied there, a fence, state 2, a fence, and the span
 abbrev pub WriteTakesNew : Type 0
 WriteTakesNew =
     (s : Session) (I : Image) (w : WriteArgs) (t : Trace) → writeStatus s I w t ≡ 0

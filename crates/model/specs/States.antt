@@ -63,8 +63,8 @@ pub record PairsFollow : Type 0 where
   pub calls : InEveryHistory (λ s.
       (c : Call) → Permitted c → (j : ℕ) → j < most → backupToMain (step s c .device .image) j ≡ pairAfter (s .device) c j)
 
--- a served write that needs a new backup segment and takes that of another main segment leaves this one without, so that its next copy is
--- a whole one
+-- a served write that needs a new backup segment and takes that of another main segment leaves this one without (its next copy is then a
+-- whole one, by `WriteTakesNew`)
 abbrev pub TakenUnpaired : Type 0
 TakenUnpaired = InEveryHistory (λ s.
     let I : Image = s .device .image in

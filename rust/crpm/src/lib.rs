@@ -172,10 +172,10 @@ pub fn open<'t>(image: &[u8], layout: Layout, trace: &'t mut [u64]) -> Result<(S
 /// the offset is 0 to 255, and offset and length together at most
 /// [`BLOCK_SIZE`] times the blocks from this one on. Byte k of a main segment has
 /// block k / 256 and offset k % 256. The main segment is copied once at most,
-/// however long the write is, and every block that it meets becomes dirty. If it
-/// needs a new backup segment for that, it takes the lowest unpaired one; if all
-/// are paired, the lowest whose main segment is in state 1: the same calls on the
-/// same image always give the same operations.
+/// however long the write is. If it needs a new backup segment for that, it takes
+/// the lowest unpaired one; if all are paired, the lowest whose main segment is in
+/// state 1. So the same calls on the same image always give the same operations.
+/// Every block that the write meets becomes dirty.
 ///
 /// ```
 /// # fn main() -> Result<(), crpm::Refusal> {

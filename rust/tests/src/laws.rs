@@ -218,8 +218,8 @@ fn in_state_2(image: &[u8], sizes: Sizes) -> u64 {
 
 /// How many spares are not free (section 3.2).
 fn not_free(image: &[u8], sizes: Sizes) -> u64 {
-    let taken = |level: &&u8| u64::from(**level) < sizes.levels && state_of(image, **level as usize) == 2;
-    pairs(image, sizes).iter().filter(taken).count() as u64
+    let in_use = |level: &&u8| u64::from(**level) < sizes.levels && state_of(image, **level as usize) == 2;
+    pairs(image, sizes).iter().filter(in_use).count() as u64
 }
 
 /// The pair byte of each spare.
@@ -320,10 +320,10 @@ impl Tally {
         if let (9, Some(spare)) = (number, (0..self.sizes.spares as usize).find(is_new)) {
             return Err(format!("a write answers 9, and spare {spare} is a new one"));
         }
-        let all_taken = self.found + self.copied == self.sizes.spares;
-        if (number == 9) != (copies && all_taken && !bad_span) {
-            let taken = self.found + self.copied;
-            return Err(format!("a write (copying: {copies}) answers {number} with {taken} spares taken"));
+        let in_use = self.found + self.copied;
+        let all_in_use = in_use == self.sizes.spares;
+        if (number == 9) != (copies && all_in_use && !bad_span) {
+            return Err(format!("a write (copying: {copies}) answers {number} with {in_use} spares in use"));
         }
         tried.nines += u64::from(number == 9);
         if number != 0 {

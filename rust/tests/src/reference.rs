@@ -37,7 +37,7 @@ pub enum Fault {
     StateBeforeFence,
     MarksClearedAtSave,
     OpeningSkipsLevelToSpare,
-    FreeByIdleLine,
+    NewByIdleLine,
     /// A level in state 2 that nobody touched stays in state 2.
     SaveKeepsRestored,
     /// An empty level that nobody touched gets state 1.
@@ -56,7 +56,8 @@ pub enum Fault {
     StoresFirstFrameOnly,
     /// All words of every frame that a span meets are stored: program 15.
     StoresWholeFrames,
-    /// The highest new spare is taken: program 16.
+    /// The highest unpaired spare is taken, or, if all are paired, the highest
+    /// whose level is in state 1: program 16.
     TakesHighest,
     /// The same, but only where all spares are paired.
     TakesHighestPaired,
@@ -387,9 +388,9 @@ impl Reference {
         let lowest_unpaired = board.unpaired().next();
         let highest_of_levels = || board.of_levels_in(1).next_back();
         match self.fault {
-            Some(Fault::FreeByIdleLine) => lowest_unpaired.or_else(|| {
-                let in_use = |level| image[idle_line(board.epoch) + level] == 2;
-                board.owners.iter().position(|owner| !owner.is_some_and(in_use))
+            Some(Fault::NewByIdleLine) => lowest_unpaired.or_else(|| {
+                let in_state_1 = |level| image[idle_line(board.epoch) + level] == 1;
+                board.owners.iter().position(|owner| owner.is_some_and(in_state_1))
             }),
             Some(Fault::TakesHighest) => board.unpaired().next_back().or_else(highest_of_levels),
             Some(Fault::TakesHighestPaired) => lowest_unpaired.or_else(highest_of_levels),

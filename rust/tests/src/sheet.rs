@@ -127,7 +127,7 @@ impl Sheet {
     fn run<C: Calls>(&self, mut bench: Bench<C>, mut show: impl FnMut(usize, &Call, &Ran)) -> String {
         let mut run = |group: usize, deed: Deed| {
             let call = Call { deed, tape: self.sizes.room() };
-            let ran = bench.run(&call);
+            let ran = bench.run(&call, 0);
             show(group, &call, &ran);
             ran
         };

@@ -1,7 +1,7 @@
 -- Where a history stands between two calls (`Stands`), and what the crash argument needs of a call (`Argument`): played
 -- whole it leaves what stands, crashed anywhere it leaves what recovers to a page that may be shown, it counts for the
--- epoch, and it makes the states that follow. Each call meets it in its own file, and the induction over histories uses that alone. Calls that play operations
--- on the module as it is meet it by `Appends`, and one that is refused does so once for all.
+-- epoch, and it makes the states and pairs that follow. Each call meets it in its own file, and the induction over histories uses
+-- that alone. Calls that play operations on the module as it is meet it by `Appends`, and one that is refused does so once for all.
 use Prim.Native.Nat.{ℕ, _+_, _/_, _%_, _<_}
 use mathlib.Core.Path.{_≡_, refl, sym, ap, ap₂, _∙_, subst, subst₂}
 use mathlib.Core.Logic.{_≢_, _⊎_, inl, inr, ⊎-elim}

@@ -91,7 +91,7 @@ fn faults(suite: &mut Suite) {
         };
         suite.add(format!("fault {fault:?} by the laws"), move || heard(laws(), breaks));
         let sheets = move || benches::one_sheet(&faulty);
-        suite.add(format!("fault {fault:?} on the sheets"), move || heard(sheets(), on_sheets));
+        suite.add(format!("fault {fault:?} on the sheet"), move || heard(sheets(), on_sheets));
     }
     suite.add("fault TakesByTape on two benches", || heard(by_tape(), "two benches have different orders"));
 }
@@ -106,7 +106,7 @@ const FAULTS: [(Fault, &[Sizes], &str); 13] = [
     (Fault::StateBeforeFence, ONE_FRAME, "opening again answers 4"),
     (Fault::MarksClearedAtSave, ONE_FRAME, "opening again shows a page that is not permitted"),
     (Fault::OpeningSkipsLevelToSpare, ONE_FRAME, "opening again shows a page that is not permitted"),
-    (Fault::FreeByIdleLine, ONE_FRAME, "opening again answers 4"),
+    (Fault::NewByIdleLine, ONE_FRAME, "opening again answers 4"),
     (Fault::TakesSpareInUse, ONE_FRAME, "opening again answers 4"),
     (Fault::TakesLowestPaired, ONE_FRAME, "opening again answers 4"),
     (Fault::SaveKeepsRestored, ONE_FRAME, "save: levels in state 2: 1, spares not free: 1, due 0 of each"),
@@ -148,13 +148,14 @@ const FAULTS_OF_SPARE: [(Fault, &str, &str); 3] = [
     (
         Fault::TakesHighestPaired,
         "spare 1 is taken: a lower one has its level in state 1",
-        "the sheet of 17.6: \"step=7 write=0 orders=41 save=- orders=0 epoch=3\", \
-         due \"step=7 write=0 orders=43 save=- orders=0 epoch=3\"",
+        "the sheet of 17.6: \"step=8 write=0 orders=41 save=- orders=0 epoch=4\", \
+         due \"step=8 write=0 orders=43 save=- orders=0 epoch=4\"",
     ),
     (
         Fault::TakesPairedFirst,
         "spare 0 is taken: it is paired and another is not",
-        "the sheet of 17.6, pairs after group 5: [0, 255], due [1, 0]",
+        "the sheet of 17.6: \"step=6 write=0 orders=43 save=0 orders=26 epoch=4\", \
+         due \"step=6 write=0 orders=41 save=0 orders=26 epoch=4\"",
     ),
 ];
 
