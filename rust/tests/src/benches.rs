@@ -172,15 +172,17 @@ pub fn random_histories<C: Calls>(calls: &C, seed: u64, histories: u64) -> Outco
     for number in 0..histories {
         let sizes = sizes(&mut rng);
         let rubbish = [Rubbish::Zeros, Rubbish::Random(Rng::new(rng.word()))];
-        let mut benches = rubbish.map(|rubbish| Bench::laid_out(calls, sizes, rubbish));
+        let [mut one, mut other] = rubbish.map(|rubbish| Bench::laid_out(calls, sizes, rubbish));
         if !rng.once_in(3) {
-            let image = arbitrary::sound_image(&mut rng, sizes);
-            benches.iter_mut().for_each(|bench| bench.image.clone_from(&image));
+            one.image = arbitrary::sound_image(&mut rng, sizes);
+            other.image.clone_from(&one.image);
         }
-        let mut tally = Tally::start(&benches[0].image, sizes);
-        let more = (0..CALLS).map(|_| arbitrary::call(&mut rng, sizes));
-        for call in [plain(Deed::Open(sizes), sizes)].into_iter().chain(more) {
-            let [one, other] = benches.each_mut();
+        let mut tally = Tally::start(&one.image, sizes);
+        for place in 0..=CALLS {
+            let call = match place {
+                0 => plain(Deed::Open(sizes), sizes),
+                _ => arbitrary::call(&mut rng, sizes),
+            };
             let first = one.run(&call, 0);
             // the second tape may be longer, where the first was long enough
             let longer = if first.answer.number == 11 { 0 } else { rng.range(0, 40) };
