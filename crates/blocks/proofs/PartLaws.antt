@@ -1,23 +1,23 @@
--- Laws of a block's words: an array filled with them, and a block that is handed on as a part of an image.
-use Prim.Native.Nat.{ℕ, zero, suc, _+_, _-_, _*_, _≤_, _<_}
+-- Laws of a block's words: their stores, and a block that is handed on as a part of an image.
+use Prim.Native.Nat.{ℕ, zero, suc, _+_, _-_, _*_, _/_, _≤_, _<_}
 use mathlib.Core.Path.{_≡_, refl, sym, ap, _∙_}
 use mathlib.Core.Bool.{Bool, true, cond}
-use mathlib.Core.List.{List, [], _∷_, _++_}
+use mathlib.Core.List.{[], _∷_, _++_}
 use native.Mathlib.Omega.{arith}
 use native.Mathlib.Nat.{add-sub-cancel-left}
-use lib.ListN.{length, getD, set, take, drop, replicate, length-take, length-drop, getD-replicate}
-use lib.Seq.{getD-set-same, getD-set-other, getD-take, getD-drop}
-use borrow.Author.Count.{below-more}
+use lib.ListN.{length, take, drop, length-take, length-drop}
+use lib.Seq.{getD-take, getD-drop}
 use Rattle.model.specs.Words.{Image, byteAt, littleEndian, wordOf, wordAt}
 use Rattle.model.specs.Layout.{wordSize, blockSize, blockWords, blockLines}
-use Rattle.model.specs.Ops.{store, Ops, stores, clwbs, putBlock, persistCopy, persistZero}
+use Rattle.model.specs.Ops.{store, Ops, stores, clwbs, putBlock, persistCopy}
 use Rattle.model.proofs.Laws.Range.{cat-ext}
+use Rattle.trace.specs.Emit.{wordStores}
 
--- an array filled upward: what holds of each element below i holds below i + 1 once element i is stored
-pub filled-more : (ws : List ℕ) (i v : ℕ) (g : ℕ → ℕ) → i < length ws → v ≡ g i → ((k : ℕ) → k < i → getD ws k 0 ≡ g k)
-    → (k : ℕ) → k < i + 1 → getD (set ws i v) k 0 ≡ g k
-filled-more ws i v g l e h =
-    below-more _ i (λ k b. getD-set-other ws i k v 0 (λ p. omega arith) ∙ h k b) (getD-set-same ws i v 0 l ∙ e)
+-- the stores of a block's words and the write-backs of its lines
+pub block-words : (B : Image) (to : ℕ) → length B ≡ blockSize
+    → wordStores to B ++ clwbs blockLines to ≡ putBlock true to (λ k. wordAt B (wordSize * k))
+unfolding putBlock
+block-words B to h = ap (λ (n : ℕ). stores (n / wordSize) to (λ k. wordAt B (wordSize * k)) ++ clwbs blockLines to) h
 
 -- two functions that agree on the words of a block
 pub put-block-ext : (flush : Bool) (to : ℕ) (v w : ℕ → ℕ) → ((k : ℕ) → k < blockWords → v k ≡ w k) → putBlock flush to v ≡ putBlock flush to w
@@ -50,9 +50,3 @@ pub copy-part : (I : Image) (from to : ℕ) → putBlock true to (λ k. wordAt (
 unfolding persistCopy
 copy-part I from to =
     ap (λ (B : Image). putBlock true to (λ k. wordAt B (wordSize * k))) (part-block I from) ∙ put-block-ext true to _ _ (word-part I from)
-
--- ---- a block of zeros
-
-pub zero-words : (to : ℕ) → putBlock true to (λ k. getD {A = ℕ} (replicate blockWords 0) k 0) ≡ persistZero to
-unfolding persistZero
-zero-words to = put-block-ext true to _ _ (λ k h. getD-replicate blockWords k 0 0 h)

@@ -18,41 +18,10 @@ const BLOCK_WORDS: usize = Layout::BLOCK_WORDS as usize;
 // Lines of a block.
 const BLOCK_LINES: usize = Layout::BLOCK_LINES as usize;
 
-// Bytes of a word and of a block, as indexes count them.
-const WORD_SIZE: usize = Layout::WORD_SIZE as usize;
-
+// Bytes of a block, as indexes count them.
 const BLOCK_SIZE: usize = Layout::BLOCK_SIZE as usize;
 
 // ---- operations
-
-// The words of a block.
-fn gather(block: &[u8]) -> [u64; BLOCK_WORDS]
-    requires { ⌜ blockSize ≤ length (now block) ⌝ }
-    ensures { λ r. ⌜ ((k : ℕ) → k < blockWords → getD r k 0 ≡ wordAt (now (block .entry)) (wordSize * k)) ⌝ }
-{
-    let mut words = [0u64; BLOCK_WORDS];
-    let mut k = 0;
-    while k < BLOCK_WORDS {
-        words[k] = words::word_at(block, WORD_SIZE * k);
-        k += 1;
-    }
-    words
-}
-
-// Stores the words of a block, upward.
-fn put_stores(to: u64, words: [u64; BLOCK_WORDS], trace: &mut [u64], n: usize) -> usize
-    requires { ⌜ to + blockSize < 2 ^ 64 ⌝ }
-    requires { ⌜ Fits (now trace) n (stores blockWords to (λ k. getD words k 0)) ⌝ }
-    ensures { λ r. ⌜ Emitted (now (trace .entry)) n (stores blockWords to (λ k. getD words k 0)) (now (trace .exit)) r ⌝ }
-{
-    let mut next = n;
-    let mut k: usize = 0;
-    while k < BLOCK_WORDS {
-        next = trace::put_store(trace, next, to + Layout::WORD_SIZE * (k as u64), words[k]);
-        k += 1;
-    }
-    next
-}
 
 // Writes back the lines of a block, upward.
 pub fn put_clwbs(at: u64, trace: &mut [u64], n: usize) -> usize
@@ -69,39 +38,41 @@ pub fn put_clwbs(at: u64, trace: &mut [u64], n: usize) -> usize
     next
 }
 
-// Stores the words of a block and, if it is to be, writes its lines back.
-fn put_block(flush: bool, to: u64, words: [u64; BLOCK_WORDS], trace: &mut [u64], n: usize) -> usize
-    requires { ⌜ to + blockSize < 2 ^ 64 ⌝ }
-    requires { ⌜ Fits (now trace) n (putBlock flush to (λ k. getD words k 0)) ⌝ }
-    ensures { λ r. ⌜ Emitted (now (trace .entry)) n (putBlock flush to (λ k. getD words k 0)) (now (trace .exit)) r ⌝ }
-{
-    let next = put_stores(to, words, trace, n);
-    if flush {
-        return put_clwbs(to, trace, next);
-    }
-    next
-}
-
-// Copies a block to a place: its words are gathered, stored and written back (SPECIFICATION 6.8; the ported paper:
-// persist_copy).
+// Copies a block to a place: each of its words is stored as it is read, upward, and then the lines are written back
+// (SPECIFICATION 6.8; the ported paper: persist_copy).
 pub fn put_copy(block: &[u8], to: u64, trace: &mut [u64], n: usize) -> usize
-    requires { ⌜ blockSize ≤ length (now block) ⌝ }
+    requires { ⌜ length (now block) ≡ blockSize ⌝ }
     requires { ⌜ to + blockSize < 2 ^ 64 ⌝ }
     requires { ⌜ Fits (now trace) n (putBlock true to (λ k. wordAt (now block) (wordSize * k))) ⌝ }
     ensures { λ r. ⌜ Emitted (now (trace .entry)) n (putBlock true to (λ k. wordAt (now (block .entry)) (wordSize * k))) (now (trace .exit)) r ⌝ }
 {
-    let words = gather(block);
-    put_block(true, to, words, trace, n)
+    let next = trace::put_words(trace, n, to, block);
+    put_clwbs(to, trace, next)
 }
 
-// Fills the block at a place with zeros.
+// Stores 0 in the words of a block, upward.
+fn put_zeros(to: u64, trace: &mut [u64], n: usize) -> usize
+    requires { ⌜ to + blockSize < 2 ^ 64 ⌝ }
+    requires { ⌜ Fits (now trace) n (stores blockWords to (λ _. 0)) ⌝ }
+    ensures { λ r. ⌜ Emitted (now (trace .entry)) n (stores blockWords to (λ _. 0)) (now (trace .exit)) r ⌝ }
+{
+    let mut next = n;
+    let mut k: usize = 0;
+    while k < BLOCK_WORDS {
+        next = trace::put_store(trace, next, to + Layout::WORD_SIZE * (k as u64), 0);
+        k += 1;
+    }
+    next
+}
+
+// Fills the block at a place with zeros, and writes its lines back.
 pub fn put_zero(to: u64, trace: &mut [u64], n: usize) -> usize
     requires { ⌜ to + blockSize < 2 ^ 64 ⌝ }
     requires { ⌜ Fits (now trace) n (persistZero to) ⌝ }
     ensures { λ r. ⌜ Emitted (now (trace .entry)) n (persistZero to) (now (trace .exit)) r ⌝ }
 {
-    let zeros = [0u64; BLOCK_WORDS];
-    put_block(true, to, zeros, trace, n)
+    let next = put_zeros(to, trace, n);
+    put_clwbs(to, trace, next)
 }
 
 // ---- tests of bytes

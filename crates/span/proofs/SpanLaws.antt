@@ -17,8 +17,8 @@ use Rattle.model.specs.Write.{spanWords, spanStores}
 use Rattle.model.proofs.Laws.Range.{cat-ext}
 use Rattle.model.proofs.Laws.Words.{word-cong, overlay-in, overlay-inside}
 use Rattle.model.proofs.Laws.Counts.{length-stores}
-use Rattle.trace.specs.Emit.{Fits}
-use Rattle.span.specs.Steps.{overlaidStore, firstStores, wordStores}
+use Rattle.trace.specs.Emit.{Fits, wordStores}
+use Rattle.span.specs.Steps.{overlaidStore, firstStores}
 
 -- ---- room on a trace: a span meets a word, and no fewer words than lie whole among its bytes
 

@@ -1,13 +1,12 @@
--- A helper's: what a write is given, by its span and its bytes, and the stores of one word, of the first and of those that
--- lie whole among the bytes. Nothing that users rely on is said in these terms. Assumes nothing.
-use Prim.Native.Nat.{ℕ, _*_, _/_, _%_}
+-- A helper's: what a write is given, by its span and its bytes, and the stores of one word and of the first. Nothing that
+-- users rely on is said in these terms. Assumes nothing.
+use Prim.Native.Nat.{ℕ, _%_}
 use mathlib.Core.Bool.{not, cond}
 use mathlib.Core.List.{List, [], _∷_}
 use lib.Dec.{eqb}
-use lib.ListN.{length}
-use Rattle.model.specs.Words.{Image, byteAt, wordOf, wordAt, overlay}
+use Rattle.model.specs.Words.{Image, byteAt, wordOf, overlay}
 use Rattle.model.specs.Layout.{wordSize}
-use Rattle.model.specs.Ops.{Op, store, Ops, stores, wordPlace}
+use Rattle.model.specs.Ops.{Op, store, Ops, wordPlace}
 use Rattle.model.specs.Write.{WriteArgs, writeArgsOf}
 use Rattle.span.specs.declared.Span.{Span}
 
@@ -22,7 +21,3 @@ overlaidStore I a bs p = store p (wordOf (overlay (byteAt I) a bs) p)
 -- the word in whose midst bytes start, stored with the bytes laid over it; nothing if they start a word
 abbrev pub firstStores : Image → ℕ → List ℕ → Ops
 firstStores I a bs = cond (not (eqb (a % wordSize) 0)) (overlaidStore I a bs (wordPlace a) ∷ []) []
-
--- the words that lie whole among bytes, stored from a place on, upward
-abbrev pub wordStores : ℕ → List ℕ → Ops
-wordStores a bs = stores (length bs / wordSize) a (λ k. wordAt bs (wordSize * k))

@@ -11,7 +11,7 @@ ghost use Rattle.model.specs.Layout.{most, lineSize, wordSize, blockSize, large
 ghost use Rattle.model.specs.Ops.{storeByte, wordPlace};
 ghost use Rattle.model.specs.Write.{spanWords, spanBad, spanStores};
 ghost use Rattle.trace.specs.Emit.{Fits, Emitted};
-ghost use Rattle.span.specs.Steps.{argsOf, overlaidStore, firstStores, wordStores};
+ghost use Rattle.span.specs.Steps.{argsOf, overlaidStore, firstStores};
 
 // Bytes of a word, as indexes count them.
 const WORD_SIZE: usize = Layout::WORD_SIZE as usize;
@@ -134,23 +134,6 @@ pub fn put_byte(image: &[u8], at: usize, byte: u8, trace: &mut [u64], n: usize) 
     trace::put_store(trace, n, place as u64, word)
 }
 
-// Stores the words that lie whole among bytes, from a place on, upward; they are not written back.
-fn put_words(at: usize, bytes: &[u8], trace: &mut [u64], n: usize) -> usize
-    requires { ⌜ at + length (now bytes) ≤ 2 ^ 32 ⌝ }
-    requires { ⌜ Fits (now trace) n (wordStores at (now bytes)) ⌝ }
-    ensures { λ r. ⌜ Emitted (now (trace .entry)) n (wordStores at (now (bytes .entry))) (now (trace .exit)) r ⌝ }
-{
-    let count = bytes.len() / WORD_SIZE;
-    let mut next = n;
-    let mut k: usize = 0;
-    while k < count {
-        let from = WORD_SIZE * k;
-        next = trace::put_store(trace, next, (at + from) as u64, words::word_at(bytes, from));
-        k += 1;
-    }
-    next
-}
-
 // Stores the word in whose midst bytes start, with the bytes laid over what stands there; nothing if they start a word.
 fn put_first(image: &[u8], at: usize, bytes: &[u8], trace: &mut [u64], n: usize) -> usize
     requires { ⌜ wordPlace at + wordSize ≤ length (now image) ⌝ }
@@ -171,7 +154,7 @@ fn put_aligned(image: &[u8], at: usize, bytes: &[u8], trace: &mut [u64], n: usiz
     requires { ⌜ Fits (now trace) n (spanStores (now image) at (now bytes)) ⌝ }
     ensures { λ r. ⌜ Emitted (now (trace .entry)) n (spanStores (now (image .entry)) at (now (bytes .entry))) (now (trace .exit)) r ⌝ }
 {
-    let next = put_words(at, bytes, trace, n);
+    let next = trace::put_words(trace, n, at as u64, bytes);
     if bytes.len() % WORD_SIZE == 0 {
         return next;
     }
@@ -194,7 +177,7 @@ pub fn put_span(image: &[u8], at: usize, bytes: &[u8], trace: &mut [u64], n: usi
     ensures { λ r. ⌜ Emitted (now (trace .entry)) n (spanStores (now (image .entry)) at (now (bytes .entry))) (now (trace .exit)) r ⌝ }
 {
     if (at % WORD_SIZE == 0) & (bytes.len() % WORD_SIZE == 0) {
-        return put_words(at, bytes, trace, n);
+        return trace::put_words(trace, n, at as u64, bytes);
     }
     let next = put_first(image, at, bytes, trace, n);
     let skip = (WORD_SIZE - at % WORD_SIZE) % WORD_SIZE;

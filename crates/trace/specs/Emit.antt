@@ -1,10 +1,13 @@
 -- Operations written on a trace at a place in its midst, and the one form of what is asked and promised by code that writes
 -- them. Assumes nothing.
-use Prim.Native.Nat.{ℕ, _+_, _*_, _≤_}
+use Prim.Native.Nat.{ℕ, _+_, _*_, _/_, _≤_}
 use mathlib.Core.Path.{_≡_}
+use mathlib.Core.List.{List}
 use lib.ListN.{length}
 use lib.Seq.{sets}
-use Rattle.model.specs.Ops.{Ops, Trace, opNumbers, encode}
+use Rattle.model.specs.Words.{wordAt}
+use Rattle.model.specs.Layout.{wordSize}
+use Rattle.model.specs.Ops.{Ops, Trace, opNumbers, encode, stores}
 
 -- the trace t with the operations O written from operation number n on
 unfoldable pub emit : Trace → ℕ → Ops → Trace
@@ -18,3 +21,7 @@ pub record Fits (t : Trace) (n : ℕ) (O : Ops) : Type 0 where
 pub record Emitted (t : Trace) (n : ℕ) (O : Ops) (t′ : Trace) (r : ℕ) : Type 0 where
   pub stands : t′ ≡ emit t n O
   pub next : r ≡ n + length O
+
+-- the words that lie whole among bytes, stored from a place on, upward
+abbrev pub wordStores : ℕ → List ℕ → Ops
+wordStores a bs = stores (length bs / wordSize) a (λ k. wordAt bs (wordSize * k))

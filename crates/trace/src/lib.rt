@@ -1,12 +1,13 @@
 // The trace of a call (SPECIFICATION 6.1; the trade: tape): three numbers an operation, its kind, its place and its word.
 ghost use mathlib.Core.Path.{_≡_};
 ghost use mathlib.Core.List.{[], _∷_};
-ghost use Prim.Native.Nat.{_+_, _*_, _^_, _≤_};
+ghost use Prim.Native.Nat.{_+_, _*_, _^_, _≤_, _<_};
 ghost use lib.ListN.{length};
 ghost use lib.Seq.{sets};
 ghost use Rattle.model.specs.Status.{codeOf, firstError};
 ghost use Rattle.model.specs.Ops.{store, clwb, sfence, Ops, Trace, opNumbers, traceErrors};
-ghost use Rattle.trace.specs.Emit.{Fits, Emitted};
+ghost use Rattle.trace.specs.Emit.{Fits, Emitted, wordStores};
+use model::Layout;
 use model::Status;
 
 // The numbers that an operation takes on a trace.
@@ -18,6 +19,9 @@ pub const OP_STORE: u64 = 1;
 pub const OP_CLWB: u64 = 2;
 
 pub const OP_SFENCE: u64 = 3;
+
+// Bytes of a word, as indexes count them.
+const WORD_SIZE: usize = Layout::WORD_SIZE as usize;
 
 // Writes the three numbers of operation n. The number of the next operation.
 fn put_op(trace: &mut [u64], n: usize, kind: u64, place: u64, word: u64) -> usize
@@ -53,6 +57,25 @@ pub fn put_sfence(trace: &mut [u64], n: usize) -> usize
     ensures { λ r. ⌜ Emitted (now (trace .entry)) n (sfence ∷ []) (now (trace .exit)) r ⌝ }
 {
     put_op(trace, n, OP_SFENCE, 0, 0)
+}
+
+// Writes, from operation n on, the stores of the words that lie whole among bytes, from a place on, upward: each word is read as
+// its store is written. The number of the next operation.
+pub fn put_words(trace: &mut [u64], n: usize, place: u64, bytes: &[u8]) -> usize
+    requires { ⌜ place + length (now bytes) < 2 ^ 64 ⌝ }
+    requires { ⌜ Fits (now trace) n (wordStores place (now bytes)) ⌝ }
+    ensures { λ r. ⌜ Emitted (now (trace .entry)) n (wordStores place (now (bytes .entry))) (now (trace .exit)) r ⌝ }
+{
+    let count = bytes.len() / WORD_SIZE;
+    let mut next = n;
+    let mut k: usize = 0;
+    while k < count {
+        let at = WORD_SIZE * k;
+        let word = words::word_at(bytes, at);
+        next = put_store(trace, next, place + at as u64, word);
+        k += 1;
+    }
+    next
 }
 
 // Refusal 11, of a trace that has room for so many numbers, by the number of operations.

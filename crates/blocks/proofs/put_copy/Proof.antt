@@ -1,26 +1,29 @@
-use mathlib.Core.Bool.{true}
-use Rattle.blocks.proofs.PartLaws.{put-block-ext}
-use Rattle.trace.proofs.EmitLaws.{fits-as, emitted-as}
+use Rattle.blocks.proofs.PartLaws.{block-words}
+use Rattle.trace.proofs.EmitLaws.{fits-first, fits-then, fits-as, emitted-then, emitted-as}
 use mathlib.Core.Path.{sym}
+use native.Mathlib.Omega.{arith}
 use borrow.Author.Needs.{needs}
 use Rattle.blocks.proofs.put_copy.Statement.{statement}
 use Rattle.blocks.proofs.put_copy.Tie as tie
 
-gather-requires : tie.Need-gather-requires
-gather-requires c κs = search needs
+put-words-requires : tie.Need-put-words-requires
+put-words-requires c κs =
+    let a = c .before .before .before in
+    (omega arith, fits-first _ (fits-as (sym (block-words (a .args .block .now) (a .args .to) (a .pre .0))) (a .pre .1 .1)))
 
-put-block-requires : tie.Need-put-block-requires
-put-block-requires c κs =
-    let a = c .before .before .before .before in
-    (search needs, fits-as (sym (put-block-ext true (a .args .to) _ _ (c .before .gather .ensures))) (a .pre .1 .1))
+put-clwbs-requires : tie.Need-put-clwbs-requires
+put-clwbs-requires c κs =
+    let a = c .before .before .before .before .before .before .before in
+    (search needs, fits-then (fits-as (sym (block-words (a .args .block .now) (a .args .to) (a .pre .0))) (a .pre .1 .1)) (c .before .before .before .put-words .ensures))
 
 same-length : tie.Need-same-length
 same-length c = search needs
 
 returns : tie.Need-returns
 returns c =
-    let g = c .before .before .before .before in
-    emitted-as (c .before .before .put-block .ensures) (put-block-ext true (g .before .before .before .args .to) _ _ (g .gather .ensures))
+    let a = c .before .before .before .before .before .before .before .before .before .before in
+    let w = c .before .before .before .before .before .before .put-words in
+    emitted-as (emitted-then (w .ensures) (c .before .before .put-clwbs .ensures)) (block-words (a .args .block .now) (a .args .to) (a .pre .0))
 
 pub put-copy-spec : {M : Type 1} → statement M
-put-copy-spec = tie.close (tie.spec gather-requires put-block-requires same-length returns)
+put-copy-spec = tie.close (tie.spec put-words-requires put-clwbs-requires same-length returns)

@@ -1,21 +1,25 @@
-use Rattle.blocks.proofs.PartLaws.{zero-words}
-use Rattle.trace.proofs.EmitLaws.{fits-as, emitted-as}
-use mathlib.Core.Path.{sym}
+use Rattle.model.specs.Ops.{putBlock, persistZero}
+use Rattle.trace.proofs.EmitLaws.{fits-first, fits-then, emitted-then}
 use borrow.Author.Needs.{needs}
 use Rattle.blocks.proofs.put_zero.Statement.{statement}
 use Rattle.blocks.proofs.put_zero.Tie as tie
 
-put-block-requires : tie.Need-put-block-requires
-put-block-requires c κs =
-    let a = c .before .before in
-    (search needs, fits-as (sym (zero-words (a .args .to))) (a .pre .1))
+put-zeros-requires : tie.Need-put-zeros-requires
+unfolding persistZero putBlock
+put-zeros-requires c κs = (search needs, fits-first _ (c .before .before .pre .1))
+
+put-clwbs-requires : tie.Need-put-clwbs-requires
+unfolding persistZero putBlock
+put-clwbs-requires c κs =
+    (search needs, fits-then (c .before .before .before .before .before .before .pre .1) (c .before .before .before .put-zeros .ensures))
 
 same-length : tie.Need-same-length
 same-length c = search needs
 
 returns : tie.Need-returns
+unfolding persistZero putBlock
 returns c =
-    emitted-as (c .before .before .put-block .ensures) (zero-words (c .before .before .before .before .before .args .to))
+    emitted-then (c .before .before .before .before .before .before .put-zeros .ensures) (c .before .before .put-clwbs .ensures)
 
 pub put-zero-spec : {M : Type 1} → statement M
-put-zero-spec = tie.close (tie.spec put-block-requires same-length returns)
+put-zero-spec = tie.close (tie.spec put-zeros-requires put-clwbs-requires same-length returns)

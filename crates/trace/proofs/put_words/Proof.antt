@@ -5,35 +5,35 @@ use lib.ListN.{length}
 use borrow.Author.Needs.{needs}
 use Rattle.model.specs.Words.{wordAt}
 use Rattle.model.specs.Ops.{stores}
 use Rattle.trace.specs.Emit.{Emitted}
 use Rattle.trace.proofs.EmitLaws.{emitted-length, emitted-none, fits-each, emitted-each}
-use Rattle.span.proofs.put_words.Statement.{statement}
-use Rattle.span.proofs.put_words.Tie as tie
+use Rattle.trace.proofs.put_words.Statement.{statement}
+use Rattle.trace.proofs.put_words.Tie as tie
 
 abbrev Inv-loop : tie.InvT-loop
-Inv-loop at bytes trace₀ n count next₀ k₀ trace next k = (k ≤ count) × Emitted trace₀ n (stores k at (λ j. wordAt bytes (8 * j))) trace next
+Inv-loop trace₀ n place bytes count next₀ k₀ trace next k = (k ≤ count) × Emitted trace₀ n (stores k place (λ j. wordAt bytes (8 * j))) trace next
 
 abbrev μ-loop : tie.MeasureT-loop
-μ-loop at bytes trace₀ n count next₀ k₀ trace next k = count - k
+μ-loop trace₀ n place bytes count next₀ k₀ trace next k = count - k
 
 loop-holds : tie.Need-loop-holds Inv-loop μ-loop
 unfolding stores
 loop-holds c = (search needs, emitted-none _)
 
-mul-from : tie.Need-mul-from Inv-loop μ-loop
-mul-from c = search needs
-
-add-put-store : tie.Need-add-put-store Inv-loop μ-loop
-add-put-store c = search needs
+mul-at : tie.Need-mul-at Inv-loop μ-loop
+mul-at c = search needs
 
 word-at-requires : tie.Need-word-at-requires Inv-loop μ-loop
 word-at-requires c κs = search needs
+
+add-put-store : tie.Need-add-put-store Inv-loop μ-loop
+add-put-store c = search needs
 
 put-store-requires : tie.Need-put-store-requires Inv-loop μ-loop
 unfolding stores
 put-store-requires c κs =
     let l = c .before .before .before .loop in
-    rw (c .word-at .ensures) (fits-each (l .k) _ _ (omega arith) (c .before .before .before .before .before .before .pre .1) (l .inv .1))
+    rw (c .before .word-at .ensures) (fits-each (l .k) _ _ (omega arith) (c .before .before .before .before .before .before .pre .1) (l .inv .1))
 
 add-k : tie.Need-add-k Inv-loop μ-loop
 add-k c = search needs
@@ -45,7 +45,7 @@ loop-again : tie.Need-loop-again Inv-loop μ-loop
 unfolding stores
 loop-again c =
     let l = c .before .before .before .before .before .before .loop in
-    (omega arith, emitted-each (l .k) _ (l .inv .1) (rw (c .before .before .before .word-at .ensures) at (c .before .before .put-store .ensures)))
+    (omega arith, emitted-each (l .k) _ (l .inv .1) (rw (c .before .before .before .before .word-at .ensures) at (c .before .before .put-store .ensures)))
 
 same-length : tie.Need-same-length Inv-loop μ-loop
 same-length c = emitted-length (c .before .loop .inv .1)
@@ -63,9 +63,9 @@ put-words-spec =
     Inv-loop
     μ-loop
     loop-holds
-    mul-from
-    add-put-store
+    mul-at
     word-at-requires
+    add-put-store
     put-store-requires
     add-k
     loop-less

@@ -2,20 +2,20 @@ use Rattle.model.specs.Layout.{blockWords}
 use Rattle.trace.proofs.EmitLaws.{emitted-none, emitted-each, fits-each}
 use Rattle.trace.specs.Emit.{Emitted}
 use Rattle.model.specs.Ops.{stores}
-use lib.ListN.{length, getD}
+use lib.ListN.{length}
 use native.Mathlib.Omega.{arith}
 use mathlib.Core.Path.{_≡_}
 use Prim.Native.Nat.{_-_, _≤_}
 use borrow.Author.Needs.{needs}
-use Rattle.blocks.proofs.put_stores.Statement.{statement}
-use Rattle.blocks.proofs.put_stores.Tie as tie
+use Rattle.blocks.proofs.put_zeros.Statement.{statement}
+use Rattle.blocks.proofs.put_zeros.Tie as tie
 
 abbrev Inv-loop : tie.InvT-loop
-Inv-loop to trace₀ n words next₀ k₀ trace next k =
-    (k ≤ blockWords) × (length trace ≡ length trace₀) × Emitted trace₀ n (stores k to (λ j. getD words j 0)) trace next
+Inv-loop to trace₀ n next₀ k₀ trace next k =
+    (k ≤ blockWords) × (length trace ≡ length trace₀) × Emitted trace₀ n (stores k to (λ _. 0)) trace next
 
 abbrev μ-loop : tie.MeasureT-loop
-μ-loop to trace₀ n words next₀ k₀ trace next k = blockWords - k
+μ-loop to trace₀ n next₀ k₀ trace next k = blockWords - k
 
 loop-holds : tie.Need-loop-holds Inv-loop μ-loop
 unfolding stores
@@ -26,12 +26,6 @@ mul-put-store c = search needs
 
 add-put-store : tie.Need-add-put-store Inv-loop μ-loop
 add-put-store c = search needs
-
-mul-put-store-2 : tie.Need-mul-put-store-2 Inv-loop μ-loop
-mul-put-store-2 c = search needs
-
-array-read-put-store : tie.Need-array-read-put-store Inv-loop μ-loop
-array-read-put-store c = search needs
 
 put-store-requires : tie.Need-put-store-requires Inv-loop μ-loop
 unfolding stores
@@ -55,8 +49,8 @@ same-length c = search needs
 returns : tie.Need-returns Inv-loop μ-loop
 returns c = let e : c .before .loop .k ≡ blockWords = omega arith in rw e at (c .before .loop .inv .2)
 
-pub put-stores-spec : {M : Type 1} → statement M
-put-stores-spec =
+pub put-zeros-spec : {M : Type 1} → statement M
+put-zeros-spec =
     tie.close
     (tie.spec
     Inv-loop
@@ -64,8 +58,6 @@ put-stores-spec =
     loop-holds
     mul-put-store
     add-put-store
-    mul-put-store-2
-    array-read-put-store
     put-store-requires
     add-k
     loop-less
