@@ -1,16 +1,17 @@
 -- Laws of a block's words: their stores, and a block that is handed on as a part of an image.
-use Prim.Native.Nat.{ℕ, zero, suc, _+_, _-_, _*_, _/_, _≤_, _<_}
-use mathlib.Core.Path.{_≡_, refl, sym, ap, _∙_}
-use mathlib.Core.Bool.{Bool, true, cond}
+use Prim.Native.Nat.{ℕ, _+_, _-_, _*_, _/_, _≤_, _<_}
+use mathlib.Core.Path.{_≡_, ap, _∙_}
+use mathlib.Core.Bool.{true}
 use mathlib.Core.List.{[], _∷_, _++_}
 use native.Mathlib.Omega.{arith}
 use native.Mathlib.Nat.{add-sub-cancel-left}
 use lib.ListN.{length, take, drop, length-take, length-drop}
 use lib.Seq.{getD-take, getD-drop}
-use Rattle.model.specs.Words.{Image, byteAt, littleEndian, wordOf, wordAt}
+use Rattle.model.specs.Words.{Image, byteAt, wordAt}
 use Rattle.model.specs.Layout.{wordSize, blockSize, blockWords, blockLines}
 use Rattle.model.specs.Ops.{store, Ops, stores, clwbs, putBlock, persistCopy}
 use Rattle.model.proofs.Laws.Range.{cat-ext}
+use Rattle.model.proofs.Laws.Words.{word-moved}
 use Rattle.trace.specs.Emit.{wordStores}
 
 -- the stores of a block's words and the write-backs of its lines
@@ -20,10 +21,10 @@ unfolding putBlock
 block-words B to h = ap (λ (n : ℕ). stores (n / wordSize) to (λ k. wordAt B (wordSize * k)) ++ clwbs blockLines to) h
 
 -- two functions that agree on the words of a block
-pub put-block-ext : (flush : Bool) (to : ℕ) (v w : ℕ → ℕ) → ((k : ℕ) → k < blockWords → v k ≡ w k) → putBlock flush to v ≡ putBlock flush to w
+put-block-ext : (to : ℕ) (v w : ℕ → ℕ) → ((k : ℕ) → k < blockWords → v k ≡ w k) → putBlock true to v ≡ putBlock true to w
 unfolding putBlock stores
-put-block-ext flush to v w h =
-    ap (λ (O : Ops). O ++ cond flush (clwbs blockLines to) []) (cat-ext blockWords _ _ (λ i l. ap (λ (x : ℕ). store (to + wordSize * i) x ∷ []) (h i l)))
+put-block-ext to v w h =
+    ap (λ (O : Ops). O ++ clwbs blockLines to) (cat-ext blockWords _ _ (λ i l. ap (λ (x : ℕ). store (to + wordSize * i) x ∷ []) (h i l)))
 
 -- the blockSize bytes of an image from a place on, as a part is taken
 part-block : (I : Image) (from : ℕ) → take (from + blockSize - from) (drop from I) ≡ take blockSize (drop from I)
@@ -32,21 +33,14 @@ part-block I from = ap (λ (k : ℕ). take k (drop from I)) (add-sub-cancel-left
 pub length-part : (I : Image) (from : ℕ) → from + blockSize ≤ length I → length (take (from + blockSize - from) (drop from I)) ≡ blockSize
 length-part I from h = simp (length-take, length-drop) (omega arith)
 
-number-part : (n m : ℕ) (I : Image) (from p q : ℕ) → p + n ≤ m → q ≡ from + p → littleEndian n (byteAt (take m (drop from I))) p ≡ littleEndian n (byteAt I) q
-unfolding littleEndian
-number-part zero m I from p q h e = refl
-number-part (suc n) m I from p q h e =
-    let b : byteAt (take m (drop from I)) p ≡ byteAt I q =
-    getD-take m (drop from I) p 0 (omega arith) ∙ getD-drop from I p 0 ∙ ap (byteAt I) (sym e) in
-    rw (b, number-part n m I from (suc p) (suc q) (omega arith) (omega arith))
-
 -- a word of the part is a word of the image
-pub word-part : (I : Image) (from k : ℕ) → k < blockWords → wordAt (take blockSize (drop from I)) (wordSize * k) ≡ wordAt I (from + wordSize * k)
-unfolding wordOf
-word-part I from k h = number-part 8 blockSize I from (wordSize * k) (from + wordSize * k) (omega arith) refl
+word-part : (I : Image) (from k : ℕ) → k < blockWords → wordAt (take blockSize (drop from I)) (wordSize * k) ≡ wordAt I (from + wordSize * k)
+word-part I from k h =
+    word-moved (byteAt (take blockSize (drop from I))) (byteAt I) (wordSize * k) (from + wordSize * k)
+    (λ b l. getD-take blockSize (drop from I) (wordSize * k + b) 0 (omega arith) ∙ getD-drop from I (wordSize * k + b) 0 ∙ ap (byteAt I) (omega arith))
 
 -- so the copy of the part is the copy of the block
 pub copy-part : (I : Image) (from to : ℕ) → putBlock true to (λ k. wordAt (take (from + blockSize - from) (drop from I)) (wordSize * k)) ≡ persistCopy I from to
 unfolding persistCopy
 copy-part I from to =
-    ap (λ (B : Image). putBlock true to (λ k. wordAt B (wordSize * k))) (part-block I from) ∙ put-block-ext true to _ _ (word-part I from)
+    ap (λ (B : Image). putBlock true to (λ k. wordAt B (wordSize * k))) (part-block I from) ∙ put-block-ext to _ _ (word-part I from)

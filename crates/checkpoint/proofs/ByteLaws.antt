@@ -1,11 +1,10 @@
 -- Laws of words taken byte by byte: what an operation on a word does to each of its bytes, where no byte reaches into the next.
 use Prim.Native.Nat.{ℕ, zero, suc, _+_, _*_, _/_, _%_, _≤_, _<_}
-use mathlib.Core.Path.{_≡_, refl, ap₂, _∙_}
+use mathlib.Core.Path.{_≡_, refl, ap, ap₂, _∙_}
 use native.Mathlib.Omega.{arith}
-use native.Mathlib.Nat.{add-zero}
-use native.Mathlib.Numerals.{towards-suc}
 use lib.Bits.{bitAnd, and-mask, and-block}
 use Rattle.model.specs.Words.{littleEndian, wordOf}
+use Rattle.model.proofs.Laws.Words.{word-moved}
 
 -- f p, f (p + 1), .. are n bytes
 abbrev pub Small : ℕ → (ℕ → ℕ) → ℕ → Type 0
@@ -44,5 +43,4 @@ top-bytes (suc n) f p x =
 
 -- a word by its bytes counted from 0
 pub word-from : (f : ℕ → ℕ) (p : ℕ) → wordOf f p ≡ wordOf (λ k. f (p + k)) 0
-unfolding wordOf littleEndian
-word-from f p = simp (towards-suc, add-zero)
+word-from f p = word-moved f (λ k. f (p + k)) p 0 (λ k l. ap f (omega arith))

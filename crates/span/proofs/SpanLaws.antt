@@ -1,21 +1,23 @@
--- Laws of a span: room for its words, the words that lie whole among its bytes, its first word, and the test of its end.
+-- Laws of a span: room for its words, a word made byte by byte, the words that lie whole among its bytes, its first word, and the
+-- test of its end.
 use Prim.Native.Nat.{ℕ, zero, suc, _+_, _-_, _*_, _/_, _%_, _≤_, _<_}
 use mathlib.Core.Path.{_≡_, refl, sym, ap, ap₂, _∙_}
 use mathlib.Core.Bool.{Bool, true, false, not, cond}
 use mathlib.Core.Logic.{_≢_}
 use mathlib.Core.List.{List, [], _∷_, _++_}
 use native.Mathlib.Omega.{arith}
+use native.Mathlib.Nat.{zero-add}
 use native.Mathlib.Decide.{decLt, ℕ-discrete}
 use lib.Dec.{ltb, eqb}
-use lib.ListN.{length, getD, take, drop, length-drop}
-use lib.Seq.{getD-drop, take-all}
+use lib.ListN.{length, getD, set, take, drop, length-drop}
+use lib.Seq.{getD-set-same, getD-set-other, getD-drop, take-all}
 use borrow.Author.Tests.{lt-ltb, le-ltb, eq-eqb, ne-eqb}
-use Rattle.model.specs.Words.{Image, byteAt, littleEndian, wordOf, wordAt, overlay}
+use Rattle.model.specs.Words.{Image, byteAt, wordOf, wordAt, overlay}
 use Rattle.model.specs.Range.{cat}
 use Rattle.model.specs.Ops.{store, Ops, Trace, stores, wordPlace}
 use Rattle.model.specs.Write.{spanWords, spanStores}
 use Rattle.model.proofs.Laws.Range.{cat-ext}
-use Rattle.model.proofs.Laws.Words.{word-cong, overlay-in, overlay-inside}
+use Rattle.model.proofs.Laws.Words.{word-moved, word-cong, overlay-in, overlay-before, overlay-after, overlay-inside}
 use Rattle.model.proofs.Laws.Counts.{length-stores}
 use Rattle.trace.specs.Emit.{Fits, wordStores}
 use Rattle.span.specs.Steps.{overlaidStore, firstStores}
@@ -36,20 +38,63 @@ module _ {t : Trace} {n : ℕ} (I : Image) (a : ℕ) (bs : List ℕ) (h : Fits t
   pub words-fit : Fits t n (wordStores a bs)
   words-fit = record { room = omega (arith, span-room, length-stores (length bs / 8) a (λ k. wordAt bs (8 * k))) }
 
--- ---- words
+-- ---- a word of the image with bytes laid over it, made byte by byte
 
-number-inside : (n : ℕ) (f : ℕ → ℕ) (a : ℕ) (bs : List ℕ) (p q : ℕ) → a ≤ p → q ≡ p - a → q + n ≤ length bs
-    → littleEndian n (byteAt bs) q ≡ littleEndian n (overlay f a bs) p
-unfolding littleEndian
-number-inside zero f a bs p q h e l = refl
-number-inside (suc n) f a bs p q h e l =
-    let b : byteAt bs q ≡ overlay f a bs p = ap (byteAt bs) e ∙ overlay-inside f a bs p h (omega arith) in
-    rw (b, number-inside n f a bs (suc p) (suc q) (omega arith) (omega arith) (omega arith))
+-- eight bytes on the way to the word at p: before the place i the bytes are laid over, from i on what stood there still does
+abbrev pub Laid : (f : ℕ → ℕ) (a : ℕ) (bs : List ℕ) (p i : ℕ) (w : List ℕ) → Type 0
+Laid f a bs p i w = (k : ℕ) → k < 8 → (p + k < i → byteAt w k ≡ overlay f a bs (p + k)) × (i ≤ p + k → byteAt w k ≡ f (p + k))
+
+-- at the start, where the bytes or the word begin, none is laid over
+pub laid-none : (f : ℕ → ℕ) (a : ℕ) (bs : List ℕ) (p i : ℕ) (w : List ℕ) → (a < i → i ≤ p) → ((k : ℕ) → k < 8 → byteAt w k ≡ f (p + k)) → Laid f a bs p i w
+laid-none f a bs p i w h e k l = (λ b. e k l ∙ sym (overlay-before f a bs (p + k) (go b (decLt a i))), λ b. e k l)
+  where
+    go : p + k < i → Dec (a < i) → p + k < a
+    go b (yes x) = omega (arith, h x)
+    go b (no x) = omega arith
+
+-- with one byte more set
+pub laid-more : (f : ℕ → ℕ) (a : ℕ) (bs : List ℕ) (p i : ℕ) (w : List ℕ) → a ≤ i → i < a + length bs → p ≤ i → i < p + 8 → length w ≡ 8
+    → Laid f a bs p i w → Laid f a bs p (i + 1) (set w (i - p) (byteAt bs (i - a)))
+laid-more f a bs p i w ai ib pi ip n h k l = go (ℕ-discrete k (i - p))
+  where
+    v : ℕ
+    v = byteAt bs (i - a)
+
+    go : Dec (k ≡ i - p) → (p + k < i + 1 → byteAt (set w (i - p) v) k ≡ overlay f a bs (p + k)) × (i + 1 ≤ p + k → byteAt (set w (i - p) v) k ≡ f (p + k))
+    go (yes e) =
+        let q : i ≡ p + k = omega arith in
+        let s : byteAt (set w (i - p) v) k ≡ overlay f a bs (p + k) =
+        ap (byteAt (set w (i - p) v)) e ∙ getD-set-same w (i - p) v 0 (omega arith) ∙ overlay-inside f a bs i ai (omega arith) ∙ ap (overlay f a bs) q
+        in (λ b. s, λ b. absurd (omega arith))
+    go (no e) =
+        let s : byteAt (set w (i - p) v) k ≡ byteAt w k = getD-set-other w (i - p) k v 0 e in
+        (λ b. s ∙ h k l .0 (omega arith), λ b. s ∙ h k l .1 (omega arith))
+
+-- behind the last byte, of the word or of the bytes, it is the word
+pub laid-all : (f : ℕ → ℕ) (a : ℕ) (bs : List ℕ) (p i : ℕ) (w : List ℕ) → (i < p + 8 → a + length bs ≤ i) → Laid f a bs p i w
+    → wordAt w 0 ≡ wordOf (overlay f a bs) p
+laid-all f a bs p i w e h = word-moved (byteAt w) (overlay f a bs) 0 p (λ k l. ap (byteAt w) (zero-add k) ∙ go k l (decLt (p + k) i))
+  where
+    go : (k : ℕ) → k < 8 → Dec (p + k < i) → byteAt w k ≡ overlay f a bs (p + k)
+    go k l (yes b) = h k l .0 b
+    go k l (no b) = let x : a + length bs ≤ p + k = omega (arith, e (omega arith)) in h k l .1 (omega arith) ∙ sym (overlay-after f a bs (p + k) x)
+
+-- one byte laid over
+pub byte-laid : (f : ℕ → ℕ) (w : List ℕ) (i b : ℕ) → length w ≡ 8 → ((k : ℕ) → k < 8 → byteAt w k ≡ f (wordPlace i + k))
+    → wordAt (set w (i % 8) b) 0 ≡ wordOf (overlay f i (b ∷ [])) (wordPlace i)
+byte-laid f w i b n h =
+    let l : Laid f i (b ∷ []) (wordPlace i) (i + 1) (set w (i - wordPlace i) (byteAt (b ∷ []) (i - i))) =
+    laid-more f i (b ∷ []) (wordPlace i) i w (omega arith) (omega arith) (omega arith) (omega arith) n (laid-none f i (b ∷ []) (wordPlace i) i w (λ x. omega arith) h) in
+    let e : i - wordPlace i ≡ i % 8 = omega arith in
+    let z : i - i ≡ 0 = omega arith in
+    laid-all f i (b ∷ []) (wordPlace i) (i + 1) (set w (i % 8) b) (λ x. omega arith) (rw (e, z) at l)
+
+-- ---- the words that lie whole among bytes
 
 -- a word that lies whole among the bytes is theirs: q is where it starts in them
 word-inside : (f : ℕ → ℕ) (a : ℕ) (bs : List ℕ) (p q : ℕ) → a ≤ p → q ≡ p - a → q + 8 ≤ length bs → wordAt bs q ≡ wordOf (overlay f a bs) p
-unfolding wordOf
-word-inside f a bs p q h e l = number-inside 8 f a bs p q h e l
+word-inside f a bs p q h e l =
+    word-moved (byteAt bs) (overlay f a bs) q p (λ k b. ap (byteAt bs) (omega arith) ∙ overlay-inside f a bs (p + k) (omega arith) (omega arith))
 
 -- bytes at the start of a word: for the words that lie whole among them it does not matter what they are laid over
 words-inside : (I : Image) (a : ℕ) (bs : List ℕ) → a % 8 ≡ 0

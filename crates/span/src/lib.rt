@@ -27,36 +27,25 @@ pub struct Span {
 
 // ---- bytes laid over an image
 
-// Byte i of the image with the bytes laid over it from a place on.
-fn overlaid(image: &[u8], at: usize, bytes: &[u8], i: usize) -> u8
-    requires { ⌜ i < length (now image) ⌝ }
-    ensures { λ r. ⌜ r ≡ overlay (byteAt (now (image .entry))) at (now (bytes .entry)) i ⌝ }
-{
-    if i < at {
-        return image[i];
-    }
-    let j = i - at;
-    if j < bytes.len() {
-        return bytes[j];
-    }
-    image[i]
-}
-
 // The word at a place of the image with the bytes laid over it.
 fn overlaid_word(image: &[u8], at: usize, bytes: &[u8], place: usize) -> u64
-    requires { ⌜ place + wordSize ≤ length (now image) ⌝ }
+    requires { ⌜ (place + wordSize ≤ length (now image)) × (at + length (now bytes) < 2 ^ 64) ⌝ }
     ensures { λ r. ⌜ r ≡ wordOf (overlay (byteAt (now (image .entry))) at (now (bytes .entry))) place ⌝ }
 {
-    words::join([
-        overlaid(image, at, bytes, place),
-        overlaid(image, at, bytes, place + 1),
-        overlaid(image, at, bytes, place + 2),
-        overlaid(image, at, bytes, place + 3),
-        overlaid(image, at, bytes, place + 4),
-        overlaid(image, at, bytes, place + 5),
-        overlaid(image, at, bytes, place + 6),
-        overlaid(image, at, bytes, place + 7),
-    ])
+    let bytes_end = at + bytes.len();
+    let word_end = place + WORD_SIZE;
+    let end = if bytes_end < word_end {
+        bytes_end
+    } else {
+        word_end
+    };
+    let mut word = words::bytes_at(image, place);
+    let mut i = if at < place { place } else { at };
+    while i < end {
+        word[i - place] = bytes[i - at];
+        i += 1;
+    }
+    words::join(word)
 }
 
 // ---- limits and place
@@ -110,7 +99,7 @@ fn put_overlaid(
     trace: &mut [u64],
     n: usize,
 ) -> usize
-    requires { ⌜ place + wordSize ≤ length (now image) ⌝ }
+    requires { ⌜ (place + wordSize ≤ length (now image)) × (at + length (now bytes) < 2 ^ 64) ⌝ }
     requires { ⌜ Fits (now trace) n (overlaidStore (now image) at (now bytes) place ∷ []) ⌝ }
     ensures { λ r. ⌜ Emitted (now (trace .entry)) n (overlaidStore (now (image .entry)) at (now (bytes .entry)) place ∷ []) (now (trace .exit)) r ⌝ }
 {
@@ -129,14 +118,14 @@ pub fn put_byte(image: &[u8], at: usize, byte: u8, trace: &mut [u64], n: usize) 
     ensures { λ r. ⌜ Emitted (now (trace .entry)) n (storeByte (now (image .entry)) at byte ∷ []) (now (trace .exit)) r ⌝ }
 {
     let place = WORD_SIZE * (at / WORD_SIZE);
-    let one = [byte];
-    let word = overlaid_word(image, at, &one, place);
-    trace::put_store(trace, n, place as u64, word)
+    let mut word = words::bytes_at(image, place);
+    word[at % WORD_SIZE] = byte;
+    trace::put_store(trace, n, place as u64, words::join(word))
 }
 
 // Stores the word in whose midst bytes start, with the bytes laid over what stands there; nothing if they start a word.
 fn put_first(image: &[u8], at: usize, bytes: &[u8], trace: &mut [u64], n: usize) -> usize
-    requires { ⌜ wordPlace at + wordSize ≤ length (now image) ⌝ }
+    requires { ⌜ (wordPlace at + wordSize ≤ length (now image)) × (at + length (now bytes) < 2 ^ 64) ⌝ }
     requires { ⌜ Fits (now trace) n (firstStores (now image) at (now bytes)) ⌝ }
     ensures { λ r. ⌜ Emitted (now (trace .entry)) n (firstStores (now (image .entry)) at (now (bytes .entry))) (now (trace .exit)) r ⌝ }
 {

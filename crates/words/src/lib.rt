@@ -1,8 +1,8 @@
 // Words of an image: 8 bytes, the least significant first.
 ghost use mathlib.Core.Path.{_≡_};
-ghost use Prim.Native.Nat.{_+_, _≤_, _<_};
+ghost use Prim.Native.Nat.{ℕ, _+_, _≤_, _<_};
 ghost use lib.ListN.{length};
-ghost use Rattle.model.specs.Words.{wordAt, storeWord};
+ghost use Rattle.model.specs.Words.{byteAt, wordAt, storeWord};
 ghost use Rattle.model.specs.Layout.{wordSize};
 use model::Layout;
 
@@ -38,12 +38,12 @@ pub fn join(bytes: [u8; WORD_LEN]) -> u64
                                                     * (wide(bytes[6]) + BYTE * wide(bytes[7])))))))
 }
 
-// The word at a place of an image.
-pub fn word_at(image: &[u8], at: usize) -> u64
+// The eight bytes from a place of an image on.
+pub fn bytes_at(image: &[u8], at: usize) -> [u8; WORD_LEN]
     requires { ⌜ at + wordSize ≤ length (now image) ⌝ }
-    ensures { λ r. ⌜ r ≡ wordAt (now (image .entry)) at ⌝ }
+    ensures { λ r. ⌜ ((k : ℕ) → k < wordSize → byteAt r k ≡ byteAt (now (image .entry)) (at + k)) ⌝ }
 {
-    join([
+    [
         image[at],
         image[at + 1],
         image[at + 2],
@@ -52,7 +52,15 @@ pub fn word_at(image: &[u8], at: usize) -> u64
         image[at + 5],
         image[at + 6],
         image[at + 7],
-    ])
+    ]
+}
+
+// The word at a place of an image.
+pub fn word_at(image: &[u8], at: usize) -> u64
+    requires { ⌜ at + wordSize ≤ length (now image) ⌝ }
+    ensures { λ r. ⌜ r ≡ wordAt (now (image .entry)) at ⌝ }
+{
+    join(bytes_at(image, at))
 }
 
 // Stores a word at a place of an image.

@@ -46,14 +46,20 @@ zero-bytes (suc n) (suc b) = zero-bytes n b
 pub byte-of-zero : (b : ℕ) → getD (bytesOf 8 0) b 0 ≡ 0
 byte-of-zero b = zero-bytes 8 b
 
-number-cong : (n : ℕ) (f g : ℕ → ℕ) (p : ℕ) → ((i : ℕ) → p ≤ i → i < p + n → f i ≡ g i) → littleEndian n f p ≡ littleEndian n g p
+number-moved : (n : ℕ) (f g : ℕ → ℕ) (p q : ℕ) → ((k : ℕ) → k < n → f (p + k) ≡ g (q + k)) → littleEndian n f p ≡ littleEndian n g q
 unfolding littleEndian
-number-cong zero f g p h = refl
-number-cong (suc n) f g p h = rw (h p (omega arith) (omega arith), number-cong n f g (suc p) (λ i x y. h i (omega arith) (omega arith)))
+number-moved zero f g p q h = refl
+number-moved (suc n) f g p q h =
+    let first : f p ≡ g q = ap f (omega arith) ∙ h 0 (omega arith) ∙ ap g (omega arith) in
+    rw (first, number-moved n f g (suc p) (suc q) (λ k l. ap f (omega arith) ∙ h (suc k) (omega arith) ∙ ap g (omega arith)))
+
+-- a word by its bytes, wherever they stand
+pub word-moved : (f g : ℕ → ℕ) (p q : ℕ) → ((k : ℕ) → k < 8 → f (p + k) ≡ g (q + k)) → wordOf f p ≡ wordOf g q
+unfolding wordOf
+word-moved f g p q h = number-moved 8 f g p q h
 
 pub word-cong : (f g : ℕ → ℕ) (p : ℕ) → ((i : ℕ) → p ≤ i → i < p + 8 → f i ≡ g i) → wordOf f p ≡ wordOf g p
-unfolding wordOf
-word-cong f g p h = number-cong 8 f g p h
+word-cong f g p h = word-moved f g p p (λ k l. h (p + k) (omega arith) (omega arith))
 
 number-back : (n w : ℕ) (f : ℕ → ℕ) (p : ℕ) → w < 256 ^ n → ((b : ℕ) → b < n → f (p + b) ≡ getD (bytesOf n w) b 0) → littleEndian n f p ≡ w
 unfolding littleEndian bytesOf
