@@ -2,7 +2,7 @@
 // function `put_..` writes its operations from number n on and answers the number of the next one.
 ghost use mathlib.Core.Path.{_≡_};
 ghost use mathlib.Core.Bool.{true};
-ghost use Prim.Native.Nat.{ℕ, _+_, _*_, _^_, _≤_, _<_};
+ghost use Prim.Native.Nat.{_+_, _*_, _^_, _≤_, _<_};
 ghost use lib.Dec.{eqb};
 ghost use lib.ListN.{length, getD};
 ghost use Rattle.model.specs.Range.{allB};
@@ -17,6 +17,9 @@ const BLOCK_WORDS: usize = Layout::BLOCK_WORDS as usize;
 
 // Lines of a block.
 const BLOCK_LINES: usize = Layout::BLOCK_LINES as usize;
+
+// Operations of a block that is copied or zeroed.
+const BLOCK_OPS: usize = Layout::BLOCK_OPS as usize;
 
 // Bytes of a block, as indexes count them.
 const BLOCK_SIZE: usize = Layout::BLOCK_SIZE as usize;
@@ -38,8 +41,9 @@ pub fn put_clwbs(at: u64, trace: &mut [u64], n: usize) -> usize
     next
 }
 
-// Copies a block to a place: each of its words is stored as it is read, upward, and then the lines are written back
-// (SPECIFICATION 6.8; the ported paper: persist_copy).
+// Copies a block to a place: each of its words is read as its store is written, upward, and then the lines are written back
+// (SPECIFICATION 6.8; the ported paper: persist_copy). The next number is counted from n, which is quicker than carrying it
+// through both loops.
 pub fn put_copy(block: &[u8], to: u64, trace: &mut [u64], n: usize) -> usize
     requires { ⌜ length (now block) ≡ blockSize ⌝ }
     requires { ⌜ to + blockSize < 2 ^ 64 ⌝ }
@@ -47,7 +51,8 @@ pub fn put_copy(block: &[u8], to: u64, trace: &mut [u64], n: usize) -> usize
     ensures { λ r. ⌜ Emitted (now (trace .entry)) n (putBlock true to (λ k. wordAt (now (block .entry)) (wordSize * k))) (now (trace .exit)) r ⌝ }
 {
     let next = trace::put_words(trace, n, to, block);
-    put_clwbs(to, trace, next)
+    put_clwbs(to, trace, next);
+    n + BLOCK_OPS
 }
 
 // Stores 0 in the words of a block, upward.
@@ -65,7 +70,7 @@ fn put_zeros(to: u64, trace: &mut [u64], n: usize) -> usize
     next
 }
 
-// Fills the block at a place with zeros, and writes its lines back.
+// Fills the block at a place with zeros, and writes its lines back (SPECIFICATION 6.8).
 pub fn put_zero(to: u64, trace: &mut [u64], n: usize) -> usize
     requires { ⌜ to + blockSize < 2 ^ 64 ⌝ }
     requires { ⌜ Fits (now trace) n (persistZero to) ⌝ }

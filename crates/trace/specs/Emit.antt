@@ -1,5 +1,5 @@
--- Operations written on a trace at a place in its midst, and the one form of what is asked and promised by code that writes
--- them. Assumes nothing.
+-- Operations written on a trace at a place in its midst, the one form of what is asked and promised by code that writes them,
+-- and the stores of the words of bytes. Nothing that users rely on is said in these terms. Assumes nothing.
 use Prim.Native.Nat.{ℕ, _+_, _*_, _/_, _≤_}
 use mathlib.Core.Path.{_≡_}
 use mathlib.Core.List.{List}

@@ -1,4 +1,5 @@
-// The trace of a call (SPECIFICATION 6.1; the trade: tape): three numbers an operation, its kind, its place and its word.
+// The trace of a call (SPECIFICATION 6.1; the trade: tape): three numbers an operation, its kind, its place and its word; one
+// operation, and the stores of the words of bytes.
 ghost use mathlib.Core.Path.{_≡_};
 ghost use mathlib.Core.List.{[], _∷_};
 ghost use Prim.Native.Nat.{_+_, _*_, _^_, _≤_, _<_};

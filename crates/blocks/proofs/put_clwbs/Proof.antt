@@ -40,7 +40,7 @@ loop-again : tie.Need-loop-again Inv-loop μ-loop
 unfolding clwbs
 loop-again c =
     let l = c .before .before .before .before .before .loop in
-    (search needs, search needs, emitted-each (l .k) _ (l .inv .2) (c .before .before .put-clwb .ensures))
+    (omega arith, search needs, emitted-each (l .k) _ (l .inv .2) (c .before .before .put-clwb .ensures))
 
 same-length : tie.Need-same-length Inv-loop μ-loop
 same-length c = search needs

@@ -41,7 +41,7 @@ loop-again : tie.Need-loop-again Inv-loop μ-loop
 unfolding stores
 loop-again c =
     let l = c .before .before .before .before .before .loop in
-    (search needs, search needs, emitted-each (l .k) _ (l .inv .2) (c .before .before .put-store .ensures))
+    (omega arith, search needs, emitted-each (l .k) _ (l .inv .2) (c .before .before .put-store .ensures))
 
 same-length : tie.Need-same-length Inv-loop μ-loop
 same-length c = search needs

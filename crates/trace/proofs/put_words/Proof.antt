@@ -20,11 +20,17 @@ loop-holds : tie.Need-loop-holds Inv-loop μ-loop
 unfolding stores
 loop-holds c = (search needs, emitted-none _)
 
+loop-again : tie.Need-loop-again Inv-loop μ-loop
+unfolding stores
+loop-again c =
+    let l = c .before .before .before .before .before .before .loop in
+    (omega arith, emitted-each (l .k) _ (l .inv .1) (rw (c .before .before .before .before .word-at .ensures) at (c .before .before .put-store .ensures)))
+
 mul-at : tie.Need-mul-at Inv-loop μ-loop
 mul-at c = search needs
 
 word-at-requires : tie.Need-word-at-requires Inv-loop μ-loop
-word-at-requires c κs = search needs
+word-at-requires c κs = omega arith
 
 add-put-store : tie.Need-add-put-store Inv-loop μ-loop
 add-put-store c = search needs
@@ -40,12 +46,6 @@ add-k c = search needs
 
 loop-less : tie.Need-loop-less Inv-loop μ-loop
 loop-less c = search needs
-
-loop-again : tie.Need-loop-again Inv-loop μ-loop
-unfolding stores
-loop-again c =
-    let l = c .before .before .before .before .before .before .loop in
-    (omega arith, emitted-each (l .k) _ (l .inv .1) (rw (c .before .before .before .before .word-at .ensures) at (c .before .before .put-store .ensures)))
 
 same-length : tie.Need-same-length Inv-loop μ-loop
 same-length c = emitted-length (c .before .loop .inv .1)
