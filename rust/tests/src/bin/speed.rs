@@ -8,9 +8,11 @@
 //! first round and are not cleared between rounds; rounds run at 25 depths of
 //! the stack, since its place in its page alone moves a small call. Before
 //! measuring, all sides must give the same answers. The line
-//! `worst: rust=R small=Q limit=L`: R is the greatest ratio of the library's
-//! time to Rust's over calls of 1,000 orders or more and over replay, Q over
-//! all other calls, L the greatest ratio to memset of an opening at 64,64,64.
+//! `worst: copies=C writes=W rust=R small=Q limit=L` has the greatest ratios of
+//! the library's time to Rust's: C over openings and writes that copy, of 1,000
+//! orders or more, W over all writes that copy, R over calls of 1,000 orders or
+//! more and over replay, Q over all other calls; and L, the greatest ratio to
+//! memset of an opening at 64,64,64.
 
 use crpm::ffi::Session;
 use crpm_tests::arbitrary::{distinct_data, image_of, Metadata};
@@ -117,6 +119,16 @@ impl Case {
         match self.action {
             Action::Open | Action::Write(..) | Action::Save | Action::Replay => self.out,
             _ => 0,
+        }
+    }
+
+    /// Does the call copy or fill frames? Of the writes measured here those that
+    /// give more orders than they have bytes: the copying ones write 8 bytes.
+    fn copies(&self) -> bool {
+        match &self.action {
+            Action::Open => true,
+            Action::Write(_, bytes) => self.out > bytes.len() as u64,
+            _ => false,
         }
     }
 
@@ -245,6 +257,7 @@ fn replay_of(case: &Case, name: &'static str) -> Case {
 struct Row {
     orders: u64,
     replay: bool,
+    copies: bool,
     library: f64,
     rust: f64,
     form: Side,
@@ -290,7 +303,7 @@ fn measure(case: &mut Case) -> Result<Row, String> {
         false => (chunked, Side::Chunked),
     };
     let replay = matches!(case.action, Action::Replay);
-    Ok(Row { orders: case.orders(), replay, library, rust, form, memset })
+    Ok(Row { orders: case.orders(), replay, copies: case.copies(), library, rust, form, memset })
 }
 
 /// Runs so many frames down the stack. Times move with the stack's place in
@@ -322,6 +335,7 @@ fn memcpy_of_image(sizes: Sizes) -> f64 {
 fn run() -> Result<(usize, usize), String> {
     let mut measured = 0;
     let (mut worst, mut small, mut limit, mut replay) = (0.0f64, 0.0f64, 0.0f64, 0.0f64);
+    let (mut copies, mut writes) = (0.0f64, 0.0f64);
     println!("times in nanoseconds a call; ratio = library / best Rust form; tape = library / memset");
     for sizes in SIZES {
         println!("sizes {sizes}: memcpy of the image {:.0}", memcpy_of_image(sizes));
@@ -341,6 +355,12 @@ fn run() -> Result<(usize, usize), String> {
             if row.replay {
                 replay = replay.max(ratio);
             }
+            if row.copies && row.orders >= MANY_ORDERS {
+                copies = copies.max(ratio);
+            }
+            if row.copies && matches!(case.action, Action::Write(..)) {
+                writes = writes.max(ratio);
+            }
             if sizes == SIZES[2] && matches!(case.action, Action::Open) {
                 limit = limit.max(to_limit);
             }
@@ -348,7 +368,9 @@ fn run() -> Result<(usize, usize), String> {
     }
     let workloads = workloads()?;
     println!("replay: worst ratio {replay:.2}");
-    println!("worst: rust={worst:.2} small={small:.2} limit={limit:.2}");
+    println!(
+        "worst: copies={copies:.2} writes={writes:.2} rust={worst:.2} small={small:.2} limit={limit:.2}"
+    );
     Ok((measured, workloads))
 }
 
