@@ -96,7 +96,7 @@ clwbs n a = cat n (λ k. clwb (a + lineSize * k) ∷ [])
 unfoldable pub putBlock : Bool → ℕ → (ℕ → ℕ) → Ops
 putBlock flush a w = stores blockWords a w ++ cond flush (clwbs blockLines a) []
 
--- a block copied (SPECIFICATION 6.8), its words gathered from the image, and a block of zeros by the same operations
+-- a block copied (SPECIFICATION 6.8), each word as it stands in the image, and a block of zeros by the same operations
 unfoldable pub persistCopy : Image → ℕ → ℕ → Ops
 persistCopy I from to = putBlock true to (λ k. wordAt I (from + wordSize * k))
 
