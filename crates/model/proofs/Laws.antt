@@ -25,7 +25,8 @@ pub mod Same
 -- how many operations a call has, and traces that suffice
 pub mod Counts
 pub mod TraceLength
--- what no call reads; what a crash may leave; what demand 3 does not leave open
+-- what no call reads; flushes in main segments that are not dirty; what a crash may leave; what demand 3 does not leave open
 pub mod Unread
+pub mod CleanSegments
 pub mod Crash
 pub mod CrashSafety

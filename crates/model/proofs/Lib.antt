@@ -9,3 +9,4 @@ pub mod Sisters
 pub mod FlushDurable
 pub mod States
 pub mod FreeBackups
+pub mod CleanSegments

@@ -27,13 +27,14 @@ pub mod CrashSafety
 pub mod Sisters
 pub mod FlushDurable
 -- further statements: what no call reads, which backup segment a write takes, what it meets, the epoch, segment states and pairs, free
--- backup segments, lengths of a trace, the crash relation taken apart
+-- backup segments, main segments that are not dirty, lengths of a trace, the crash relation taken apart
 pub mod Unread
 pub mod NewBackup
 pub mod Span
 pub mod EpochCounts
 pub mod States
 pub mod FreeBackups
+pub mod CleanSegments
 pub mod TraceLength
 pub mod CrashExact
 -- a helper's: counts, in which nothing that a reader must believe is said

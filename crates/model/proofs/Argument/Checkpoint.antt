@@ -28,7 +28,7 @@ use Rattle.model.proofs.Laws.Session.{checkpoint-segment, checkpoint-bl
 use Rattle.model.proofs.Argument.Phases.{epochPhase, beforeEpoch, checkpoint-phases}
 use Rattle.model.proofs.Argument.View.{Recoverable, recoverable-alike, recovers-at, fit-cong}
 use Rattle.model.proofs.Argument.Holds.{Contents, holds-next}
-use Rattle.model.proofs.Argument.Invariant.{Invariant}
+use Rattle.model.proofs.Argument.Invariant.{Invariant, firm-own}
 use Rattle.model.proofs.Argument.Checkpoint.BeforeEpoch.{lines, before-clear, before-off, inactive-settles, dirty-settles, before-same, before-states}
 
 module _ (O : Ops) (I₀ : Image) (s : Session) (P W : Contents) (held : Bytes I₀) (inv : Invariant (s .layout) O (replay O I₀) s P W) where
@@ -102,7 +102,7 @@ module _ (O : Ops) (I₀ : Image) (s : Session) (P W : Contents) (held : Bytes I
   crash-before : (p : ℕ) (H : Image) → CrashImage I₀ (O ++ take p F) H → Recoverable lay H P
   crash-before p H c = old H (c .long) (crash-bytes c held)
       (λ k h x. same k (inv .firmMeta k h) (before-clear s I k x))
-      (λ i x h k e. same (mainAt lay i + x) (inv .firmOwn i x h k e) (before-clear s I _ (inr (omega (arith, lines s I)))))
+      (λ i x h k e. same (mainAt lay i + x) (firm-own inv i x h k e) (before-clear s I _ (inr (omega (arith, lines s I)))))
       (λ j x h k. same _ (inv .firmBackup j x h k) (before-clear s I _ (inr (omega (arith, lines s I)))))
     where
       same : (k : ℕ) → Settled (k / 64) O → Clear k F → byteAt H k ≡ byteAt I k
@@ -224,7 +224,7 @@ module _ (O : Ops) (I₀ : Image) (s : Session) (P W : Contents) (held : Bytes I
         blank = λ i x h k e d. main-after i x h k
             ∙ inv .blank i x h k (next-initial (activeState I i) _ (sym (next-state fits i (omega (arith, inv .recovers .fit .sizes .0))) ∙ e) .0) (sym (checkpoint-block s i (x / 256)) ∙ d);
         firmMeta = settled-all;
-        firmOwn = λ i x h k e. settle _ (omega arith) (settled-main i x h k);
+        firmSegment = λ i x h k e. settle _ (omega arith) (settled-main i x h k);
         firmClean = λ i x h k d. settle _ (omega arith) (settled-main i x h k);
         firmBackup = λ j x h k. settle _ (omega arith) (settled-backup j x h k);
       }

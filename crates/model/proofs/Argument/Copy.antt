@@ -27,7 +27,7 @@ use Rattle.model.proofs.Argument.Phases.{statePhase}
 use Rattle.model.proofs.Argument.Settled.{Settled, Keeps, keeps-off, keeps-append, settles-fence}
 use Rattle.model.proofs.Argument.View.{epoch-cong}
 use Rattle.model.proofs.Argument.Holds.{Contents}
-use Rattle.model.proofs.Argument.Invariant.{Invariant}
+use Rattle.model.proofs.Argument.Invariant.{Invariant, firm-own}
 use Rattle.model.proofs.Argument.Copy.Byte.{withByte}
 use Rattle.model.proofs.Argument.Copy.FirstPart.{Given, Copying}
 use Rattle.model.proofs.Argument.Copy.Crash.{line, i64, main-clear, backup-clear, own-page, given, low-B, stored}
@@ -112,8 +112,8 @@ module _ {l : Layout} {O : Ops} {I₀ : Image} {s : Session} {P W : Contents} {i
     twin = λ u t x h m k e d. twin u t x h m k e d (ℕ-discrete t j);
     blank = λ u x h k e d. blank u x h k e d (ℕ-discrete u i);
     firmMeta = λ k h. firm-K _ (cow .inv .firmMeta k h);
-    firmOwn = λ u x h k e. firm-K _ (cow .inv .firmOwn u x h k (one u h e (ℕ-discrete u i)));
-    firmClean = λ u x h k d. firm-K _ (⊎-elim (λ e. subst (λ (w : ℕ). Settled ((mainAt l w + x) / 64) O) (sym e) (cow .inv .firmOwn i x (cow .givable .main) k (cow .givable .holds)))
+    firmSegment = λ u x h k e. firm-K _ (cow .inv .firmSegment u x h k (unfold dirtySegment in e));
+    firmClean = λ u x h k d. firm-K _ (⊎-elim (λ e. subst (λ (w : ℕ). Settled ((mainAt l w + x) / 64) O) (sym e) (firm-own (cow .inv) i x (cow .givable .main) k (cow .givable .holds)))
         (λ e. cow .inv .firmClean u x h k e) (unmarked-block s i u (x / 256) d));
     firmBackup = λ t x h k. firm-K _ (cow .inv .firmBackup t x h k);
   }
@@ -133,10 +133,6 @@ module _ {l : Layout} {O : Ops} {I₀ : Image} {s : Session} {P W : Contents} {i
       not-main : (u : ℕ) → dirtySegment (unmarked s i) u ≡ true → activeState K u ≡ 1 → Dec (u ≡ i) → ⊥
       not-main u e q (yes y) = cow .inv .moved u (same-dirty u e) (subst (λ (w : ℕ). activeState I w ≡ 1) (sym y) (cow .givable .holds))
       not-main u e q (no y) = cow .inv .moved u (same-dirty u e) (sym (state-kept u (omega (arith, low u e, m64)) y) ∙ q)
-
-      one : (u : ℕ) → u < l .mains → activeState K u ≡ 1 → Dec (u ≡ i) → activeState I u ≡ 1
-      one u h e (yes y) = subst (λ (w : ℕ). activeState I w ≡ 1) (sym y) (cow .givable .holds)
-      one u h e (no y) = sym (state-kept u (omega (arith, m64)) y) ∙ e
 
       twin : (u t x : ℕ) → u < l .mains → t < l .backups → x < segmentSize l → backupToMain K t ≡ u → dirtyBlock (unmarked s i) u (x / 256) ≡ false → Dec (t ≡ j)
           → byteAt K (backupAt l t + x) ≡ byteAt K (mainAt l u + x)

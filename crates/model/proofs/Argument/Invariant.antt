@@ -1,9 +1,9 @@
 -- What holds between the calls of a history: the image I as it stands, the operations O played since all was durable, the
 -- session s, and the contents P (checkpoint) and W (working) of the reference model.
 use Prim.Native.Nat.{ℕ, _+_, _/_, _<_}
-use mathlib.Core.Path.{_≡_}
+use mathlib.Core.Path.{_≡_, refl}
 use mathlib.Core.Logic.{_≢_}
-use mathlib.Core.Bool.{true, false}
+use mathlib.Core.Bool.{Bool, true, false}
 use Rattle.model.specs.declared.Layout.{Layout}
 use Rattle.model.specs.declared.Session.{Session}
 use Rattle.model.specs.Words.{Image, byteAt}
@@ -29,8 +29,17 @@ pub record Invariant (l : Layout) (O : Ops) (I : Image) (s : Session) (P W : Con
       → byteAt I (backupAt l j + x) ≡ byteAt I (mainAt l i + x)
   -- a segment without a checkpoint is zero in every block that is not dirty
   pub blank : (i x : ℕ) → i < l .mains → x < segmentSize l → activeState I i ≡ 0 → dirtyBlock s i (x / 256) ≡ false → byteAt I (mainAt l i + x) ≡ 0
-  -- settled are: the metadata, a segment that holds its checkpoint itself, blocks that are not dirty, backup segments
+  -- settled are: the metadata, segments that are not dirty, blocks that are not dirty, backup segments
   pub firmMeta : (i : ℕ) → i < 512 → Settled (i / 64) O
-  pub firmOwn : (i x : ℕ) → i < l .mains → x < segmentSize l → activeState I i ≡ 1 → Settled ((mainAt l i + x) / 64) O
+  pub firmSegment : (i x : ℕ) → i < l .mains → x < segmentSize l → dirtySegment s i ≡ false → Settled ((mainAt l i + x) / 64) O
   pub firmClean : (i x : ℕ) → i < l .mains → x < segmentSize l → dirtyBlock s i (x / 256) ≡ false → Settled ((mainAt l i + x) / 64) O
   pub firmBackup : (j x : ℕ) → j < l .backups → x < segmentSize l → Settled ((backupAt l j + x) / 64) O
+
+-- a segment that holds its checkpoint itself is not dirty, so it is settled
+pub firm-own : {l : Layout} {O : Ops} {I : Image} {s : Session} {P W : Contents} → Invariant l O I s P W
+    → (i x : ℕ) → i < l .mains → x < segmentSize l → activeState I i ≡ 1 → Settled ((mainAt l i + x) / 64) O
+firm-own {l} {O} {s = s} inv i x h k e = go (dirtySegment s i) refl
+  where
+    go : (b : Bool) → dirtySegment s i ≡ b → Settled ((mainAt l i + x) / 64) O
+    go true d = absurd (inv .moved i d e)
+    go false d = inv .firmSegment i x h k d

@@ -23,7 +23,7 @@ use Rattle.model.proofs.Laws.Layout.{segment-in-image, apart, state-lin
 use Rattle.model.proofs.Laws.Session.{dirty-segment-same, dirty-segment-other, dirty-block-same, dirty-block-rest, dirty-block-other}
 use Rattle.model.proofs.Argument.View.{Recoverable, Alike, recoverable-alike, alike-state}
 use Rattle.model.proofs.Argument.Holds.{Contents}
-use Rattle.model.proofs.Argument.Invariant.{Invariant}
+use Rattle.model.proofs.Argument.Invariant.{Invariant, firm-own}
 
 -- ---- the session with the c blocks from block b on of main segment i dirty
 
@@ -121,7 +121,7 @@ module _ (l : Layout) (O : Ops) (I₀ : Image) (s : Session) (P W : Contents) (h
     header = λ k h x. low k (omega arith);
     states = λ u h. low (activeLine I + u) (omega (arith, state-line-high (committedEpoch I)));
     pairs = λ j h. low (256 + j) (omega arith);
-    owns = λ u x h k e. same (mainAt l u + x) (beyond-segment u x k (λ q. ne (subst (λ (w : ℕ). activeState I w ≡ 1) q e))) (inv .firmOwn u x h k e);
+    owns = λ u x h k e. same (mainAt l u + x) (beyond-segment u x k (λ q. ne (subst (λ (w : ℕ). activeState I w ≡ 1) q e))) (firm-own inv u x h k e);
     backups = λ u j x h m k e d. same _ (beyond-backup j x k) (inv .firmBackup j x m k);
   }
     where
@@ -199,7 +199,7 @@ module _ (l : Layout) (O : Ops) (I₀ : Image) (s : Session) (P W : Contents) (h
       blank = λ u x h k e d. let y = marked-block s i b c len u (x / 256) d in
           kept _ (beyond-clear _ (beyond-other u x k (y .1))) ∙ inv .blank u x h k (sym (st u h) ∙ e) (y .0);
       firmMeta = λ k h. settle k (beyond-meta k h) (inv .firmMeta k h);
-      firmOwn = λ u x h k e. settle _ (beyond-segment u x k (not-own u h e)) (inv .firmOwn u x h k (sym (st u h) ∙ e));
+      firmSegment = λ u x h k e. let y = marked-clean s i b c u e in settle _ (beyond-segment u x k (y .0)) (inv .firmSegment u x h k (y .1));
       firmClean = λ u x h k d. let y = marked-block s i b c len u (x / 256) d in settle _ (beyond-other u x k (y .1)) (inv .firmClean u x h k (y .0));
       firmBackup = λ j x h k. settle _ (beyond-backup j x k) (inv .firmBackup j x h k);
     }

@@ -121,7 +121,7 @@ module _ (s : State) (st : Stands s) where
   abbrev I : Image
   I = imageOf (s .device)
 
-  whole-lines : length (d .image) % lineSize ≡ 0
+  pub whole-lines : length (s .device .image) % lineSize ≡ 0
   whole-lines = omega (arith, ap length (st .image), st .inv .recovers .fit .long, image-lines l)
 
   -- the invariant, for a layout that is the module's
@@ -136,10 +136,10 @@ module _ (s : State) (st : Stands s) where
   -- the call's operations are well formed on the module's image
   module _ (c : Call) (ok : AllOk (length (s .device .image) / lineSize) (outcome (s .device) c .ops)) where
     -- what is played of its trace is the first part of its operations
-    called : (p : ℕ) → calledOps d c p ≡ take p (outcome d c .ops)
+    pub called : (p : ℕ) → calledOps (s .device) c p ≡ take p (outcome (s .device) c .ops)
     called p = played-ops (d .image) (outcome d c .ops) (c .trace) p whole-lines ok
 
-    called-all : calledOps d c (length (outcome d c .ops)) ≡ outcome d c .ops
+    pub called-all : calledOps (s .device) c (length (outcome (s .device) c .ops)) ≡ outcome (s .device) c .ops
     called-all = called (length (outcome d c .ops)) ∙ take-length (outcome d c .ops)
 
     appended-stands : Appends s c → Stands (step s c)

@@ -2,4 +2,5 @@
 pub mod Floor
 pub mod Sentence
 pub mod Images
+pub mod LeftOut
 pub mod Count

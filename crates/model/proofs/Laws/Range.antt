@@ -3,7 +3,7 @@ use Prim.Native.Nat.{ℕ, zero, suc, _+_, _*_, _<_, _≤_}
 use mathlib.Core.Path.{_≡_, refl, sym, ap, ap₂, _∙_, subst}
 use mathlib.Core.Bool.{Bool, true, false, not, cond, _&&_, _||_, true≢false}
 use mathlib.Core.Logic.{_≢_}
-use mathlib.Core.List.{List, _++_}
+use mathlib.Core.List.{List, [], _++_}
 use native.Mathlib.Omega.{arith}
 use native.Mathlib.Decide.{decLt, ℕ-discrete}
 use native.Mathlib.Nat.{zero-mul, suc-mul, mul-one, mul-add}
@@ -63,6 +63,11 @@ module _ {A : Type 0} where
   cat-ext (suc n) f g h = ap₂ (λ (x y : List A). x ++ y) (cat-ext n f g (λ i l. h i (omega arith))) (h n (omega arith))
 
   -- each of k elements
+  pub cat-none : (n : ℕ) → cat {A = A} n (λ i. []) ≡ []
+  unfolding cat
+  cat-none zero = refl
+  cat-none (suc n) = ap (λ (X : List A). X ++ []) (cat-none n)
+
   pub length-cat : (n k : ℕ) (f : ℕ → List A) → ((i : ℕ) → i < n → length (f i) ≡ k) → length (cat n f) ≡ n * k
   unfolding cat
   length-cat zero k f h = sym (zero-mul k)

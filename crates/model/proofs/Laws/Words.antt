@@ -46,7 +46,7 @@ zero-bytes (suc n) (suc b) = zero-bytes n b
 pub byte-of-zero : (b : ℕ) → getD (bytesOf 8 0) b 0 ≡ 0
 byte-of-zero b = zero-bytes 8 b
 
-number-moved : (n : ℕ) (f g : ℕ → ℕ) (p q : ℕ) → ((k : ℕ) → k < n → f (p + k) ≡ g (q + k)) → littleEndian n f p ≡ littleEndian n g q
+pub number-moved : (n : ℕ) (f g : ℕ → ℕ) (p q : ℕ) → ((k : ℕ) → k < n → f (p + k) ≡ g (q + k)) → littleEndian n f p ≡ littleEndian n g q
 unfolding littleEndian
 number-moved zero f g p q h = refl
 number-moved (suc n) f g p q h =
@@ -61,7 +61,7 @@ word-moved f g p q h = number-moved 8 f g p q h
 pub word-cong : (f g : ℕ → ℕ) (p : ℕ) → ((i : ℕ) → p ≤ i → i < p + 8 → f i ≡ g i) → wordOf f p ≡ wordOf g p
 word-cong f g p h = word-moved f g p p (λ k l. h (p + k) (omega arith) (omega arith))
 
-number-back : (n w : ℕ) (f : ℕ → ℕ) (p : ℕ) → w < 256 ^ n → ((b : ℕ) → b < n → f (p + b) ≡ getD (bytesOf n w) b 0) → littleEndian n f p ≡ w
+pub number-back : (n w : ℕ) (f : ℕ → ℕ) (p : ℕ) → w < 256 ^ n → ((b : ℕ) → b < n → f (p + b) ≡ getD (bytesOf n w) b 0) → littleEndian n f p ≡ w
 unfolding littleEndian bytesOf
 number-back zero w f p h k = omega arith
 number-back (suc n) w f p h k =

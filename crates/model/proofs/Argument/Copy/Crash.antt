@@ -20,6 +20,7 @@ use Rattle.model.proofs.Laws.Layout.{metadata-inside, apart, state-line
 use Rattle.model.proofs.Argument.View.{Recoverable, recoverable-alike, recovers-at, fit-cong, epoch-cong}
 use Rattle.model.proofs.Argument.GivenBackup.{holds-given}
 use Rattle.model.proofs.Argument.Holds.{Contents}
+use Rattle.model.proofs.Argument.Invariant.{firm-own}
 use Rattle.model.proofs.Argument.Copy.Byte.{withByte, byte-stored}
 use Rattle.model.proofs.Argument.Copy.FirstPart.{Given, Copying}
 
@@ -71,7 +72,7 @@ module _ {l : Layout} {O : Ops} {I₀ : Image} {s : Session} {P W : Contents} {i
       recovers-at l H P (committedEpoch I) (epoch-cong I H (λ k h. same k (cow .inv .firmMeta k (omega arith)) (inl (omega arith)) (cow .ready .clear k (inl (omega arith)))))
       (fit-cong l I H long bytes (λ k h x. same k (cow .inv .firmMeta k (omega arith)) (inl (omega arith)) (cow .ready .clear k (inl (omega arith)))) (cow .inv .recovers .fit))
       (holds-given l (cow .inv .recovers .fit .sizes) (activeState I) (backupToMain I) (byteAt I) _ _ _ P i j (cow .givable) (cow .inv .recovers .holds) states (pairs .0) (pairs .1)
-      (λ u x h k ne e. same _ (cow .inv .firmOwn u x h k e) (inr (omega arith)) (main-clear u x h k))
+      (λ u x h k ne e. same _ (firm-own (cow .inv) u x h k e) (inr (omega arith)) (main-clear u x h k))
       (λ u t x h m k ne e d. same _ (cow .inv .firmBackup t x m k) (inr (omega arith)) (backup-clear t x k ne))
       turn)
 
@@ -85,14 +86,14 @@ module _ {l : Layout} {O : Ops} {I₀ : Image} {s : Session} {P W : Contents} {i
         header = λ k h x. low k (omega arith);
         states = λ u h. low (active + u) (omega (arith, line));
         pairs = old;
-        owns = λ u x h k e. same _ (cow .inv .firmOwn u x h k e) (main-clear u x h k);
+        owns = λ u x h k e. same _ (firm-own (cow .inv) u x h k e) (main-clear u x h k);
         backups = λ u t x h m k e d. same _ (cow .inv .firmBackup t x m k) (backup-clear t x k (λ q. cow .givable .free u h (subst (λ (w : ℕ). backupToMain I w ≡ u) q d) e));
       }) (cow .inv .recovers))
       (λ new. given H long (crash-bytes c (cow .held)) (λ k g w x. same k g x)
       (λ u h ne. low (active + u) (omega (arith, line))) new
       (inl (
         low (active + i) (omega (arith, i64, line)) ∙ cow .givable .holds,
-        λ x k. same _ (cow .inv .firmOwn i x (cow .givable .main) k (cow .givable .holds)) (main-clear i x (cow .givable .main) k) ∙ own-page x k,
+        λ x k. same _ (firm-own (cow .inv) i x (cow .givable .main) k (cow .givable .holds)) (main-clear i x (cow .givable .main) k) ∙ own-page x k,
       )))
       (cow .ready .part p H (local-crash 4 I₀ H O (take p A) (cow .inv .firmMeta 256 (omega arith)) (c .lines 4)))
     where
@@ -143,7 +144,7 @@ module _ {l : Layout} {O : Ops} {I₀ : Image} {s : Session} {P W : Contents} {i
       pairs = (pair j (omega (arith, cow .givable .below, cow .inv .recovers .fit .sizes .1)) ∙ cow .ready .paired .0, λ t h ne. pair t h ∙ cow .ready .paired .1 t h ne)
 
       own : (x : ℕ) → x < segmentSize l → byteAt H (mainAt l i + x) ≡ P i x
-      own x k = same _ (cow .inv .firmOwn i x (cow .givable .main) k (cow .givable .holds)) (inr (omega arith)) (main-clear i x (cow .givable .main) k) ∙ own-page x k
+      own x k = same _ (firm-own (cow .inv) i x (cow .givable .main) k (cow .givable .holds)) (inr (omega arith)) (main-clear i x (cow .givable .main) k) ∙ own-page x k
 
       copied : (x : ℕ) → x < segmentSize l → byteAt H (backupAt l j + x) ≡ P i x
       copied x k = after _ (cow .inv .firmBackup j x (cow .givable .below) k) (inr (omega arith)) ∙ cow .ready .copy x k ∙ own-page x k

@@ -22,7 +22,7 @@ use Rattle.model.proofs.Argument.Settled.{Settled, settles-fence}
 use Rattle.model.proofs.Laws.Session.{fresh-segment}
 use Rattle.model.proofs.Argument.View.{Recoverable, Alike, recoverable-alike, alike-state}
 use Rattle.model.proofs.Argument.Holds.{Contents}
-use Rattle.model.proofs.Argument.Invariant.{Invariant}
+use Rattle.model.proofs.Argument.Invariant.{Invariant, firm-own}
 use Rattle.model.proofs.Argument.Recovery.Segment.{turn}
 use Rattle.model.proofs.Argument.Recovery.{settled-nil, StatesLine, Needed, recovery-clear, recovery-shows, recovery-alike, crash-alike, crash-alone, backup-shows, turns-flushed, recovery-keeps, meta, own, kept}
 
@@ -69,7 +69,7 @@ module _ (l : Layout) (I : Image) (P : Contents) (r : Recoverable l I P) where
     twin = λ i j x h m k e d. backup-shows l line whole I P r i j x h m k (sym (alike .pairs j (omega (arith, r .fit .sizes .1))) ∙ e) ∙ sym (shows i x h k);
     blank = λ i x h k e d. shows i x h k ∙ r .holds .initial i x h k (sym (alike-state l I K alike i (omega (arith, r .fit .sizes .0))) ∙ e);
     firmMeta = firm-meta;
-    firmOwn = λ i x h k e. firm-segment i x h k;
+    firmSegment = λ i x h k e. firm-segment i x h k;
     firmClean = λ i x h k m. firm-segment i x h k;
     firmBackup = firm-backup;
   }
@@ -93,7 +93,7 @@ module _ (l : Layout) (O : Ops) (I₀ : Image) (s : Session) (P W : Contents) (h
   firm-needed : (k : ℕ) → OpenNeeds l I P rec k → Settled (k / 64) O
   firm-needed k (meta h) = inv .firmMeta k h
   firm-needed k (own i h e x y) = let q : mainAt l i + (k - mainAt l i) ≡ k = omega arith in
-      subst (λ (m : ℕ). Settled (m / 64) O) q (inv .firmOwn i (k - mainAt l i) h (omega arith) e)
+      subst (λ (m : ℕ). Settled (m / 64) O) q (firm-own inv i (k - mainAt l i) h (omega arith) e)
   firm-needed k (kept i j h b e d x y) = let q : backupAt l j + (k - backupAt l j) ≡ k = omega arith in
       subst (λ (m : ℕ). Settled (m / 64) O) q (inv .firmBackup j (k - backupAt l j) b (omega arith))
 
@@ -108,7 +108,7 @@ module _ (l : Layout) (O : Ops) (I₀ : Image) (s : Session) (P W : Contents) (h
       ℓ = (mainAt l i + x) / 64
 
       go : Dec (activeState I i ≡ 1) → Settled ((mainAt l i + x) / 64) (O ++ G)
-      go (yes e) = recovery-keeps l (activeLine I) I ℓ O (inv .firmOwn i x h k e)
+      go (yes e) = recovery-keeps l (activeLine I) I ℓ O (firm-own inv i x h k e)
       go (no e) = unfold recoveryOps in (settles-fence ℓ (cat (l .mains) (turn l (activeLine I) I))
           (turns-flushed l (activeLine I) (committedEpoch I, refl) I P rec i ℓ h e (omega arith) (omega arith)) O)
 

@@ -103,17 +103,17 @@ durable-after ℓ k [] E h A C D p l e = omega (arith, h A C D p l e)
 durable-after ℓ k (o ∷ O) E h [] C D p l e = omega arith
 durable-after ℓ k (o ∷ O) E h (a ∷ A) C D p l e = omega (arith, durable-after ℓ k O E h A C D p l (ap (drop 1) e))
 
+pub stage-after : (ℓ : ℕ) (I H : Image) (O E : Ops) → Stage ℓ (replay O I) E H → Stage ℓ I (O ++ E) H
+stage-after ℓ I H O E s = record {
+  k = length O + s .k;
+  within = omega (arith, s .within, length-append O E);
+  durable = durable-after ℓ (s .k) O E (s .durable);
+  agree = λ i e. s .agree i e
+      ∙ sym (ap (λ (X : Ops). byteAt (replay X I) i) (take-append-add O E (s .k)) ∙ ap (λ (J : Image). byteAt J i) (replay-append O (take (s .k) E) I));
+}
+
 pub crash-after : (I H : Image) (O E : Ops) → CrashImage (replay O I) E H → CrashImage I (O ++ E) H
-crash-after I H O E c = record { long = c .long ∙ length-replay O I; lines = λ ℓ. stage (c .lines ℓ) }
-  where
-    stage : {ℓ : ℕ} → Stage ℓ (replay O I) E H → Stage ℓ I (O ++ E) H
-    stage {ℓ} s = record {
-      k = length O + s .k;
-      within = omega (arith, s .within, length-append O E);
-      durable = durable-after ℓ (s .k) O E (s .durable);
-      agree = λ i e. s .agree i e
-          ∙ sym (ap (λ (X : Ops). byteAt (replay X I) i) (take-append-add O E (s .k)) ∙ ap (λ (J : Image). byteAt J i) (replay-append O (take (s .k) E) I));
-    }
+crash-after I H O E c = record { long = c .long ∙ length-replay O I; lines = λ ℓ. stage-after ℓ I H O E (c .lines ℓ) }
 
 -- ---- what it must keep
 

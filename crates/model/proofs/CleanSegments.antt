@@ -1,0 +1,261 @@
+-- Main segments that are not dirty (specs/CleanSegments.antt): their lines are settled, by the invariant, and a checkpoint stores to none of
+-- them, so that flushes of them count for nothing.
+use Prim.Native.Nat.{ℕ, _+_, _-_, _*_, _/_, _≤_, _<_}
+use mathlib.Core.Path.{_≡_, refl, sym, ap, _∙_, subst, subst₂}
+use mathlib.Core.Logic.{_↔_, _≢_, _⊎_, inl, inr, ⊎-elim}
+use mathlib.Core.Bool.{Bool, true, false, cond, true≢false}
+use mathlib.Core.List.{List, [], _∷_, _++_, append-nil, append-assoc}
+use native.Mathlib.Omega.{arith}
+use lib.ListN.{length, take}
+use lib.Seq.{take-length}
+use Rattle.model.specs.declared.Layout.{Layout}
+use Rattle.model.specs.declared.Session.{Session}
+use Rattle.model.specs.Words.{Image, Bytes, byteAt}
+use Rattle.model.specs.Layout.{lineSize, metadataSize, segmentSize, mainAt}
+use Rattle.model.specs.Session.{dirtySegment, freshSession, zeroSession}
+use Rattle.model.specs.Status.{served}
+use Rattle.model.specs.Ops.{Ops, Trace, replay}
+use Rattle.model.specs.Outcome.{outcomeOf}
+use Rattle.model.specs.Open.{openStatus}
+use Rattle.model.specs.Checkpoint.{checkpointOps, checkpointStatus, checkpointOutcome}
+use Rattle.model.specs.Crash.{CrashImage}
+use Rattle.model.specs.Reference.{Page, CallArgs, openArgs, writeArgs, checkpointArgs}
+use Rattle.model.specs.History.{Call, Device, State, answers, outcome, calledOps, deviceStep, step, run, openedImage, start, AllPermitted}
+use Rattle.model.specs.CrashSafety.{Recovers, Moment, between, during, EpochStored, CutOpenings}
+use Rattle.model.specs.CleanSegments.{CleanSegment, CleanSettled, leanCheckpointOps, inClean, leaveOut, CleanFlushesNeedless, leanOf, leanOps, leanPlayed, LeanPermittedAt, leanPlayedAt, LeanMayShow, LeanSafety}
+use Rattle.model.proofs.Laws.CleanSegments.{leave-out-append, leave-out-replay, leave-out-part, leave-out-more, in-clean, clean-found, lean-shorter, lean-fewer}
+use Rattle.model.proofs.Laws.Ops.{replayed-image}
+use Rattle.model.proofs.Laws.Replay.{call-ok}
+use Rattle.model.proofs.Laws.Crash.LeftOut.{crash-left-out}
+use Rattle.model.proofs.Argument.Persist.{each-take, replay-append}
+use Rattle.model.proofs.Argument.Settled.{Settled, Off, off-append}
+use Rattle.model.proofs.Argument.Phases.{epochPhase, beforeEpoch, checkpoint-phases}
+use Rattle.model.proofs.Argument.Checkpoint.BeforeEpoch.{lines, before-off}
+use Rattle.model.proofs.Argument.Stands.{Stands, inv-at, whole-lines, called, called-all}
+use Rattle.model.proofs.Argument.Openings.{start-stands}
+use Rattle.model.proofs.CrashSafety.{argument, history-stands, crash-safety}
+
+-- the session of zeros has no main segment
+zero-none : zeroSession .layout .mains ≡ 0
+unfolding zeroSession freshSession
+zero-none = refl
+
+-- every line of a main segment that is not dirty is settled
+clean-settled-line : (s : State) → Stands s → (i x : ℕ) → CleanSegment (s .device .session) i → x < segmentSize (s .device .session .layout)
+    → Settled ((mainAt (s .device .session .layout) i + x) / lineSize) (s .device .played)
+clean-settled-line s st i x c h = ⊎-elim (λ e. known (s .device .session) e c h) (λ e. absurd (none e)) (st .known)
+  where
+    known : (t : Session) → t ≡ st .session → CleanSegment t i → x < segmentSize (t .layout) → Settled ((mainAt (t .layout) i + x) / lineSize) (s .device .played)
+    known t e d k = let inv = inv-at s st (t .layout) (ap (λ (y : Session). y .layout) e ∙ st .sized) in
+        inv .firmSegment i x (d .0) k (subst (λ (y : Session). dirtySegment y i ≡ false) e (d .1))
+
+    none : s .device .session ≡ zeroSession → ⊥
+    none e = omega (arith, c .0, ap (λ (y : Session). y .layout .mains) e, zero-none)
+
+pub clean-settled : CleanSettled
+clean-settled l I t b h cs permitted i x clean inside H c =
+    let s : State = run (start l I t) cs in
+    let st : Stands s = history-stands l I t b h cs permitted in
+    let p : ℕ = mainAt (s .device .session .layout) i + x in
+    let g = c .lines (p / lineSize) in
+    g .agree p refl ∙ clean-settled-line s st i x clean inside (s .device .durable) (g .k) (g .within) (g .durable) p refl
+    ∙ sym (ap (λ (J : Image). byteAt J p) (st .image))
+
+-- ---- a checkpoint without their flushes
+
+-- a checkpoint stores into the metadata alone
+checkpoint-off : (s : Session) (I : Image) (ℓ : ℕ) → metadataSize ≤ lineSize * ℓ → Off ℓ (checkpointOps s I)
+checkpoint-off s I ℓ h =
+    subst (Off ℓ) (sym (checkpoint-phases s I))
+    (off-append ℓ (beforeEpoch s I) (epochPhase I) (before-off s I ℓ (λ e. omega (arith, lines s I))) (λ i e. (omega arith, tt)))
+
+module _ (s : State) (st : Stands s) where
+  abbrev d : Device
+  d = s .device
+
+  abbrev σ : Session
+  σ = s .device .session
+
+  abbrev C : Ops
+  C = checkpointOps (s .device .session) (s .device .image)
+
+  -- on every line no flush is left out, or it is settled and the checkpoint does not store to it
+  each-line : (ℓ : ℕ) → ((p : ℕ) → p / lineSize ≡ ℓ → inClean σ p ≡ false) ⊎ (Settled ℓ (d .played) × Off ℓ C)
+  each-line ℓ = go (inClean σ (lineSize * ℓ)) refl
+    where
+      go : (b : Bool) → inClean σ (lineSize * ℓ) ≡ b → ((p : ℕ) → p / lineSize ≡ ℓ → inClean σ p ≡ false) ⊎ (Settled ℓ (d .played) × Off ℓ C)
+      go true e =
+          let f = clean-found σ (lineSize * ℓ) e in
+          let q : (mainAt (σ .layout) (f .0) + (lineSize * ℓ - mainAt (σ .layout) (f .0))) / lineSize ≡ ℓ = omega (arith, f .2) in
+          inr (
+            subst (λ (n : ℕ). Settled n (d .played)) q (clean-settled-line s st (f .0) _ (f .1) (omega (arith, f .2))),
+            checkpoint-off σ (d .image) ℓ (omega (arith, f .2)),
+          )
+      go false e = inl (λ p h. other p h (inClean σ p) refl)
+        where
+          other : (p : ℕ) → p / lineSize ≡ ℓ → (b : Bool) → inClean σ p ≡ b → inClean σ p ≡ false
+          other p h true y = let f = clean-found σ p y in absurd (true≢false (sym (in-clean σ (f .0) (lineSize * ℓ) (f .1) (omega (arith, f .2))) ∙ e))
+          other p h false y = y
+
+  -- flushes in main segments that are not dirty left out of what a checkpoint plays, whatever is played afterwards
+  crash-lean : (F : Ops) → ((ℓ : ℕ) → Off ℓ C → Off ℓ F) → (E : Ops) (H : Image)
+      → CrashImage (d .durable) (d .played ++ leaveOut (inClean σ) F ++ E) H ↔ CrashImage (d .durable) (d .played ++ F ++ E) H
+  crash-lean F off E H =
+      let x = crash-left-out (inClean σ) (d .durable) H (d .played) F E (λ ℓ. ⊎-elim inl (λ h. inr (h .0, off ℓ (h .1))) (each-line ℓ)) in
+      (x .1, x .0)
+
+  abbrev L : Ops
+  L = leanCheckpointOps (s .device .session) (s .device .image)
+
+  cut-lean : (p : ℕ) → (q : ℕ) × (q ≤ length C) × (take p L ≡ leaveOut (inClean σ) (take q C))
+      × ((H : Image) → CrashImage (d .durable) (d .played ++ take p L) H ↔ CrashImage (d .durable) (d .played ++ take q C) H)
+  cut-lean p =
+      let r = leave-out-part (inClean σ) C p in
+      let e : take p L ≡ leaveOut (inClean σ) (take (r .0) C) = ap (take p) (lean-shorter σ (d .image)) ∙ r .2 in (
+        r .0,
+        r .1,
+        e,
+        λ H. subst₂ (λ (X Y : Ops). CrashImage (d .durable) X H ↔ CrashImage (d .durable) Y H)
+            (append-nil _ ∙ ap (λ (X : Ops). d .played ++ X) (sym e)) (append-nil _) (crash-lean (take (r .0) C) (λ ℓ o i x. each-take _ (r .0) C (o i x)) [] H),
+      )
+
+  later-lean : (E : Ops) (H : Image) → CrashImage (d .durable) (d .played ++ L ++ E) H ↔ CrashImage (d .durable) (d .played ++ C ++ E) H
+  later-lean E H =
+      subst (λ (X : Ops). CrashImage (d .durable) (d .played ++ X ++ E) H ↔ CrashImage (d .durable) (d .played ++ C ++ E) H)
+      (sym (lean-shorter σ (d .image))) (crash-lean C (λ ℓ o. o) E H)
+
+pub clean-flushes-needless : CleanFlushesNeedless
+clean-flushes-needless = record {
+  shorter = lean-shorter;
+  fewer = lean-fewer;
+  leaves = λ s I J. ap (λ (X : Ops). replay X J) (lean-shorter s I) ∙ leave-out-replay (inClean s) (checkpointOps s I) J;
+  cut = λ l I t b h cs permitted. cut-lean _ (history-stands l I t b h cs permitted);
+  later = λ l I t b h cs permitted. later-lean _ (history-stands l I t b h cs permitted);
+}
+
+-- ---- a library whose checkpoints all leave them out
+
+-- an epoch store is not left out
+epoch-left : (out : ℕ → Bool) (O : Ops) → EpochStored O → EpochStored (leaveOut out O)
+unfolding leaveOut
+epoch-left out O h = (leaveOut out (h .0), leaveOut out (h .1), h .2, ap (leaveOut out) (h .3) ∙ leave-out-append out (h .0) _)
+
+module _ (s : State) (st : Stands s) where
+  -- what a checkpoint plays, served or not
+  abbrev checkpointed : Trace → Ops
+  checkpointed t = checkpointOutcome (s .device .session) (s .device .image) t .ops
+
+  checkpointed-off : (t : Trace) (ℓ : ℕ) → Off ℓ (C s st) → Off ℓ (checkpointed t)
+  unfolding checkpointOutcome outcomeOf
+  checkpointed-off t ℓ o = go (served (checkpointStatus (s .device .session) (s .device .image) t))
+    where
+      go : (b : Bool) → Off ℓ (cond b (C s st) [])
+      go true = o
+      go false = λ i e. tt
+
+  -- a call, played whole, and whatever is played afterwards
+  crash-call : (c : Call) (E : Ops) (H : Image) → CrashImage (s .device .durable) (s .device .played ++ leanOps (s .device) c ++ E) H
+      → CrashImage (s .device .durable) (s .device .played ++ outcome (s .device) c .ops ++ E) H
+  crash-call c E H = go (c .args)
+    where
+      go : (a : CallArgs) → let O : Ops = answers (s .device .session) (s .device .image) a (c .trace) .ops in
+          CrashImage (s .device .durable) (s .device .played ++ leanOf (s .device .session) a O ++ E) H → CrashImage (s .device .durable) (s .device .played ++ O ++ E) H
+      go (openArgs l) = λ x. x
+      go (writeArgs w) = λ x. x
+      go checkpointArgs = crash-lean s st (checkpointed (c .trace)) (checkpointed-off (c .trace)) E H .0
+
+  -- the first p operations of a call that has more are the first q of the call here, but for those flushes
+  abbrev Cut : Call → ℕ → Type 0
+  Cut c p =
+      (q : ℕ) × (p < length (leanOps (s .device) c) → q < length (outcome (s .device) c .ops))
+      × (EpochStored (take q (outcome (s .device) c .ops)) → EpochStored (take p (leanOps (s .device) c)))
+      × ((H : Image) → CrashImage (s .device .durable) (s .device .played ++ take p (leanOps (s .device) c)) H
+      → CrashImage (s .device .durable) (s .device .played ++ take q (outcome (s .device) c .ops)) H)
+
+  cut-call : (c : Call) (p : ℕ) → Cut c p
+  cut-call c p = go (c .args)
+    where
+      go : (a : CallArgs) → Cut (record { args = a; trace = c .trace }) p
+      go (openArgs l) = (p, (λ h. h), (λ h. h), λ H x. x)
+      go (writeArgs w) = (p, (λ h. h), (λ h. h), λ H x. x)
+      go checkpointArgs =
+          let O : Ops = checkpointed (c .trace) in
+          let r = leave-out-part (inClean (s .device .session)) O p in (
+            r .0,
+            leave-out-more (inClean (s .device .session)) O p (r .0) (r .2),
+            (λ h. subst EpochStored (sym (r .2)) (epoch-left (inClean (s .device .session)) (take (r .0) O) h)),
+            λ H x. subst (λ (X : Ops). CrashImage (s .device .durable) X H) (append-nil _)
+                (crash-lean s st (take (r .0) O) (λ ℓ o i e. each-take _ (r .0) O (checkpointed-off (c .trace) ℓ o i e)) [] H .0
+                (subst (λ (X : Ops). CrashImage (s .device .durable) X H) (sym (append-nil _ ∙ ap (λ (X : Ops). s .device .played ++ X) (sym (r .2)))) x)),
+          )
+
+  -- the image that a call leaves here
+  called-image : (c : Call) → step s c .device .image ≡ replay (outcome (s .device) c .ops) (s .device .image)
+  unfolding step deviceStep
+  called-image c =
+      let O : Ops = outcome (s .device) c .ops in
+      replayed-image (s .device .image) O (c .trace) (length O) (whole-lines s st) (call-ok (s .device) c) ∙ ap (λ (X : Ops). replay X (s .device .image)) (take-length O)
+
+-- and there
+lean-replay : (s : Session) (a : CallArgs) (O : Ops) (I : Image) → replay (leanOf s a O) I ≡ replay O I
+lean-replay s (openArgs l) O I = refl
+lean-replay s (writeArgs w) O I = refl
+lean-replay s checkpointArgs O I = leave-out-replay (inClean s) O I
+
+-- every call of a history
+run-crash : (s : State) (cs : List Call) → Stands s → AllPermitted cs → (E : Ops) (H : Image)
+    → CrashImage (s .device .durable) (s .device .played ++ leanPlayed s cs ++ E) H → CrashImage (run s cs .device .durable) (run s cs .device .played ++ E) H
+unfolding run leanPlayed step deviceStep
+run-crash s [] st permitted E H x = subst (λ (X : Ops). CrashImage (s .device .durable) (X ++ E) H) (append-nil (s .device .played)) x
+run-crash s (c ∷ cs) st permitted E H x =
+    let D : Image = s .device .durable in
+    let O : Ops = s .device .played in
+    let U : Ops = outcome (s .device) c .ops in
+    let L : Ops = leanOps (s .device) c in
+    let R : Ops = leanPlayed (step s c) cs in
+    let there : O ++ (L ++ R) ++ E ≡ O ++ L ++ (R ++ E) = ap (λ (X : Ops). X ++ E) (sym (append-assoc O L R)) ∙ append-assoc (O ++ L) R E in
+    let here : O ++ U ++ (R ++ E) ≡ O ++ calledOps (s .device) c (length U) ++ R ++ E =
+    sym (ap (λ (X : Ops). O ++ X ++ R ++ E) (called-all s st c (call-ok (s .device) c)) ∙ append-assoc (O ++ U) R E) in
+    run-crash (step s c) cs (argument s st c (permitted .0) .stands) (permitted .1) E H
+    (subst (λ (X : Ops). CrashImage D X H) here (crash-call s st c (R ++ E) H (subst (λ (X : Ops). CrashImage D X H) there x)))
+
+run-image : (s : State) (cs : List Call) → Stands s → AllPermitted cs → replay (leanPlayed s cs) (s .device .image) ≡ run s cs .device .image
+unfolding run leanPlayed replay
+run-image s [] st permitted = refl
+run-image s (c ∷ cs) st permitted =
+    let R : Ops = leanPlayed (step s c) cs in
+    let J : Image = s .device .image in
+    replay-append (leanOps (s .device) c) R J ∙ ap (replay R) (lean-replay (s .device .session) (c .args) (outcome (s .device) c .ops) J ∙ sym (called-image s st c))
+    ∙ run-image (step s c) cs (argument s st c (permitted .0) .stands) (permitted .1)
+
+-- demand 3 at a moment of a history, where a crash may leave the same there as here
+moment-safety : (l : Layout) (I : Image) (t : Trace) → Bytes I → openStatus l I t ≡ 0 → (cs : List Call) → AllPermitted cs
+    → let s : State = run (start l I t) cs in
+    (O : Ops) → ((E : Ops) (H : Image) → CrashImage (openedImage l I t) (O ++ E) H → CrashImage (s .device .durable) (s .device .played ++ E) H)
+    → (m : Moment) → LeanPermittedAt (s .device) m
+    → (H : Image) → CrashImage (openedImage l I t) (leanPlayedAt O (s .device) m) H
+    → (H′ : Image) → CutOpenings CrashImage (s .device .layout) H H′
+    → (t′ : Trace) → openStatus (s .device .layout) H′ t′ ≢ 11
+    → (Q : Page) × LeanMayShow s m Q × Recovers (s .device .layout) H′ t′ Q × Bytes H′
+moment-safety l I t b h cs permitted O same between at H x H′ openings t′ ne =
+    let s : State = run (start l I t) cs in
+    let y : CrashImage (s .device .durable) (s .device .played) H =
+    subst (λ (X : Ops). CrashImage (s .device .durable) X H) (append-nil (s .device .played)) (same [] H (subst (λ (X : Ops). CrashImage (openedImage l I t) X H) (sym (append-nil O)) x)) in
+    crash-safety l I t b h cs permitted between tt H y H′ openings t′ ne
+moment-safety l I t b h cs permitted O same (during c p) at H x H′ openings t′ ne =
+    let s : State = run (start l I t) cs in
+    let st : Stands s = history-stands l I t b h cs permitted in
+    let r = cut-call s st c p in
+    let e : calledOps (s .device) c (r .0) ≡ take (r .0) (outcome (s .device) c .ops) = called s st c (call-ok (s .device) c) (r .0) in
+    let y : CrashImage (s .device .durable) (s .device .played ++ calledOps (s .device) c (r .0)) H =
+    subst (λ (X : Ops). CrashImage (s .device .durable) (s .device .played ++ X) H) (sym e) (r .3 H (same (take p (leanOps (s .device) c)) H x)) in
+    let z = crash-safety l I t b h cs permitted (during c (r .0)) (at .0, r .1 (at .1)) H y H′ openings t′ ne in
+    (z .0, ⊎-elim inl (λ w. inr (w .0 .0, r .2 (subst EpochStored e (w .0 .1)), w .1)) (z .1), z .2, z .3)
+
+pub lean-safety : LeanSafety
+unfolding start
+lean-safety l I t b h cs permitted =
+    let st : Stands (start l I t) = start-stands l I t b h in (
+      run-image (start l I t) cs st permitted,
+      moment-safety l I t b h cs permitted (leanPlayed (start l I t) cs) (run-crash (start l I t) cs st permitted),
+    )
