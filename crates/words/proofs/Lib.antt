@@ -1,1 +1,3 @@
+pub mod BitLaws
+pub mod ByteLaws
 pub mod WordLaws
