@@ -1,2 +1,3 @@
-pub mod ScanLaws
+pub mod LineLaws
+pub mod PairLaws
 pub mod ValidLaws

@@ -1,43 +1,40 @@
--- The tests that one pass over pairs and states makes: a helper's, which says nothing that users rely on. That they are the
+-- The tests that one pass over pairs and one over states make: a helper's, which says nothing that users rely on. That they are the
 -- rules of model's Container is shown in proofs/. Assumes nothing.
-use Prim.Native.Nat.{ℕ, _≤_}
+use Prim.Native.Nat.{ℕ, zero, suc, _+_, _/_, _%_, _<_}
 use mathlib.Core.Path.{_≡_}
-use mathlib.Core.Bool.{Bool, not, cond, _&&_, _||_}
-use lib.Dec.{leb, ltb, eqb}
-use lib.ListN.{getD}
+use mathlib.Core.Bool.{Bool, true, cond, _&&_, _||_}
+use lib.Dec.{ltb, eqb}
 use Rattle.model.specs.declared.Layout.{Layout}
-use Rattle.model.specs.Range.{allB, anyB, firstB}
-use Rattle.model.specs.Layout.{most, unpaired, ssInitial, ssMain, ssBackup}
-use Rattle.model.specs.Container.{validMetadata}
+use Rattle.model.specs.Layout.{most, unpaired}
+use Rattle.model.specs.Session.{isDirty, setBit}
+use Rattle.model.specs.Container.{isPaired, validMetadata}
+use Rattle.container.specs.declared.Paired.{Paired}
 use Rattle.container.specs.declared.Examined.{Examined}
 
--- the pair of backup segment j is `unpaired`, or a main segment that no later backup segment has
-unfoldable pub pairFits : (ℕ → ℕ) → ℕ → ℕ → ℕ → Bool
-pairFits pr mains backups j =
-    (ltb (pr j) mains || eqb (pr j) unpaired) && not (ltb (pr j) mains && anyB backups (λ k. ltb j k && eqb (pr k) (pr j)))
+-- one pair more: unless it is `unpaired` it is counted, and a main segment below 64 that it names joins the set
+unfoldable pub layPair : Paired → ℕ → Paired
+layPair p pair = cond (eqb pair unpaired) p (record { set = cond (ltb pair most) (setBit (p .set) pair) (p .set); count = p .count + 1 })
 
--- the slot of a pair byte: the main segment that it names, or the last
-unfoldable pub slotOf : ℕ → ℕ → ℕ
-slotOf mains pair = cond (ltb pair mains) pair most
+-- the n lowest bytes of a word more, as pairs
+unfoldable pub layBytes : ℕ → Paired → ℕ → Paired
+layBytes zero p w = p
+layBytes (suc n) p w = layBytes n (layPair p (w % 256)) (w / 256)
 
--- the entry of a slot, by the first backup segment that has it: its number, or `unpaired` where there is none
-unfoldable pub entryOf : ℕ → ℕ → ℕ
-entryOf backups first = cond (ltb first backups) first unpaired
+-- whether the n lowest bytes of a word are all below 64
+unfoldable pub lowBytes : ℕ → ℕ → Bool
+lowBytes zero w = true
+lowBytes (suc n) w = ltb (w % 256) most && lowBytes n (w / 256)
 
--- the lowest backup segment whose pair byte has slot i, or `unpaired`
-unfoldable pub slotBackup : (ℕ → ℕ) → ℕ → ℕ → ℕ → ℕ
-slotBackup pr mains backups i = entryOf backups (firstB backups (λ j. eqb (slotOf mains (pr j)) i))
+-- the first n pairs
+unfoldable pub layPairs : (ℕ → ℕ) → ℕ → Paired
+layPairs pr zero = record { set = 0; count = 0 }
+layPairs pr (suc n) = layPair (layPairs pr n) (pr n)
 
--- a main segment may be in this state: 1 or 2 if it has a backup, else 0 or 1
-unfoldable pub stateFits : Bool → ℕ → Bool
-stateFits paired st = cond paired (ltb ssInitial st && leb st ssBackup) (leb st ssMain)
+-- a state of a main segment whose bit in the set of paired ones is this: 0 or 1 if it is 0, else 1 or 2
+unfoldable pub stateFits : ℕ → ℕ → Bool
+stateFits paired st = eqb st paired || eqb st (suc paired)
 
--- what the pass over the pairs answers: whether all fit, and the backup segment of every slot
-pub record Scanned (pr : ℕ → ℕ) (mains backups : ℕ) (r : Examined) : Type 0 where
-  pub fits : r .valid ≡ allB backups (pairFits pr mains backups)
-  pub found : (i : ℕ) → i ≤ most → getD (r .backup) i 0 ≡ slotBackup pr mains backups i
-
--- what the pass over states and pairs answers: whether they are valid, and the backup segment of every slot
+-- what the passes answer: whether states and pairs are valid, and then, which main segments are paired
 pub record ExaminedBy (l : Layout) (st pr : ℕ → ℕ) (r : Examined) : Type 0 where
   pub valid : r .valid ≡ validMetadata l st pr
-  pub found : (i : ℕ) → i ≤ most → getD (r .backup) i 0 ≡ slotBackup pr (l .mains) (l .backups) i
+  pub paired : r .valid ≡ true → (i : ℕ) → i < l .mains → isDirty (r .paired) i ≡ isPaired l pr i

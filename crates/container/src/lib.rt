@@ -1,125 +1,205 @@
-// The judge of an image (SPECIFICATION 14: refusals 1 to 4): one pass over pairs and states tells whether the metadata is
-// valid, and finds the backup segment of each main segment.
+// The judge of an image (SPECIFICATION 14: refusals 1 to 4): one pass over pairs and one over states, eight at a time, tell whether the
+// metadata is valid, and which main segments are paired.
 use model::Layout;
 use model::Status;
 ghost use mathlib.Core.Path.{_≡_};
-ghost use mathlib.Core.Bool.{not, _&&_, _||_};
-ghost use Prim.Native.Nat.{_+_, _≤_};
+ghost use mathlib.Core.Bool.{true, _||_};
+ghost use Prim.Native.Nat.{_+_, _*_, _^_, _≤_, _<_};
 ghost use lib.Dec.{eqb, ltb};
-ghost use lib.ListN.{length, getD};
+ghost use lib.ListN.{length};
 ghost use Rattle.model.specs.Range.{allB};
 ghost use Rattle.model.specs.Words.{byteAt};
 ghost use Rattle.model.specs.Status.{codeOf, firstError};
-ghost use Rattle.model.specs.Layout.{lineSize, most, pairsEnd, unpaired};
+ghost use Rattle.model.specs.Layout.{wordSize, lineSize, lineWords, most, pairsEnd};
+ghost use Rattle.model.specs.Session.{bit};
 ghost use Rattle.model.specs.Container.{segState, backupToMain, containerErrors};
-ghost use Rattle.container.specs.Scan.{slotOf, stateFits, Scanned, ExaminedBy};
+ghost use Rattle.container.specs.Scan.{layPair, layBytes, lowBytes, layPairs, stateFits, ExaminedBy};
 
-// The slots that the pass over the pairs fills: one for each main segment, and the last for pairs that name none.
-pub const SLOTS: usize = Layout::MOST_LEN + 1;
+// Sizes as indexes count them, and the bits of a byte.
+const WORD_SIZE: usize = Layout::WORD_SIZE as usize;
 
-// What a pass over metadata finds: whether what it looked at is valid, and for each slot of the pairs the lowest backup
-// segment that has it, or 255 (Layout::UNPAIRED, which is the number of no backup segment) where none has it.
-pub struct Examined {
-    pub valid: bool,
-    pub backup: [u8; SLOTS],
+const LINE_WORDS: usize = Layout::LINE_WORDS as usize;
+
+const BYTE_BITS: usize = 8;
+
+// The values of a byte.
+const BYTE: u64 = 256;
+
+// A word of eight backup segments that are all unpaired.
+const ALL_UNPAIRED: u64 = 0xffffffffffffffff;
+
+// Words by their bytes: each has its two top bits, which no main segment below 64 has; each has all bits but the lowest.
+const EACH_TOP_TWO: u64 = 0xc0c0c0c0c0c0c0c0;
+
+const EACH_HIGH: u64 = 0xfefefefefefefefe;
+
+// What pairs name: the main segments below 64, as bits of a word, and how many pairs are not unpaired. No two name the same main
+// segment, and all name one below 64, exactly if there are as many bits as pairs.
+pub struct Paired {
+    pub set: u64,
+    pub count: u64,
 }
 
-// ---- pairs and states
+// What a pass over metadata finds: whether it is valid, and which main segments are paired, as bits of a word.
+pub struct Examined {
+    pub valid: bool,
+    pub paired: u64,
+}
+
+// How many words hold the first n bytes of a line.
+fn words_of(n: usize) -> usize
+    requires { ⌜ n ≤ most ⌝ }
+    ensures { λ r. ⌜ (n ≤ wordSize * r) × (wordSize * r < n + wordSize) × (r ≤ lineWords) ⌝ }
+{
+    (n + (WORD_SIZE - 1)) / WORD_SIZE
+}
+
+// ---- pairs
+
+// One pair more.
+fn lay_pair(before: Paired, pair: u64) -> Paired
+    requires { ⌜ before .count < 2 ^ 32 ⌝ }
+    ensures { λ r. ⌜ r ≡ layPair before pair ⌝ }
+{
+    if pair == Layout::UNPAIRED as u64 {
+        return before;
+    }
+    if pair < Layout::MOST {
+        return Paired {
+            set: before.set | (1 << pair),
+            count: before.count + 1,
+        };
+    }
+    Paired {
+        set: before.set,
+        count: before.count + 1,
+    }
+}
+
+// The eight pairs of a word more, whatever they are.
+fn lay_eight(before: Paired, word: u64) -> Paired
+    requires { ⌜ before .count ≤ most ⌝ }
+    ensures { λ r. ⌜ r ≡ layBytes wordSize before word ⌝ }
+{
+    let mut next = before;
+    let mut rest = word;
+    let mut t: u64 = 0;
+    while t < Layout::WORD_SIZE {
+        next = lay_pair(next, rest % BYTE);
+        rest = rest / BYTE;
+        t += 1;
+    }
+    next
+}
+
+// The eight pairs of a word more, which all name main segments below 64.
+fn lay_full(before: Paired, word: u64) -> Paired
+    requires { ⌜ before .count ≤ most ⌝ }
+    requires { ⌜ lowBytes wordSize word ≡ true ⌝ }
+    ensures { λ r. ⌜ r ≡ layBytes wordSize before word ⌝ }
+{
+    let mut set = before.set;
+    let mut rest = word;
+    let mut t: u64 = 0;
+    while t < Layout::WORD_SIZE {
+        set = set | (1 << (rest % Layout::MOST));
+        rest = rest / BYTE;
+        t += 1;
+    }
+    Paired {
+        set: set,
+        count: before.count + Layout::WORD_SIZE,
+    }
+}
+
+// The eight pairs of a word more: a word of unpaired backup segments adds nothing, and one of paired ones is not tested byte by byte.
+fn lay_word(before: Paired, word: u64) -> Paired
+    requires { ⌜ before .count ≤ most ⌝ }
+    ensures { λ r. ⌜ r ≡ layBytes wordSize before word ⌝ }
+{
+    if word == ALL_UNPAIRED {
+        return before;
+    }
+    if word & EACH_TOP_TWO == 0 {
+        return lay_full(before, word);
+    }
+    lay_eight(before, word)
+}
+
+// The pass over the first `count` words of pairs.
+fn scan_pairs(image: &[u8], count: usize) -> Paired
+    requires { ⌜ (count ≤ lineWords) × (pairsEnd ≤ length (now image)) ⌝ }
+    ensures { λ r. ⌜ r ≡ layPairs (backupToMain (now (image .entry))) (wordSize * count) ⌝ }
+{
+    let mut paired = Paired { set: 0, count: 0 };
+    let mut k: usize = 0;
+    while k < count {
+        let word = words::word_at(image, Layout::PAIRS_AT as usize + WORD_SIZE * k);
+        paired = lay_word(paired, word);
+        k += 1;
+    }
+    paired
+}
+
+// ---- bytes of a line
 
 // Whether the bytes of a line from its byte n on all have this value.
 fn rest_is(image: &[u8], line: usize, n: usize, value: u8) -> bool
     requires { ⌜ (n ≤ most) × (line + lineSize ≤ length (now image)) ⌝ }
     ensures { λ r. ⌜ r ≡ allB most (λ i. ltb i n || eqb (byteAt (now (image .entry)) (line + i)) value) ⌝ }
 {
-    let mut ok = true;
-    let mut i = n;
-    while i < Layout::MOST_LEN {
-        ok = ok & (image[line + i] == value);
-        i += 1;
+    if n == Layout::MOST_LEN {
+        return true;
     }
-    ok
-}
-
-// Whether a pair byte may stand, given whether a later backup segment has the same main segment.
-fn pair_fits(pair: u8, mains: u64, taken: bool) -> bool
-    ensures { λ r. ⌜ r ≡ ((ltb pair mains || eqb pair unpaired) && not (ltb pair mains && taken)) ⌝ }
-{
-    ((metadata::wide(pair) < mains) | (pair == Layout::UNPAIRED))
-        & !((metadata::wide(pair) < mains) & taken)
-}
-
-// The slot of a pair byte: the main segment that it names, or the last.
-fn slot_of(pair: u8, mains: u64) -> usize
-    requires { ⌜ mains ≤ most ⌝ }
-    ensures { λ r. ⌜ (r ≡ slotOf mains pair) × (r ≤ most) ⌝ }
-{
-    if metadata::wide(pair) < mains {
-        pair as usize
-    } else {
-        Layout::MOST_LEN
+    let pattern = words::each(value);
+    let first = n / WORD_SIZE;
+    let word = words::word_at(image, line + WORD_SIZE * first);
+    let mut seen = (word ^ pattern) >> (BYTE_BITS * (n % WORD_SIZE));
+    let mut k = first + 1;
+    while k < LINE_WORDS {
+        seen = seen | (words::word_at(image, line + WORD_SIZE * k) ^ pattern);
+        k += 1;
     }
+    seen == 0
 }
 
-// The pass over the pairs of backup segments, downward, so that the lowest stays.
-fn scan_pairs(image: &[u8], mains: u64, backups: usize) -> Examined
-    requires { ⌜ (mains ≤ most) × (backups ≤ most) × (pairsEnd ≤ length (now image)) ⌝ }
-    ensures { λ r. ⌜ Scanned (backupToMain (now (image .entry))) mains backups r ⌝ }
+// Whether the states in the first `count` words of a line fit a set of paired main segments: 1 or 2 for a paired one, else 0 or 1. So
+// each is the segment's bit in the set, or one more: with the bits taken away, no byte of a word is above 1.
+fn states_fit(image: &[u8], line: usize, count: usize, set: u64) -> bool
+    requires { ⌜ (count ≤ lineWords) × (line + lineSize ≤ length (now image)) ⌝ }
+    ensures { λ r. ⌜ r ≡ allB (wordSize * count) (λ i. stateFits (bit set i) (byteAt (now (image .entry)) (line + i))) ⌝ }
 {
-    let mut scan = Examined {
-        valid: true,
-        backup: [Layout::UNPAIRED; SLOTS],
-    };
-    let mut j = backups;
-    while 0 < j {
-        j -= 1;
-        let pair = image[Layout::PAIRS_AT as usize + j];
-        let i = slot_of(pair, mains);
-        let later = scan.backup[i];
-        scan.valid = scan.valid & pair_fits(pair, mains, later != Layout::UNPAIRED);
-        scan.backup[i] = j as u8;
+    let mut over: u64 = 0;
+    let mut k: usize = 0;
+    while k < count {
+        let i = WORD_SIZE * k;
+        let states = words::word_at(image, line + i);
+        let left = std::num::wrapping_sub_u64(states, words::bits_at(set, i as u64));
+        over = over | (left & EACH_HIGH);
+        k += 1;
     }
-    scan
+    over == 0
 }
 
-// Whether a main segment may be in a state: 1 or 2 if it has a backup segment, else 0 or 1.
-fn state_fits(state: u8, paired: bool) -> bool
-    ensures { λ r. ⌜ r ≡ stateFits paired state ⌝ }
-{
-    if paired {
-        (Layout::SS_INITIAL < state) & (state <= Layout::SS_BACKUP)
-    } else {
-        state <= Layout::SS_MAIN
-    }
-}
+// ---- pairs and states
 
-// Whether the states of main segments fit their pairs, given what the pass over the pairs found.
-fn states_fit(image: &[u8], line: usize, mains: usize, backup: &[u8; SLOTS]) -> bool
-    requires { ⌜ (mains ≤ most) × (line + lineSize ≤ length (now image)) ⌝ }
-    ensures { λ r. ⌜ r ≡ allB mains (λ i. stateFits (not (eqb (getD (now (backup .entry)) i 0) unpaired)) (byteAt (now (image .entry)) (line + i))) ⌝ }
-{
-    let mut ok = true;
-    let mut i = 0;
-    while i < mains {
-        ok = ok & state_fits(image[line + i], backup[i] != Layout::UNPAIRED);
-        i += 1;
-    }
-    ok
-}
-
-// The pass over a line of states and the pairs: whether the metadata is valid by that line.
+// The pass over a line of states and the pairs: whether the metadata is valid by that line, and which main segments are paired.
 pub fn examine(image: &[u8], layout: Layout, line: usize) -> Examined
-    requires { ⌜ (layout .mains ≤ most) × (layout .backups ≤ most) × (pairsEnd ≤ length (now image)) × (line + lineSize ≤ length (now image)) ⌝ }
+    requires { ⌜ (1 ≤ layout .mains) × (layout .mains ≤ most) × (layout .backups ≤ most) × (pairsEnd ≤ length (now image)) × (line + lineSize ≤ length (now image)) ⌝ }
     ensures { λ r. ⌜ ExaminedBy layout (segState (now (image .entry)) line) (backupToMain (now (image .entry))) r ⌝ }
 {
     let mains = layout.mains as usize;
     let backups = layout.backups as usize;
-    let mut found = scan_pairs(image, layout.mains, backups);
-    let pairs_ok = found.valid
-        & rest_is(image, Layout::PAIRS_AT as usize, backups, Layout::UNPAIRED);
-    let states_ok = states_fit(image, line, mains, &found.backup)
+    let paired = scan_pairs(image, words_of(backups));
+    let set = paired.set;
+    let pairs_ok = (u64::count_ones(set) as u64 == paired.count) & words::within(set, layout.mains);
+    let states_ok = states_fit(image, line, words_of(mains), set);
+    let rest_ok = rest_is(image, Layout::PAIRS_AT as usize, backups, Layout::UNPAIRED)
         & rest_is(image, line, mains, Layout::SS_INITIAL);
-    found.valid = pairs_ok & states_ok;
-    found
+    Examined {
+        valid: (pairs_ok & states_ok) & rest_ok,
+        paired: set,
+    }
 }
 
 // ---- refusals 1 to 4

@@ -38,7 +38,7 @@ pub fn plan_copy(image: &[u8], layout: Layout, segments: u64, main: u64) -> Plan
     ensures { λ r. ⌜ CopiesTo layout r ⌝ }
 {
     let active = metadata::active_at(image);
-    let dirty = session::is_dirty(segments, main);
+    let dirty = words::has_bit(segments, main);
     let state = image[active + main as usize];
     if dirty | (state != Layout::SS_MAIN) {
         return Plan::NoCopy;

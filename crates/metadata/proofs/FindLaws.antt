@@ -1,5 +1,5 @@
--- Laws of the searches for a backup segment: what an answer says, and that the two searches for a new one find it.
-use Prim.Native.Nat.{ℕ, _-_, _≤_, _<_}
+-- Laws of the searches for a backup segment: what an answer says, a search by words, and that the two searches for a new one find it.
+use Prim.Native.Nat.{ℕ, _+_, _-_, _≤_, _<_}
 use mathlib.Core.Path.{_≡_, refl, sym, ap, _∙_}
 use mathlib.Core.Logic.{_≢_, _⊎_, ⊎-elim}
 use mathlib.Core.Bool.{Bool, true, false, true≢false}
@@ -9,9 +9,11 @@ use lib.Dec.{ltb, eqb}
 use borrow.Author.Tests.{lt-ltb, le-ltb}
 use Rattle.model.specs.declared.Layout.{Layout}
 use Rattle.model.specs.Range.{firstB}
-use Rattle.model.specs.Layout.{unpaired, ssMain}
-use Rattle.model.specs.Container.{Valid, isPaired, pairedBackup, newBackup}
-use Rattle.model.proofs.Laws.Range.{any-first}
+use Rattle.model.specs.Layout.{pairsAt, unpaired, ssMain}
+use Rattle.model.specs.Words.{Image, byteAt, wordOf, wordAt}
+use Rattle.model.specs.Container.{backupToMain, Valid, isPaired, pairedBackup, newBackup}
+use Rattle.model.proofs.Laws.Range.{any-first, first-some, first-none, first-found, first-before}
+use Rattle.model.proofs.Laws.Words.{word-moved}
 use Rattle.model.proofs.Laws.Container.{unpaired-none}
 use Rattle.model.proofs.Laws.NewBackup.{new-alone, new-unused}
 use Rattle.metadata.specs.declared.Found.{Found}
@@ -57,6 +59,38 @@ module _ (n k : ℕ) where
       go : Dec (k < n) → n ≤ k
       go (yes b) = absurd (true≢false (sym (ap isBackup (h ∙ sym (found-at k b refl)))))
       go (no b) = omega arith
+
+-- ---- a search by words
+
+module _ (P : ℕ → Bool) (j : ℕ) (none : (k : ℕ) → k < j → P k ≡ false) where
+  -- the first of the word from j on
+  abbrev inWord : ℕ
+  inWord = firstB 8 (λ k. P (j + k))
+
+  -- no number before it passes
+  pub none-before : (k : ℕ) → k < j + inWord → P k ≡ false
+  none-before k h = go (decLt k j)
+    where
+      go : Dec (k < j) → P k ≡ false
+      go (yes l) = none k l
+      go (no l) = let e : k ≡ j + (k - j) = omega arith in ap P e ∙ first-before 8 (λ i. P (j + i)) (k - j) (omega arith)
+
+  -- it is the one that a search below n finds
+  pub found-in-word : (n : ℕ) → inWord < 8 → foundBelow n (j + inWord) ≡ foundBelow n (firstB n P)
+  found-in-word n h = go (decLt (j + inWord) n)
+    where
+      passes : P (j + inWord) ≡ true
+      passes = first-some 8 (λ k. P (j + k)) (any-first 8 (λ k. P (j + k)) ∙ lt-ltb _ _ h) .1
+
+      go : Dec (j + inWord < n) → foundBelow n (j + inWord) ≡ foundBelow n (firstB n P)
+      go (yes l) = ap (foundBelow n) (sym (first-found n P (j + inWord) l none-before passes))
+      go (no l) =
+          sym (found-none n (j + inWord) (omega arith))
+          ∙ found-none n (firstB n P) (omega (arith, first-none n P (λ k b. none-before k (omega arith))))
+
+-- the bytes of a word of pairs are the main segments of eight backup segments
+pub pairs-word : (I : Image) (j : ℕ) → wordAt I (pairsAt + j) ≡ wordOf (λ k. backupToMain I (j + k)) 0
+pairs-word I j = word-moved (byteAt I) (λ k. backupToMain I (j + k)) (pairsAt + j) 0 (λ k l. ap (byteAt I) (omega arith))
 
 -- ---- the new backup segment
 

@@ -61,18 +61,30 @@ pub enum Found {
     Backup(u64),
 }
 
-// The lowest backup segment whose pair byte is `main`.
+// What a search answers that found this number: a backup segment, or none if it is beyond the last.
+fn found_below(backups: u64, j: u64) -> Found
+    ensures { λ r. ⌜ r ≡ foundBelow backups j ⌝ }
+{
+    if j < backups {
+        return Found::Backup(j);
+    }
+    Found::Missing
+}
+
+// The lowest backup segment whose pair byte is `main`, searched for a word of pairs at a time.
 pub fn find_paired_backup(image: &[u8], layout: Layout, main: u64) -> Found
-    requires { ⌜ (layout .backups ≤ most) × (pairsEnd ≤ length (now image)) ⌝ }
+    requires { ⌜ (layout .backups ≤ most) × (main < 256) × (pairsEnd ≤ length (now image)) ⌝ }
     ensures { λ r. ⌜ r ≡ foundBelow (layout .backups) (pairedBackup layout (backupToMain (now (image .entry))) main) ⌝ }
 {
     let backups = layout.backups;
     let mut j = 0;
     while j < backups {
-        if wide(image[(Layout::PAIRS_AT + j) as usize]) == main {
-            return Found::Backup(j);
+        let word = words::word_at(image, (Layout::PAIRS_AT + j) as usize);
+        let k = words::first_byte(word, main as u8);
+        if k < Layout::WORD_SIZE {
+            return found_below(backups, j + k);
         }
-        j += 1;
+        j += Layout::WORD_SIZE;
     }
     Found::Missing
 }

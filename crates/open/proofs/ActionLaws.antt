@@ -13,8 +13,6 @@ use Rattle.model.specs.Layout.{ssBackup}
 use Rattle.model.specs.Container.{segState, backupToMain, isPaired, pairedBackup, byState}
 use Rattle.model.specs.Open.{recoveryAction, actionOps, recoverSegment}
 use Rattle.model.proofs.Laws.Container.{paired-at}
-use Rattle.container.specs.Scan.{entryOf}
-use Rattle.container.proofs.ScanLaws.{entry-some}
 use Rattle.open.specs.Recovery.{takesBackup}
 
 -- ---- the table
@@ -50,10 +48,10 @@ pub takes-there : (l : Layout) (I : Image) (st i : ℕ) (a : Action) → a ≡ r
     → pairedBackup l (backupToMain I) i < l .backups
 takes-there l I st i a e h = paired-at l (backupToMain I) i (takes-paired st _ (ap takesBackup (sym e) ∙ h)) .0
 
--- so the entry of the main segment says which
-pub takes-entry : (l : Layout) (I : Image) (st i j : ℕ) (a : Action) → a ≡ recoveryAction st (isPaired l (backupToMain I) i)
-    → j ≡ entryOf (l .backups) (pairedBackup l (backupToMain I) i) → takesBackup a ≡ true → j ≡ pairedBackup l (backupToMain I) i
-takes-entry l I st i j a e k h = k ∙ entry-some (l .backups) _ (takes-there l I st i a e h)
+-- so what is its backup segment where it is paired is the one
+pub takes-own : (l : Layout) (I : Image) (st i j : ℕ) (a : Action) → a ≡ recoveryAction st (isPaired l (backupToMain I) i)
+    → (isPaired l (backupToMain I) i ≡ true → j ≡ pairedBackup l (backupToMain I) i) → takesBackup a ≡ true → j ≡ pairedBackup l (backupToMain I) i
+takes-own l I st i j a e k h = k (takes-paired st _ (ap takesBackup (sym e) ∙ h))
 
 -- the operations of an action are those of the backup segment that it takes
 same-ops : (l : Layout) (I : Image) (i j k : ℕ) (a : Action) → (takesBackup a ≡ true → j ≡ k) → actionOps l I i j a ≡ actionOps l I i k a
@@ -63,9 +61,9 @@ same-ops l I i j k ZeroMain h = refl
 same-ops l I i j k CopyToBackup h = rw (h refl)
 same-ops l I i j k CopyToMain h = rw (h refl)
 
--- the operations of recovery of a main segment, by its entry
-pub entry-ops : (l : Layout) (I : Image) (line i j : ℕ) (a : Action) → a ≡ recoveryAction (segState I line i) (isPaired l (backupToMain I) i)
-    → j ≡ entryOf (l .backups) (pairedBackup l (backupToMain I) i) → actionOps l I i j a ≡ recoverSegment l I line i
+-- the operations of recovery of a main segment
+pub own-ops : (l : Layout) (I : Image) (line i j : ℕ) (a : Action) → a ≡ recoveryAction (segState I line i) (isPaired l (backupToMain I) i)
+    → (isPaired l (backupToMain I) i ≡ true → j ≡ pairedBackup l (backupToMain I) i) → actionOps l I i j a ≡ recoverSegment l I line i
 unfolding recoverSegment
-entry-ops l I line i j a e k =
-    same-ops l I i j _ a (takes-entry l I (segState I line i) i j a e k) ∙ ap (actionOps l I i (pairedBackup l (backupToMain I) i)) e
+own-ops l I line i j a e k =
+    same-ops l I i j _ a (takes-own l I (segState I line i) i j a e k) ∙ ap (actionOps l I i (pairedBackup l (backupToMain I) i)) e

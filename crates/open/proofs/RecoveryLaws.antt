@@ -21,8 +21,7 @@ use Rattle.model.proofs.Laws.Container.{valid-means}
 use Rattle.model.proofs.Laws.Status.{first-holds, first-fails, first-of-none, stage-refused, stage-passed}
 use Rattle.container.specs.declared.Examined.{Examined}
 use Rattle.container.specs.Scan.{ExaminedBy}
-use Rattle.container.proofs.ScanLaws.{slot-found}
-use Rattle.open.specs.Recovery.{ValidBy, BackupsOf, recoveryErrors, recoveryOutcome}
+use Rattle.open.specs.Recovery.{ValidBy, PairedSet, recoveryErrors, recoveryOutcome}
 
 -- ---- the number of operations
 
@@ -32,10 +31,10 @@ recovery-bound blocks segments b h = mul-le-mul {n₁ = blockOps * blocks} {m₁
 -- ---- what the pass over states and pairs gives
 
 pub recovers-by : (l : Layout) (I : Image) (line : ℕ) (r : Examined) → SizesOk l → length I ≡ imageSize l → line + most ≤ length I
-    → ExaminedBy l (segState I line) (backupToMain I) r → not (r .valid) ≡ false → ValidBy l I line × BackupsOf l I (r .backup)
+    → ExaminedBy l (segState I line) (backupToMain I) r → not (r .valid) ≡ false → ValidBy l I line × PairedSet l I (r .paired)
 recovers-by l I line r s e k x h = (
   record { sizes = s; long = e; inside = k; valid = valid-means l _ _ (sym (x .valid) ∙ not-false _ h) },
-  λ i b. slot-found l (segState I line) (backupToMain I) r x (s .0 .1) i b,
+  x .paired (not-false _ h),
 )
 
 -- ---- refusals and outcome

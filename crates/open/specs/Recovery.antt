@@ -2,20 +2,19 @@
 use Prim.Native.Nat.{ℕ, _+_, _≤_, _<_}
 use mathlib.Core.Path.{_≡_}
 use mathlib.Core.Bool.{Bool, true, false}
-use mathlib.Core.List.{List, _++_}
-use lib.ListN.{length, getD}
+use mathlib.Core.List.{_++_}
+use lib.ListN.{length}
 use Rattle.model.specs.declared.Layout.{Layout}
 use Rattle.model.specs.declared.Action.{Action}
 use Rattle.model.specs.declared.Action.the-variants.{Nothing, ZeroMain, CopyToBackup, CopyToMain}
 use Rattle.model.specs.Words.{Image}
 use Rattle.model.specs.Layout.{most, SizesOk, imageSize}
 use Rattle.model.specs.Status.{Errors, firstError}
-use Rattle.model.specs.Container.{segState, backupToMain, Valid, pairedBackup, validErrors}
-use Rattle.model.specs.Session.{freshSession, zeroSession}
+use Rattle.model.specs.Container.{segState, backupToMain, Valid, isPaired, validErrors}
+use Rattle.model.specs.Session.{isDirty, freshSession, zeroSession}
 use Rattle.model.specs.Ops.{Trace, traceErrors}
 use Rattle.model.specs.Open.{recoveryOps}
 use Rattle.model.specs.Outcome.{Outcome, outcomeOf}
-use Rattle.container.specs.Scan.{entryOf}
 
 -- what recovery goes by: an image of the layout's size, and a line of states that is valid with the pairs
 pub record ValidBy (l : Layout) (I : Image) (line : ℕ) : Type 0 where
@@ -24,9 +23,9 @@ pub record ValidBy (l : Layout) (I : Image) (line : ℕ) : Type 0 where
   pub inside : line + most ≤ length I
   pub valid : Valid l (segState I line) (backupToMain I)
 
--- the backup segment of each main segment, or `unpaired`, as the pass over the pairs found it
-abbrev pub BackupsOf : Layout → Image → List ℕ → Type 0
-BackupsOf l I found = (i : ℕ) → i < l .mains → getD found i 0 ≡ entryOf (l .backups) (pairedBackup l (backupToMain I) i)
+-- the paired main segments, as bits of a number
+abbrev pub PairedSet : Layout → Image → ℕ → Type 0
+PairedSet l I set = (i : ℕ) → i < l .mains → isDirty set i ≡ isPaired l (backupToMain I) i
 
 -- an action that reads or writes the backup segment
 abbrev pub takesBackup : Action → Bool

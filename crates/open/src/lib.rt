@@ -1,6 +1,6 @@
 // Opening, which recovers (SPECIFICATION 9): each main segment is treated by the table of states and pairs, so that its
 // bytes are the checkpoint again. What recovery does is given a line of states; an opening goes by the active one.
-use container::SLOTS;
+use metadata::Found;
 use model::Action;
 use model::Answer;
 use model::Layout;
@@ -10,14 +10,14 @@ ghost use mathlib.Core.Path.{_≡_};
 ghost use mathlib.Core.Bool.{true};
 ghost use Prim.Native.Nat.{_+_, _^_, _≤_, _<_};
 ghost use lib.ListN.{length};
-ghost use Rattle.model.specs.Layout.{layoutOf, most, ssBackup, SizesOk, imageSize};
-ghost use Rattle.model.specs.Container.{segState, backupToMain, isPaired};
+ghost use Rattle.model.specs.Layout.{layoutOf, most, pairsEnd, ssBackup, SizesOk, imageSize};
+ghost use Rattle.model.specs.Container.{segState, backupToMain, isPaired, pairedBackup};
 ghost use Rattle.model.specs.Session.{zeroSession};
 ghost use Rattle.model.specs.Outcome.{Gives};
 ghost use Rattle.model.specs.Open.{recoveryAction, actionOps, recoverSegment, recoveryOps, openOutcome};
 ghost use Rattle.model.specs.Counts.{acts, treated};
 ghost use Rattle.trace.specs.Emit.{Fits, Emitted};
-ghost use Rattle.open.specs.Recovery.{ValidBy, BackupsOf, takesBackup, recoveryOutcome};
+ghost use Rattle.open.specs.Recovery.{ValidBy, PairedSet, takesBackup, recoveryOutcome};
 
 // What recovery does, by the state of a main segment and whether it is paired; the two cells that cannot be do nothing.
 const RECOVERY_ACTION: [[Action; 2]; 3] = [
@@ -50,17 +50,23 @@ fn treats(action: Action) -> u64
 // ---- one segment
 
 // What recovery does about main segment i.
-fn segment_action(
-    image: &[u8],
-    layout: Layout,
-    line: usize,
-    backup: &[u8; SLOTS],
-    i: usize,
-) -> Action
-    requires { ⌜ (i < layout .mains) × ValidBy layout (now image) line × BackupsOf layout (now image) (now backup) ⌝ }
+fn segment_action(image: &[u8], layout: Layout, line: usize, paired: u64, i: usize) -> Action
+    requires { ⌜ (i < layout .mains) × ValidBy layout (now image) line × PairedSet layout (now image) paired ⌝ }
     ensures { λ r. ⌜ r ≡ recoveryAction (segState (now (image .entry)) line i) (isPaired layout (backupToMain (now (image .entry))) i) ⌝ }
 {
-    recovery_action(image[line + i], backup[i] != Layout::UNPAIRED)
+    recovery_action(image[line + i], words::has_bit(paired, i as u64))
+}
+
+// The backup segment of a main segment, or 0 where it has none.
+fn backup_of(image: &[u8], layout: Layout, main: u64) -> u64
+    requires { ⌜ (main < most) × (layout .backups ≤ most) × (pairsEnd ≤ length (now image)) ⌝ }
+    ensures { λ r. ⌜ (isPaired layout (backupToMain (now (image .entry))) main ≡ true → r ≡ pairedBackup layout (backupToMain (now (image .entry))) main) ⌝ }
+{
+    let found = metadata::find_paired_backup(image, layout, main);
+    match found {
+        Found::Missing => 0,
+        Found::Backup(backup) => backup,
+    }
 }
 
 // Writes the operations of an action on main segment i and backup segment j.
@@ -103,43 +109,43 @@ fn put_segment(
     image: &[u8],
     layout: Layout,
     line: usize,
-    backup: &[u8; SLOTS],
+    paired: u64,
     i: usize,
     trace: &mut [u64],
     n: usize,
 ) -> usize
-    requires { ⌜ (i < layout .mains) × ValidBy layout (now image) line × BackupsOf layout (now image) (now backup) ⌝ }
+    requires { ⌜ (i < layout .mains) × ValidBy layout (now image) line × PairedSet layout (now image) paired ⌝ }
     requires { ⌜ Fits (now trace) n (recoverSegment layout (now image) line i) ⌝ }
     ensures { λ r. ⌜ Emitted (now (trace .entry)) n (recoverSegment layout (now (image .entry)) line i) (now (trace .exit)) r ⌝ }
 {
-    let action = segment_action(image, layout, line, backup, i);
-    let j = metadata::wide(backup[i]);
+    let action = segment_action(image, layout, line, paired, i);
+    let j = backup_of(image, layout, i as u64);
     put_action(image, layout, i as u64, j, action, trace, n)
 }
 
 // ---- all segments
 
 // How many main segments recovery treats.
-fn count_treated(image: &[u8], layout: Layout, line: usize, backup: &[u8; SLOTS]) -> u64
-    requires { ⌜ ValidBy layout (now image) line × BackupsOf layout (now image) (now backup) ⌝ }
+fn count_treated(image: &[u8], layout: Layout, line: usize, paired: u64) -> u64
+    requires { ⌜ ValidBy layout (now image) line × PairedSet layout (now image) paired ⌝ }
     ensures { λ r. ⌜ (r ≡ treated layout (now (image .entry)) line) × (r ≤ most) ⌝ }
 {
     let mains = layout.mains as usize;
     let mut sum = 0;
     let mut i = 0;
     while i < mains {
-        sum += treats(segment_action(image, layout, line, backup, i));
+        sum += treats(segment_action(image, layout, line, paired, i));
         i += 1;
     }
     sum
 }
 
 // The number of the operations of recovery.
-fn recovery_length(image: &[u8], layout: Layout, line: usize, backup: &[u8; SLOTS]) -> u64
-    requires { ⌜ ValidBy layout (now image) line × BackupsOf layout (now image) (now backup) ⌝ }
+fn recovery_length(image: &[u8], layout: Layout, line: usize, paired: u64) -> u64
+    requires { ⌜ ValidBy layout (now image) line × PairedSet layout (now image) paired ⌝ }
     ensures { λ r. ⌜ (r ≡ length (recoveryOps layout (now (image .entry)) line)) × (r < 2 ^ 32) ⌝ }
 {
-    Layout::BLOCK_OPS * layout.blocks * count_treated(image, layout, line, backup) + 1
+    Layout::BLOCK_OPS * layout.blocks * count_treated(image, layout, line, paired) + 1
 }
 
 // Writes the operations of recovery: the main segments upward, then one fence.
@@ -147,11 +153,11 @@ fn put_recovery(
     image: &[u8],
     layout: Layout,
     line: usize,
-    backup: &[u8; SLOTS],
+    paired: u64,
     trace: &mut [u64],
     n: usize,
 ) -> usize
-    requires { ⌜ ValidBy layout (now image) line × BackupsOf layout (now image) (now backup) ⌝ }
+    requires { ⌜ ValidBy layout (now image) line × PairedSet layout (now image) paired ⌝ }
     requires { ⌜ Fits (now trace) n (recoveryOps layout (now image) line) ⌝ }
     ensures { λ r. ⌜ Emitted (now (trace .entry)) n (recoveryOps layout (now (image .entry)) line) (now (trace .exit)) r ⌝ }
 {
@@ -159,7 +165,7 @@ fn put_recovery(
     let mut next = n;
     let mut i = 0;
     while i < mains {
-        next = put_segment(image, layout, line, backup, i, trace, next);
+        next = put_segment(image, layout, line, paired, i, trace, next);
         i += 1;
     }
     trace::put_sfence(trace, next)
@@ -184,12 +190,12 @@ fn recover(image: &[u8], layout: Layout, line: usize, trace: &mut [u64]) -> Answ
     if !found.valid {
         return refused(Status::Invalid);
     }
-    let ops = recovery_length(image, layout, line, &found.backup);
+    let ops = recovery_length(image, layout, line, found.paired);
     let room = trace::trace_status(trace.len(), ops);
     if !room.is_served() {
         return refused(room);
     }
-    put_recovery(image, layout, line, &found.backup, trace, 0);
+    put_recovery(image, layout, line, found.paired, trace, 0);
     Answer::served(Session::fresh(layout), ops)
 }
 

@@ -1,40 +1,12 @@
--- Laws of dirty bits as the code shifts and masks them: one bit, bits from one on, clearing and setting a run.
+-- Laws of dirty bits as the code masks them: clearing and setting a run.
 use Prim.Native.Nat.{ℕ, zero, suc, _+_, _-_, _*_, _^_, _/_, _%_, _≤_, _<_}
 use mathlib.Core.Path.{_≡_, sym, ap, _∙_, subst}
 use native.Mathlib.Omega.{arith}
-use native.Mathlib.Decide.{decLt}
-use native.Mathlib.Nat.{one-mul, zero-mul, suc-mul, add-mul, pow-suc, div-eq-of-lt, div-lt-iff-lt-mul}
+use native.Mathlib.Nat.{one-mul, zero-mul, suc-mul, add-mul, pow-suc}
 use lib.Arith.{bin-ind}
-use lib.Bits.{bitAnd, bitOr, and-mask, and-high, or-step, or-zero-l, or-zero-r, or-shifted-r}
-use lib.Pow.{pow-pos, pow-add, shl-lt, shl-exact, shr-shr, shr-mod, high, suc-ones, ones-lt, ones-split}
-use lib.Dec.{eqb, ltb}
-use borrow.Author.Tests.{lt-ltb, le-ltb, eq-eqb, ne-eqb}
-use Rattle.model.specs.Session.{bit, setBit, setBits}
-
--- `1 << f`
-pub shifted-one : (f : ℕ) → f < 64 → 1 * 2 ^ f % 18446744073709551616 ≡ 2 ^ f
-shifted-one f h = shl-exact 1 f 64 (omega arith) (omega arith) ∙ one-mul (2 ^ f)
-
--- `(m >> f) & 1`
-pub masked-bit : (m f : ℕ) → bitAnd (m / 2 ^ f) 1 ≡ bit m f
-unfolding bit
-masked-bit m f = and-mask (m / 2 ^ f) 1
-
--- `(m >> (n - 1)) >> 1 == 0`
-pub high-clear : (m n : ℕ) → 1 ≤ n → eqb (m / 2 ^ (n - 1) / 2) 0 ≡ ltb m (2 ^ n)
-high-clear m n h = go (decLt m (2 ^ n))
-  where
-    shifted : m / 2 ^ (n - 1) / 2 ≡ m / 2 ^ n
-    shifted = shr-shr m (n - 1) 1 ∙ ap (λ (k : ℕ). m / 2 ^ k) (let e : n - 1 + 1 ≡ n = omega arith in e)
-
-    go : Dec (m < 2 ^ n) → eqb (m / 2 ^ (n - 1) / 2) 0 ≡ ltb m (2 ^ n)
-    go (yes l) = eq-eqb _ _ (shifted ∙ div-eq-of-lt l) ∙ sym (lt-ltb _ _ l)
-    go (no l) = ne-eqb _ _ (λ e. l (below (sym shifted ∙ e))) ∙ sym (le-ltb m (2 ^ n) (omega arith))
-      where
-        below : m / 2 ^ n ≡ 0 → m < 2 ^ n
-        below e = let q : m / 2 ^ n < 1 = omega arith in omega (arith, div-lt-iff-lt-mul (pow-pos n) .0 q, one-mul (2 ^ n))
-
--- ---- clearing and setting
+use lib.Bits.{bitAnd, bitOr, and-high, or-step, or-zero-l, or-zero-r, or-shifted-r}
+use lib.Pow.{pow-add, shl-lt, shl-exact, shr-mod, high, suc-ones, ones-lt, ones-split, pow-pos}
+use Rattle.model.specs.Session.{setBit, setBits}
 
 -- a mask of the n lowest bits: the code's `ones >> (64 - n)`
 low-mask : (n : ℕ) → n ≤ 64 → 18446744073709551615 / 2 ^ (64 - n) ≡ 2 ^ n - 1

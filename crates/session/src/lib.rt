@@ -12,7 +12,7 @@ ghost use lib.ListN.{length, getD};
 ghost use Rattle.model.specs.Range.{allB};
 ghost use Rattle.model.specs.Layout.{lineSize, most, ssMain};
 ghost use Rattle.model.specs.Status.{codeOf, firstError};
-ghost use Rattle.model.specs.Session.{isDirty, setBits, withDirty, withCheckpoint, validSession, contextErrors};
+ghost use Rattle.model.specs.Session.{isDirty, setBit, setBits, withCheckpoint, validSession, contextErrors};
 ghost use Rattle.model.specs.Counts.{dirtyTotal};
 ghost use Rattle.session.specs.Parts.{sessionOf};
 
@@ -21,14 +21,6 @@ const LINE_SIZE: usize = Layout::LINE_SIZE as usize;
 
 // A word with all bits set.
 const ALL: u64 = 18446744073709551615;
-
-// Whether bit b of a word of dirty bits is set.
-pub fn is_dirty(word: u64, b: u64) -> bool
-    requires { ⌜ b < most ⌝ }
-    ensures { λ r. ⌜ r ≡ isDirty word b ⌝ }
-{
-    (word >> b) & 1 == 1
-}
 
 // A word of dirty bits with the bits below `blocks` cleared; the others are kept.
 pub fn clear_blocks(word: u64, blocks: u64) -> u64
@@ -39,23 +31,19 @@ pub fn clear_blocks(word: u64, blocks: u64) -> u64
 }
 
 // A word of dirty bits with the `count` bits from bit `block` on set.
-fn set_blocks(word: u64, block: u64, count: u64) -> u64
+pub fn set_blocks(word: u64, block: u64, count: u64) -> u64
     requires { ⌜ (1 ≤ count) × (block + count ≤ most) ⌝ }
     ensures { λ r. ⌜ r ≡ setBits word block count ⌝ }
 {
     word | (ALL >> (Layout::MOST - count)) << block
 }
 
-// The session after a write to `count` blocks, from a block on, of a main segment whose word of dirty blocks was `word`.
-pub fn with_dirty(s: Session, main: u64, block: u64, count: u64, word: u64) -> Session
-    requires { ⌜ (main < most) × (1 ≤ count) × (block + count ≤ most) ⌝ }
-    ensures { λ r. ⌜ r ≡ withDirty s main block count word ⌝ }
+// A word of dirty segments with the bit of a main segment set.
+pub fn set_segment(segments: u64, main: u64) -> u64
+    requires { ⌜ main < most ⌝ }
+    ensures { λ r. ⌜ r ≡ setBit segments main ⌝ }
 {
-    let i = main as usize;
-    let mut next = s;
-    next.dirty_segments = next.dirty_segments | (1 << main);
-    next.dirty_blocks[i] = set_blocks(word, block, count);
-    next
+    segments | (1 << main)
 }
 
 // The session after a checkpoint: no segment is dirty, dirty blocks stay.
@@ -67,17 +55,9 @@ pub fn with_checkpoint(s: Session) -> Session
     next
 }
 
-// Whether no bit of a word is set from bit n on.
-fn within(word: u64, n: u64) -> bool
-    requires { ⌜ (1 ≤ n) × (n ≤ most) ⌝ }
-    ensures { λ r. ⌜ r ≡ ltb word (2 ^ n) ⌝ }
-{
-    (word >> (n - 1)) >> 1 == 0
-}
-
 // Whether each of the first `mains` words has no bit set from bit `blocks` on.
-fn blocks_within(words: &[u64; Layout::MOST_LEN], mains: usize, blocks: u64) -> bool
-    requires { ⌜ (mains ≤ most) × (1 ≤ blocks) × (blocks ≤ most) ⌝ }
+fn blocks_within(words: &[u64], mains: usize, blocks: u64) -> bool
+    requires { ⌜ (mains ≤ most) × (1 ≤ blocks) × (blocks ≤ most) × (most ≤ length (now words)) ⌝ }
     ensures { λ r. ⌜ r ≡ allB mains (λ i. ltb (getD (now (words .entry)) i 0) (2 ^ blocks)) ⌝ }
 {
     let mut seen: u64 = 0;
@@ -86,12 +66,12 @@ fn blocks_within(words: &[u64; Layout::MOST_LEN], mains: usize, blocks: u64) -> 
         seen |= words[i];
         i += 1;
     }
-    within(seen, blocks)
+    words::within(seen, blocks)
 }
 
 // Whether the words from `mains` on are 0.
-fn rest_clear(words: &[u64; Layout::MOST_LEN], mains: usize) -> bool
-    requires { ⌜ mains ≤ most ⌝ }
+fn rest_clear(words: &[u64], mains: usize) -> bool
+    requires { ⌜ (mains ≤ most) × (most ≤ length (now words)) ⌝ }
     ensures { λ r. ⌜ r ≡ allB most (λ i. ltb i mains || eqb (getD (now (words .entry)) i 0) 0) ⌝ }
 {
     let mut seen: u64 = 0;
@@ -103,52 +83,39 @@ fn rest_clear(words: &[u64; Layout::MOST_LEN], mains: usize) -> bool
     seen == 0
 }
 
-// Whether main segment i may stand in this state: it is not both dirty and in state 1.
-fn may_stand(segments: u64, i: u64, state: u8) -> bool
-    requires { ⌜ i < most ⌝ }
-    ensures { λ r. ⌜ r ≡ not (isDirty segments i && eqb state ssMain) ⌝ }
-{
-    !(is_dirty(segments, i) & (state == Layout::SS_MAIN))
-}
-
-// Whether no dirty segment is in state 1.
+// Whether no dirty segment is in state 1. The dirty segments are looked up alone, from the lowest on: `rest` has those that are left.
 fn none_in_main(segments: u64, states: &[u8], mains: u64) -> bool
-    requires { ⌜ (mains ≤ most) × (lineSize ≤ length (now states)) ⌝ }
+    requires { ⌜ (mains ≤ most) × (segments < 2 ^ mains) × (lineSize ≤ length (now states)) ⌝ }
     ensures { λ r. ⌜ r ≡ allB mains (λ i. not (isDirty segments i && eqb (getD (now (states .entry)) i 0) ssMain)) ⌝ }
 {
+    let mut rest = segments;
     let mut ok = true;
-    let mut i = 0;
-    while i < mains {
-        ok = ok & may_stand(segments, i, states[i as usize]);
-        i += 1;
+    while rest != 0 {
+        let main = u64::trailing_zeros(rest) as usize;
+        ok = ok & (states[main] != Layout::SS_MAIN);
+        rest = rest & (rest - 1);
     }
     ok
 }
 
 // Whether the session of these parts is valid, by the states of main segments.
-fn session_valid(
-    layout: Layout,
-    segments: u64,
-    words: &[u64; Layout::MOST_LEN],
-    states: &[u8],
-) -> bool
+fn session_valid(layout: Layout, segments: u64, words: &[u64], states: &[u8]) -> bool
     requires { ⌜ (1 ≤ layout .mains) × (layout .mains ≤ most) × (1 ≤ layout .blocks) × (layout .blocks ≤ most) ⌝ }
-    requires { ⌜ lineSize ≤ length (now states) ⌝ }
+    requires { ⌜ (most ≤ length (now words)) × (lineSize ≤ length (now states)) ⌝ }
     ensures { λ r. ⌜ r ≡ validSession (sessionOf layout segments (now (words .entry))) (λ i. getD (now (states .entry)) i 0) ⌝ }
 {
     let mains = layout.mains;
+    if !words::within(segments, mains) {
+        return false;
+    }
     let n = mains as usize;
     let in_blocks = blocks_within(words, n, layout.blocks) & rest_clear(words, n);
-    within(segments, mains) & in_blocks & none_in_main(segments, states, mains)
+    in_blocks & none_in_main(segments, states, mains)
 }
 
 // The first of refusals 1 to 5 that applies to an image and the session of these parts.
-pub fn context_status(
-    image: &[u8],
-    layout: Layout,
-    segments: u64,
-    words: &[u64; Layout::MOST_LEN],
-) -> Status
+pub fn context_status(image: &[u8], layout: Layout, segments: u64, words: &[u64]) -> Status
+    requires { ⌜ most ≤ length (now words) ⌝ }
     ensures { λ r. ⌜ codeOf r ≡ firstError (contextErrors (sessionOf layout segments (now (words .entry))) (now (image .entry))) ⌝ }
 {
     let container = container::container_status(image, layout);
@@ -169,9 +136,9 @@ pub fn dirty_count(word: u64) -> u64
     u64::count_ones(word) as u64
 }
 
-// How many blocks of all main segments are dirty, by their words.
-pub fn dirty_total(layout: Layout, words: &[u64; Layout::MOST_LEN]) -> u64
-    requires { ⌜ layout .mains ≤ most ⌝ }
+// How many blocks of all main segments are dirty, by their words; those of 0 are passed over.
+pub fn dirty_total(layout: Layout, words: &[u64]) -> u64
+    requires { ⌜ (layout .mains ≤ most) × (most ≤ length (now words)) ⌝ }
     requires { ⌜ ((i : ℕ) → i < layout .mains → getD (now words) i 0 < 2 ^ layout .blocks) ⌝ }
     ensures { λ r. ⌜ (r ≡ dirtyTotal layout (now (words .entry))) × (r ≤ most * most) ⌝ }
 {
@@ -179,7 +146,10 @@ pub fn dirty_total(layout: Layout, words: &[u64; Layout::MOST_LEN]) -> u64
     let mut sum = 0;
     let mut i = 0;
     while i < mains {
-        sum += dirty_count(words[i]);
+        let word = words[i];
+        if word != 0 {
+            sum += dirty_count(word);
+        }
         i += 1;
     }
     sum

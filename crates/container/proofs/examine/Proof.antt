@@ -1,33 +1,84 @@
+use Prim.Native.Nat.{ℕ, _*_, _^_, _≤_}
+use mathlib.Core.Path.{_≡_, ap, ap₂, sym, _∙_}
+use mathlib.Core.Bool.{_&&_}
 use native.Mathlib.Omega.{arith}
+use lib.Count.{ones, ones-le}
+use lib.Dec.{eqb, ltb}
 use borrow.Author.Needs.{needs}
+use Rattle.model.specs.Range.{allB}
+use Rattle.model.specs.Session.{bit, isDirty}
 use Rattle.model.specs.Container.{segState, backupToMain}
-use Rattle.container.proofs.ValidLaws.{valid-by-scan}
+use Rattle.container.specs.declared.Paired.{Paired}
+use Rattle.container.specs.Scan.{stateFits}
+use Rattle.container.proofs.PairLaws.{set-small}
+use Rattle.container.proofs.ValidLaws.{tested-valid, tested-paired}
 use Rattle.container.proofs.examine.Statement.{statement}
 use Rattle.container.proofs.examine.Tie as tie
+
+words-of-requires : tie.Need-words-of-requires
+words-of-requires c κs = search needs
 
 scan-pairs-requires : tie.Need-scan-pairs-requires
 scan-pairs-requires c κs = search needs
 
-rest-is-requires : tie.Need-rest-is-requires
-rest-is-requires c κs = search needs
+cast-pairs-ok : tie.Need-cast-pairs-ok
+cast-pairs-ok c =
+    let b = c .before .before .before in
+    let pr = backupToMain (b .args .image .now) in
+    let p = 8 * c .before .words-of .result in
+    omega (arith, ap (λ (x : Paired). ones (x .set)) (c .scan-pairs .ensures), ones-le 64 _ (set-small pr p))
+
+within-requires : tie.Need-within-requires
+within-requires c κs = search needs
+
+words-of-requires-2 : tie.Need-words-of-requires-2
+words-of-requires-2 c κs = search needs
 
 states-fit-requires : tie.Need-states-fit-requires
 states-fit-requires c κs = search needs
+
+rest-is-requires : tie.Need-rest-is-requires
+rest-is-requires c κs = search needs
 
 rest-is-requires-2 : tie.Need-rest-is-requires-2
 rest-is-requires-2 c κs = search needs
 
 returns : tie.Need-returns
 returns c =
-    let s = c .before in
-    let p = s .before .before .before in
-    let k = p .before in
-    let g = k .before .before .args in
-    let I = g .image .now in
+    let b = c .before .before .before in
+    let d = b .before .before .before in
+    let a = d .before .before .before .args in
+    let I = a .image .now in
+    let l = a .layout in
+    let st = segState I (a .line) in
+    let pr = backupToMain I in
+    let p = 8 * d .before .words-of .result in
+    let q = 8 * b .words-of2 .result in
+    let e = d .scan-pairs .ensures in
+    let pairs : l .backups ≤ p = d .before .words-of .ensures .0 in
+    let states : l .mains ≤ q = b .words-of2 .ensures .0 in
+    let valid =
+    ap₂ _&&_
+    (ap₂ _&&_
+    (ap₂ _&&_ (ap (λ (x : Paired). eqb (ones (x .set)) (x .count)) e) (b .before .within .ensures ∙ ap (λ (x : Paired). ltb (x .set) (2 ^ l .mains)) e))
+    (c .before .before .states-fit .ensures ∙ ap (λ (x : Paired). allB q (λ (i : ℕ). stateFits (bit (x .set) i) (st i))) e))
+    (ap₂ _&&_ (c .before .rest-is .ensures) (c .rest-is2 .ensures))
+    in
     record {
-      valid = valid-by-scan (g .layout) (segState I (g .line)) (backupToMain I) _ _ _ _ (omega arith) (omega arith) (k .scan-pairs .ensures) (p .rest-is .ensures) (s .states-fit .ensures) (c .rest-is2 .ensures);
-      found = k .scan-pairs .ensures .found;
+      valid = valid ∙ tested-valid l st pr p q pairs states (omega arith) (omega arith);
+      paired = λ h i m. ap (λ (x : Paired). isDirty (x .set) i) e ∙ tested-paired l st pr p q pairs states (omega arith) (omega arith) (sym valid ∙ h) i m;
     }
 
 pub examine-spec : {M : Type 1} → statement M
-examine-spec = tie.close (tie.spec scan-pairs-requires rest-is-requires states-fit-requires rest-is-requires-2 returns)
+examine-spec =
+    tie.close
+    (tie.spec
+    words-of-requires
+    scan-pairs-requires
+    cast-pairs-ok
+    within-requires
+    words-of-requires-2
+    states-fit-requires
+    rest-is-requires
+    rest-is-requires-2
+    returns)

@@ -1,82 +1,77 @@
-use Prim.Native.Nat.{ℕ, suc, _-_, _≤_}
-use mathlib.Core.Bool.{_||_}
-use mathlib.Core.Path.{_≡_, _∙_, ap}
+use Prim.Native.Nat.{ℕ, _+_, _-_, _*_, _≤_}
+use mathlib.Core.Path.{_≡_, refl, ap, _∙_}
 use native.Mathlib.Omega.{arith}
-use lib.ListN.{length, getD, length-set}
-use lib.Dec.{ltb}
 use borrow.Author.Needs.{needs}
+use Rattle.model.specs.Words.{Bytes, byteAt}
 use Rattle.model.specs.Container.{backupToMain}
-use Rattle.model.specs.Range.{allB, firstB}
-use Rattle.container.specs.Scan.{pairFits, slotOf, entryOf}
-use Rattle.container.proofs.ScanLaws.{slotted, slots-none, slots-more, slots-all, pair-by-slot, fits-none, fits-more, fits-all}
+use Rattle.model.proofs.Laws.Words.{word-moved}
+use Rattle.container.specs.declared.Paired.{Paired}
+use Rattle.container.specs.Scan.{layPairs}
+use Rattle.container.proofs.PairLaws.{lay-word, count-most}
 use Rattle.container.proofs.scan_pairs.Statement.{statement}
 use Rattle.container.proofs.scan_pairs.Tie as tie
 
 abbrev Inv-loop : tie.InvT-loop
-Inv-loop image mains backups scan₀ j₀ scan j =
-    (j ≤ backups) × (length (scan .backup) ≡ 65)
-    × (scan .valid ≡ allB backups (λ k. ltb k j || pairFits (backupToMain image) mains backups k))
-    × ((i : ℕ) → i ≤ 64 → getD (scan .backup) i 0 ≡ entryOf backups (firstB backups (slotted (backupToMain image) mains i j)))
+Inv-loop image count paired₀ k₀ paired k = (k ≤ count) × (paired ≡ layPairs (backupToMain image) (8 * k))
 
 abbrev μ-loop : tie.MeasureT-loop
-μ-loop image mains backups scan₀ j₀ scan j = j
+μ-loop image count paired₀ k₀ paired k = count - k
 
 loop-holds : tie.Need-loop-holds Inv-loop μ-loop
-loop-holds c = (search needs, search needs, fits-none _ _, slots-none _ _ _)
+unfolding layPairs
+loop-holds c = (omega arith, refl)
 
-sub-j : tie.Need-sub-j Inv-loop μ-loop
-sub-j c = search needs
+mul-word-at : tie.Need-mul-word-at Inv-loop μ-loop
+mul-word-at c = search needs
 
-add-pair : tie.Need-add-pair Inv-loop μ-loop
-add-pair c = search needs
+add-word-at : tie.Need-add-word-at Inv-loop μ-loop
+add-word-at c = search needs
 
-shared-slice-read-pair : tie.Need-shared-slice-read-pair Inv-loop μ-loop
-shared-slice-read-pair c = search needs
+word-at-requires : tie.Need-word-at-requires Inv-loop μ-loop
+word-at-requires c κs = search needs
 
-slot-of-requires : tie.Need-slot-of-requires Inv-loop μ-loop
-slot-of-requires c κs = search needs
+lay-word-requires : tie.Need-lay-word-requires Inv-loop μ-loop
+lay-word-requires c κs =
+    let b = c .before .before in
+    let pr = backupToMain (b .before .before .args .image .now) in
+    omega (arith, ap (λ (p : Paired). p .count) (b .loop .inv .1), count-most pr (8 * b .loop .k))
 
-element-copy-out-later : tie.Need-element-copy-out-later Inv-loop μ-loop
-element-copy-out-later c = search needs
-
-pair-fits-requires : tie.Need-pair-fits-requires Inv-loop μ-loop
-pair-fits-requires c κs = search needs
-
-cast-scan : tie.Need-cast-scan Inv-loop μ-loop
-cast-scan c = search needs
-
-element-write-scan : tie.Need-element-write-scan Inv-loop μ-loop
-element-write-scan c = search needs
+add-k : tie.Need-add-k Inv-loop μ-loop
+add-k c = search needs
 
 loop-less : tie.Need-loop-less Inv-loop μ-loop
 loop-less c = search needs
 
 loop-again : tie.Need-loop-again Inv-loop μ-loop
 loop-again c =
-    let m = c .before .before in
-    let b = m .before .before .before in
-    let s = m .slot-of .ensures .0 in
-    let g = b .before .before .args in
-    let pr = backupToMain (g .image .now) in
-    let slots = b .loop .scan .backup in
-    let k = b .loop .j - 1 in
-    let e : b .loop .j ≡ suc k = omega arith in
-    let found : (i : ℕ) → i ≤ 64 → getD slots i 0 ≡ entryOf (g .backups) (firstB (g .backups) (slotted pr (g .mains) i (suc k))) =
-    λ i h. b .loop .inv .3 i h ∙ ap (λ (n : ℕ). entryOf (g .backups) (firstB (g .backups) (slotted pr (g .mains) i n))) e
-    in (
+    let b = c .before .before .before in
+    let I = b .before .before .args .image .now in
+    let pr = backupToMain I in
+    let n = 8 * b .loop .k in
+    let bytes : Bytes I = λ i. b .before .shared-slice-known .given i .fits in
+    let word = c .before .word-at .ensures ∙ word-moved (byteAt I) pr (256 + n) n (λ k l. ap (byteAt I) (omega arith)) in (
       omega arith,
-      rw length-set (b .loop .inv .1),
-      fits-more (g .backups) k (pairFits pr (g .mains) (g .backups)) _ _ (omega arith)
-          (b .loop .inv .2 ∙ ap (λ (n : ℕ). allB (g .backups) (λ k. ltb k n || pairFits pr (g .mains) (g .backups) k)) e)
-          (pair-by-slot pr (g .mains) (g .backups) k _ _ (omega arith) (omega arith) (ap (λ (n : ℕ). getD slots n 0) s ∙ found (slotOf (g .mains) (pr k)) (omega arith)) (c .pair-fits .ensures)),
-      slots-more slots pr (g .mains) (g .backups) k _ (omega arith) (omega arith) s found,
+      c .lay-word .ensures ∙ lay-word pr n (c .before .word-at .result) (b .loop .paired) (λ i. bytes (256 + i)) (b .loop .inv .1) word ∙ ap (layPairs pr) (omega arith),
     )
 
 returns : tie.Need-returns Inv-loop μ-loop
 returns c =
     let b = c .before in
-    let e : b .loop .j ≡ 0 = omega arith in
-    record { fits = rw e at (b .loop .inv .2) ∙ fits-all _ _; found = λ i h. rw e at (b .loop .inv .3 i h) ∙ slots-all _ _ _ i }
+    let e : b .loop .k ≡ b .before .before .args .count = omega arith in
+    rw e at (b .loop .inv .1)
 
 pub scan-pairs-spec : {M : Type 1} → statement M
-scan-pairs-spec = tie.close (tie.spec Inv-loop μ-loop loop-holds sub-j add-pair shared-slice-read-pair slot-of-requires element-copy-out-later pair-fits-requires cast-scan element-write-scan loop-less loop-again returns)
+scan-pairs-spec =
+    tie.close
+    (tie.spec
+    Inv-loop
+    μ-loop
+    loop-holds
+    mul-word-at
+    add-word-at
+    word-at-requires
+    lay-word-requires
+    add-k
+    loop-less
+    loop-again
+    returns)

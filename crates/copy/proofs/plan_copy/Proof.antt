@@ -7,8 +7,8 @@ use Rattle.copy.proofs.plan_copy.Tie as tie
 active-at-requires : tie.Need-active-at-requires
 active-at-requires c κs = search needs
 
-is-dirty-requires : tie.Need-is-dirty-requires
-is-dirty-requires c κs = search needs
+has-bit-requires : tie.Need-has-bit-requires
+has-bit-requires c κs = search needs
 
 add-state : tie.Need-add-state
 add-state c = search needs
@@ -20,7 +20,7 @@ returns : tie.Need-returns
 returns c =
     let b = c .before .before in
     let a = b .before .before .before .args in
-    no-copy (a .layout) (a .segments) (a .image .now) (a .main) _ _ (b .before .active-at .ensures .0) (b .is-dirty .ensures) (c .if1 .taken)
+    no-copy (a .layout) (a .segments) (a .image .now) (a .main) _ _ (b .before .active-at .ensures .0) (b .has-bit .ensures) (c .if1 .taken)
 
 find-paired-backup-requires : tie.Need-find-paired-backup-requires
 find-paired-backup-requires c κs = search needs
@@ -45,7 +45,7 @@ returns-2 c =
     let g = c .before .before .before in
     let b = g .before .before .before in
     let a = b .before .before .before .args in
-    own-backup (a .layout) (a .segments) (a .image .now) (a .main) _ _ (b .before .active-at .ensures .0) (b .is-dirty .ensures) (g .before .if1 .left) _
+    own-backup (a .layout) (a .segments) (a .image .now) (a .main) _ _ (b .before .active-at .ensures .0) (b .has-bit .ensures) (g .before .if1 .left) _
     (sym (c .before .own .given .1) ∙ g .find-paired-backup .ensures)
 
 returns-3 : tie.Need-returns-3
@@ -55,7 +55,7 @@ returns-3 c =
     let b = g .before .before .before in
     let e = b .before .before .before in
     let a = e .args in
-    new-backup (a .layout) (a .segments) (a .image .now) (a .main) _ _ (b .before .active-at .ensures .0) (b .is-dirty .ensures) (g .before .if1 .left) (e .pre .valid)
+    new-backup (a .layout) (a .segments) (a .image .now) (a .main) _ _ (b .before .active-at .ensures .0) (b .has-bit .ensures) (g .before .if1 .left) (e .pre .valid)
     (sym (f .before .enum-told .given .1) ∙ g .find-paired-backup .ensures) _ (sym (c .before .new .given .1) ∙ f .find-new-backup .ensures)
 
 returns-4 : tie.Need-returns-4
@@ -65,7 +65,7 @@ returns-4 c =
     let b = g .before .before .before in
     let e = b .before .before .before in
     let a = e .args in
-    none-free (a .layout) (a .segments) (a .image .now) (a .main) _ _ (b .before .active-at .ensures .0) (b .is-dirty .ensures) (g .before .if1 .left) (e .pre .valid)
+    none-free (a .layout) (a .segments) (a .image .now) (a .main) _ _ (b .before .active-at .ensures .0) (b .has-bit .ensures) (g .before .if1 .left) (e .pre .valid)
     (sym (f .before .enum-told .given .1) ∙ g .find-paired-backup .ensures) (sym (c .enum-told2 .given .1) ∙ f .find-new-backup .ensures)
 
 pub plan-copy-spec : {M : Type 1} → statement M
@@ -73,7 +73,7 @@ plan-copy-spec =
     tie.close
     (tie.spec
     active-at-requires
-    is-dirty-requires
+    has-bit-requires
     add-state
     shared-slice-read-state
     returns

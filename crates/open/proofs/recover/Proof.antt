@@ -24,7 +24,7 @@ refused-requires c κs = search needs
 returns : tie.Need-returns
 unfolding recoveryOutcome
 returns c =
-    let x = c .before .before in
+    let x = c .before .before .before in
     let g = x .before .before .before .args in
     let p = recovery-invalid (g .layout) (g .image .now) (g .line) _ (x .examine .ensures .valid) (g .trace .now) (c .before .if1 .taken) in
     gives-refused _ zeroSession (freshSession (g .layout)) (recoveryOps (g .layout) (g .image .now) (g .line)) (g .trace .now) _ (c .refused .ensures) p
@@ -32,9 +32,9 @@ returns c =
 
 recovery-length-requires : tie.Need-recovery-length-requires
 recovery-length-requires c κs =
-    let d = c .before .before in
-    let f = d .before .before .before .before in
-    recovers-by (f .args .layout) (f .args .image .now) (f .args .line) _ (f .pre .0) (f .pre .1) (f .pre .2) (d .before .examine .ensures) (d .if1 .left)
+    let x = c .before .before in
+    let f = x .before .before .before in
+    recovers-by (f .args .layout) (f .args .image .now) (f .args .line) _ (f .pre .0) (f .pre .1) (f .pre .2) (x .examine .ensures) (c .if1 .left)
 
 trace-status-requires : tie.Need-trace-status-requires
 trace-status-requires c κs = omega (arith, c .recovery-length .ensures .1)
@@ -50,12 +50,13 @@ unfolding recoveryOutcome
 returns-2 c =
     let r = c .before .before .before in
     let n = r .before in
-    let d = n .before .before .before in
-    let g = d .before .before .before .before .args in
+    let d = n .before in
+    let x = d .before .before in
+    let g = x .before .before .before .args in
     let l = g .layout in
     let I = g .image .now in
     let O = recoveryOps l I (g .line) in
-    let v = recovery-valid l I (g .line) _ (d .before .examine .ensures .valid) (d .if1 .left) in
+    let v = recovery-valid l I (g .line) _ (x .examine .ensures .valid) (d .if1 .left) in
     let e = r .trace-status .ensures O (g .trace .now) (sym (n .recovery-length .ensures .0)) refl in
     gives-refused _ zeroSession (freshSession l) O (g .trace .now) _ (c .refused2 .ensures)
     (e ∙ sym (stage-passed 0 (validErrors l I (g .line)) (traceErrors O (g .trace .now)) (omega arith) v refl))
@@ -63,13 +64,15 @@ returns-2 c =
 
 put-recovery-requires : tie.Need-put-recovery-requires
 put-recovery-requires c κs =
-    let r = c .before .before .before .before .before in
+    let b = c .before in
+    let r = b .before .before in
     let n = r .before in
-    let d = n .before .before .before in
-    let f = d .before .before .before .before in
+    let d = n .before in
+    let x = d .before .before in
+    let f = x .before .before .before in
     let g = f .args in
-    let z = eqb-true _ 0 (sym (c .before .before .before .before .is-served .ensures) ∙ not-false _ (c .before .before .before .if2 .left)) in (
-      recovers-by (g .layout) (g .image .now) (g .line) _ (f .pre .0) (f .pre .1) (f .pre .2) (d .before .examine .ensures) (d .if1 .left),
+    let z = eqb-true _ 0 (sym (b .before .is-served .ensures) ∙ not-false _ (b .if2 .left)) in (
+      recovers-by (g .layout) (g .image .now) (g .line) _ (f .pre .0) (f .pre .1) (f .pre .2) (x .examine .ensures) (d .if1 .left),
       fits-whole (recoveryOps (g .layout) (g .image .now) (g .line)) (g .trace .now)
           (sym z ∙ r .trace-status .ensures _ _ (sym (n .recovery-length .ensures .0)) refl),
     )
@@ -87,16 +90,17 @@ returns-3 : tie.Need-returns-3
 unfolding recoveryOutcome
 returns-3 c =
     let w = c .before .before .before .before in
-    let b = w .before .before .before .before in
+    let b = w .before .before in
     let r = b .before .before in
     let n = r .before in
-    let d = n .before .before .before in
-    let g = d .before .before .before .before .args in
+    let d = n .before in
+    let x = d .before .before in
+    let g = x .before .before .before .args in
     let l = g .layout in
     let I = g .image .now in
     let O = recoveryOps l I (g .line) in
     let m = n .recovery-length .ensures .0 in
-    let v = recovery-valid l I (g .line) _ (d .before .examine .ensures .valid) (d .if1 .left) in
+    let v = recovery-valid l I (g .line) _ (x .examine .ensures .valid) (d .if1 .left) in
     let z = sym (eqb-true _ 0 (sym (b .before .is-served .ensures) ∙ not-false _ (b .if2 .left))) ∙ r .trace-status .ensures O (g .trace .now) (sym m) refl in
     gives-served _ zeroSession (freshSession l) O (g .trace .now) _ (c .served .ensures)
     (stage-passed 0 (validErrors l I (g .line)) (traceErrors O (g .trace .now)) (omega arith) v refl ∙ sym z) (c .before .fresh .ensures) m

@@ -19,13 +19,13 @@ abbrev μ-loop : tie.MeasureT-loop
 μ-loop words mains blocks seen₀ i₀ seen i = mains - i
 
 loop-holds : tie.Need-loop-holds Inv-loop μ-loop
-loop-holds c = (search needs, lt-ltb 0 (2 ^ c .args .blocks) (pow-pos _) ∙ all-none _)
+loop-holds c = (search needs, lt-ltb 0 (2 ^ c .before .args .blocks) (pow-pos _) ∙ all-none _)
 
 mul-seen : tie.Need-mul-seen Inv-loop μ-loop
 mul-seen c = search needs
 
-element-copy-out-seen : tie.Need-element-copy-out-seen Inv-loop μ-loop
-element-copy-out-seen c = search needs
+shared-slice-read-seen : tie.Need-shared-slice-read-seen Inv-loop μ-loop
+shared-slice-read-seen c = search needs
 
 add-i : tie.Need-add-i Inv-loop μ-loop
 add-i c = search needs
@@ -34,7 +34,7 @@ loop-less : tie.Need-loop-less Inv-loop μ-loop
 loop-less c = search needs
 
 loop-again : tie.Need-loop-again Inv-loop μ-loop
-loop-again c = let b = c .before .before in (omega arith, within-more (b .before .args .blocks) (b .loop .seen) (b .loop .i) (b .before .args .words .now) (b .loop .inv .1))
+loop-again c = let b = c .before .before in (omega arith, within-more (b .before .before .args .blocks) (b .loop .seen) (b .loop .i) (b .before .before .args .words .now) (b .loop .inv .1))
 
 within-requires : tie.Need-within-requires Inv-loop μ-loop
 within-requires c κs = search needs
@@ -42,7 +42,7 @@ within-requires c κs = search needs
 returns : tie.Need-returns Inv-loop μ-loop
 returns c =
     let b = c .before .before in
-    let e : b .loop .i ≡ b .before .args .mains = omega arith in
+    let e : b .loop .i ≡ b .before .before .args .mains = omega arith in
     c .within .ensures ∙ rw e at (b .loop .inv .1)
 
 pub blocks-within-spec : {M : Type 1} → statement M
@@ -53,7 +53,7 @@ blocks-within-spec =
     μ-loop
     loop-holds
     mul-seen
-    element-copy-out-seen
+    shared-slice-read-seen
     add-i
     loop-less
     loop-again

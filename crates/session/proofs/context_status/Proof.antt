@@ -21,14 +21,14 @@ is-served-requires c κs = search needs
 returns : tie.Need-returns
 returns c =
     let b = c .before .before in
-    let a = b .before .before .args in
+    let a = b .before .before .before .args in
     let s = sessionOf (a .layout) (a .segments) (a .words .now) in
     stage-refused (codeOf (b .container-status .result)) (containerErrors (a .layout) (a .image .now)) (sessionErrors s (a .image .now)) (c .before .before .container-status .ensures) (sym (c .before .is-served .ensures) ∙ not-true _ (c .if1 .taken))
 
 active-at-requires : tie.Need-active-at-requires
 active-at-requires c κs =
     let b = c .before in
-    let a = b .before .before .before .args in
+    let a = b .before .before .before .before .args in
     omega (arith, container-left (a .layout) (a .image .now) _ (b .before .container-status .ensures) (sym (b .is-served .ensures) ∙ not-false _ (c .if1 .left)))
 
 add-session-valid : tie.Need-add-session-valid
@@ -43,26 +43,26 @@ part-session-valid-start c = search needs
 part-session-valid-end : tie.Need-part-session-valid-end
 part-session-valid-end c =
     let b = c .before in
-    let a = b .before .before .before .before .args in
+    let a = b .before .before .before .before .before .args in
     omega (arith, container-left (a .layout) (a .image .now) _ (b .before .before .container-status .ensures) (sym (b .before .is-served .ensures) ∙ not-false _ (b .if1 .left)))
 
 session-valid-requires : tie.Need-session-valid-requires
 session-valid-requires c κs =
     let b = c .before .before in
-    let a = b .before .before .before .before .args in
+    let a = b .before .before .before .before .before .args in
     omega (arith, container-left (a .layout) (a .image .now) _ (b .before .before .container-status .ensures) (sym (b .before .is-served .ensures) ∙ not-false _ (b .if1 .left)))
 
 returns-2 : tie.Need-returns-2
 returns-2 c =
     let b = c .before .before .before .before in
-    let a = b .before .before .before .before .args in
+    let a = b .before .before .before .before .before .args in
     ap (λ (v : Bool). cond v 0 5) (sym (not-true (c .before .session-valid .result) (c .if2 .taken)))
     ∙ session-judged (sessionOf (a .layout) (a .segments) (a .words .now)) (a .image .now) _ _ _ (b .before .before .container-status .ensures) (sym (b .before .is-served .ensures) ∙ not-false _ (b .if1 .left)) (c .before .before .before .active-at .ensures .0) (c .before .session-valid .ensures)
 
 returns-3 : tie.Need-returns-3
 returns-3 c =
     let b = c .before .before .before .before in
-    let a = b .before .before .before .before .args in
+    let a = b .before .before .before .before .before .args in
     ap (λ (v : Bool). cond v 0 5) (sym (not-false (c .before .session-valid .result) (c .if2 .left)))
     ∙ session-judged (sessionOf (a .layout) (a .segments) (a .words .now)) (a .image .now) _ _ _ (b .before .before .container-status .ensures) (sym (b .before .is-served .ensures) ∙ not-false _ (b .if1 .left)) (c .before .before .before .active-at .ensures .0) (c .before .session-valid .ensures)
 

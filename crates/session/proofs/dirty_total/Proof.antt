@@ -1,8 +1,9 @@
 use Prim.Native.Nat.{_-_, _*_, _≤_}
 use mathlib.Core.Path.{_≡_, sym, _∙_}
+use mathlib.Core.Logic.{⊎-elim}
 use native.Mathlib.Omega.{arith}
 use lib.ListN.{getD}
-use lib.Count.{ones}
+use lib.Count.{ones, ones-le}
 use borrow.Author.Needs.{needs}
 use Rattle.model.specs.Range.{sumTo}
 use Rattle.model.specs.Counts.{dirtyTotal}
@@ -18,13 +19,13 @@ abbrev μ-loop : tie.MeasureT-loop
 μ-loop words mains sum₀ i₀ sum i = mains - i
 
 loop-holds : tie.Need-loop-holds Inv-loop μ-loop
-loop-holds c = (search needs, sum-none (λ k. ones (getD (c .args .words .now) k 0)), search needs)
+loop-holds c = (search needs, sum-none (λ k. ones (getD (c .before .args .words .now) k 0)), search needs)
 
-mul-dirty-count : tie.Need-mul-dirty-count Inv-loop μ-loop
-mul-dirty-count c = search needs
+mul-word : tie.Need-mul-word Inv-loop μ-loop
+mul-word c = search needs
 
-element-copy-out-dirty-count : tie.Need-element-copy-out-dirty-count Inv-loop μ-loop
-element-copy-out-dirty-count c = search needs
+shared-slice-read-word : tie.Need-shared-slice-read-word Inv-loop μ-loop
+shared-slice-read-word c = search needs
 
 dirty-count-requires : tie.Need-dirty-count-requires Inv-loop μ-loop
 dirty-count-requires c κs = search needs
@@ -41,14 +42,19 @@ loop-less c = search needs
 loop-again : tie.Need-loop-again Inv-loop μ-loop
 loop-again c =
     let b = c .before .before .before in
-    (omega arith, omega (arith, c .dirty-count .ensures, sum-more (b .loop .i) (λ k. ones (getD (b .before .args .words .now) k 0))), omega arith)
+    let words = b .before .before .args .words .now in
+    let more = sum-more (b .loop .i) (λ k. ones (getD words k 0)) in
+    ⊎-elim
+    (λ w. (omega arith, omega (arith, w .1 .ensures, w .2, more), omega (arith, w .1 .ensures, w .2)))
+    (λ w. (omega arith, omega (arith, w .1, more, ones-le 0 (getD words (b .loop .i) 0) (omega (arith, w .0 .left))), omega (arith, w .1)))
+    (c .if1 .came)
 
 returns : tie.Need-returns Inv-loop μ-loop
 unfolding dirtyTotal
 returns c =
     let b = c .before .before in
-    let e : c .before .loop .i ≡ b .args .layout .mains = omega arith in
-    (rw e at (c .before .loop .inv .1) ∙ sym (sum-ext _ _ _ (λ i l. dirty-ones _ _ (b .pre .1 i l))), omega arith)
+    let e : c .before .loop .i ≡ b .before .args .layout .mains = omega arith in
+    (rw e at (c .before .loop .inv .1) ∙ sym (sum-ext _ _ _ (λ i l. dirty-ones _ _ (b .before .pre .1 i l))), omega arith)
 
 pub dirty-total-spec : {M : Type 1} → statement M
 dirty-total-spec =
@@ -57,8 +63,8 @@ dirty-total-spec =
     Inv-loop
     μ-loop
     loop-holds
-    mul-dirty-count
-    element-copy-out-dirty-count
+    mul-word
+    shared-slice-read-word
     dirty-count-requires
     add-sum
     add-i

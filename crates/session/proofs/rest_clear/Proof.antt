@@ -24,8 +24,8 @@ loop-holds c = (search needs, search needs, sym (all-from _ _ (λ k l. or-left _
 mul-seen : tie.Need-mul-seen Inv-loop μ-loop
 mul-seen c = search needs
 
-element-copy-out-seen : tie.Need-element-copy-out-seen Inv-loop μ-loop
-element-copy-out-seen c = search needs
+shared-slice-read-seen : tie.Need-shared-slice-read-seen Inv-loop μ-loop
+shared-slice-read-seen c = search needs
 
 add-i : tie.Need-add-i Inv-loop μ-loop
 add-i c = search needs
@@ -49,7 +49,7 @@ rest-clear-spec =
     μ-loop
     loop-holds
     mul-seen
-    element-copy-out-seen
+    shared-slice-read-seen
     add-i
     loop-less
     loop-again
