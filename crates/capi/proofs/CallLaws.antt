@@ -1,17 +1,19 @@
 -- Laws of the exported calls: an answer of the library, handed over, is what the call returns (crate interface,
 -- specs/Interface.antt); a read that finds a part is served; a truth value as a word.
-use Prim.Native.Nat.{ℕ}
-use mathlib.Core.Path.{_≡_, refl, ap, _∙_, subst}
+use Prim.Native.Nat.{ℕ, _+_}
+use mathlib.Core.Path.{_≡_, refl, sym, ap, _∙_, subst}
 use mathlib.Core.Logic.{_≢_}
 use mathlib.Core.Bool.{Bool, true, false, cond}
 use lib.Dec.{eqb}
+use lib.ListN.{length, set}
 use mir.Val.{boolByte}
 use borrow.Author.Tests.{eqb-true}
 use Rattle.model.specs.declared.Layout.{Layout}
 use Rattle.model.specs.declared.Session.{Session}
 use Rattle.model.specs.declared.Answer.{Answer}
 use Rattle.model.specs.Words.{Image}
-use Rattle.model.specs.Status.{codeOf}
+use Rattle.model.specs.Status.{codeOf, served}
+use Rattle.model.specs.Session.{withCheckpoint}
 use Rattle.model.specs.Ops.{Trace}
 use Rattle.model.specs.Outcome.{Outcome, Gives}
 use Rattle.model.specs.Write.{WriteArgs, writeOutcome}
@@ -19,24 +21,54 @@ use Rattle.model.specs.Checkpoint.{checkpointOutcome}
 use Rattle.model.specs.Reads.{Part, noPart, readStatus, workingPart, checkpointPart}
 use Rattle.reads.specs.declared.Part as code
 use Rattle.reads.specs.Answered.{Answered}
-use Rattle.interface.specs.Interface.{Words, wordsOf, sessionIn, returned, writeReturned, checkpointReturned, Returns}
+use Rattle.write.specs.declared.Written.{Written}
+use Rattle.write.specs.Written.{writtenSession, writtenAnswer}
+use Rattle.checkpoint.specs.declared.Checkpointed.{Checkpointed}
+use Rattle.checkpoint.specs.Checkpointed.{checkpointedAnswer}
+use Rattle.interface.specs.Interface.{Words, dirtySegmentsAt, dirtyBlocksAt, sessionWords, wordsOf, sessionIn, returned, writeReturned, checkpointReturned, Returns}
+use Rattle.interface.proofs.WordsLaws.{words-session, segments-stored, word-stored}
 
 -- ---- opening, write and checkpoint
 
-module _ (t : Trace) (a : Answer) (number : ℕ) (s′ : Words) (t′ : Trace) (ops : ℕ)
-    (n : number ≡ codeOf (a .status)) (p : s′ ≡ wordsOf (a .session)) (q : ops ≡ a .ops) where
-  pub answer-returned : (o : Outcome) → Gives o t a t′ → Returns (returned t o) number s′ t′ ops
-  answer-returned o g = (n ∙ g .0, p ∙ ap wordsOf (g .1), g .3, q ∙ g .2)
+pub answer-returned : (t : Trace) (a : Answer) (number : ℕ) (s′ : Words) (t′ : Trace) (ops : ℕ) → number ≡ codeOf (a .status) → s′ ≡ wordsOf (a .session) → ops ≡ a .ops
+    → (o : Outcome) → Gives o t a t′ → Returns (returned t o) number s′ t′ ops
+answer-returned t a number s′ t′ ops n p q o g = (n ∙ g .0, p ∙ ap wordsOf (g .1), g .3, q ∙ g .2)
 
-  -- a session that was read from words is the one that stands there
-  module _ (I : Image) (s : Words) (x : Session) (r : x ≡ sessionIn s) where
-    pub checkpoint-returned : Gives (checkpointOutcome x I t) t a t′ → Returns (checkpointReturned I s t) number s′ t′ ops
-    checkpoint-returned g =
-        answer-returned (checkpointOutcome (sessionIn s) I t) (subst (λ (y : Session). Gives (checkpointOutcome y I t) t a t′) r g)
+-- a write and a checkpoint are lent the parts x of the session that stands in the words s
+module _ (I : Image) (s : Words) (e : length s ≡ sessionWords) (x : Session) (r : x ≡ sessionIn s) (t t′ : Trace) (number ops : ℕ) where
+  -- a write: served, two words are stored; refused, none
+  module _ (w : WriteArgs) (a : Written) (n : number ≡ codeOf (a .status)) (q : ops ≡ a .ops) (g : Gives (writeOutcome x I w t) t (writtenAnswer x (w .main) a) t′) where
+    write-returned : (s′ : Words) → s′ ≡ wordsOf (writtenAnswer (sessionIn s) (w .main) a .session) → Returns (writeReturned I s w t) number s′ t′ ops
+    write-returned s′ p =
+        answer-returned t (writtenAnswer (sessionIn s) (w .main) a) number s′ t′ ops n p q (writeOutcome (sessionIn s) I w t)
+        (subst (λ (y : Session). Gives (writeOutcome y I w t) t (writtenAnswer y (w .main) a) t′) r g)
 
-    pub write-returned : (w : WriteArgs) → Gives (writeOutcome x I w t) t a t′ → Returns (writeReturned I s w t) number s′ t′ ops
-    write-returned w g =
-        answer-returned (writeOutcome (sessionIn s) I w t) (subst (λ (y : Session). Gives (writeOutcome y I w t) t a t′) r g)
+    pub write-stored : served (codeOf (a .status)) ≡ true
+        → Returns (writeReturned I s w t) number (set (set s dirtySegmentsAt (a .«dirty_segments»)) (dirtyBlocksAt + w .main) (a .word)) t′ ops
+    write-stored z =
+        write-returned _
+        (ap (λ (y : Words). set y (dirtyBlocksAt + w .main) (a .word)) (segments-stored s (a .«dirty_segments») e) ∙ word-stored _ (w .main) (a .word)
+        ∙ ap (λ (b : Bool). wordsOf (cond b (writtenSession (sessionIn s) (w .main) a) (sessionIn s))) (sym z))
+
+    pub write-kept : served (codeOf (a .status)) ≡ false → Returns (writeReturned I s w t) number s t′ ops
+    write-kept z =
+        write-returned s (sym (words-session s e) ∙ ap (λ (b : Bool). wordsOf (cond b (writtenSession (sessionIn s) (w .main) a) (sessionIn s))) (sym z))
+
+  -- a checkpoint: served, the dirty segments are stored; refused, nothing
+  module _ (a : Checkpointed) (n : number ≡ codeOf (a .status)) (q : ops ≡ a .ops) (g : Gives (checkpointOutcome x I t) t (checkpointedAnswer x a) t′) where
+    checkpoint-returned : (s′ : Words) → s′ ≡ wordsOf (checkpointedAnswer (sessionIn s) a .session) → Returns (checkpointReturned I s t) number s′ t′ ops
+    checkpoint-returned s′ p =
+        answer-returned t (checkpointedAnswer (sessionIn s) a) number s′ t′ ops n p q (checkpointOutcome (sessionIn s) I t)
+        (subst (λ (y : Session). Gives (checkpointOutcome y I t) t (checkpointedAnswer y a) t′) r g)
+
+    pub checkpoint-stored : served (codeOf (a .status)) ≡ true → Returns (checkpointReturned I s t) number (set s dirtySegmentsAt 0) t′ ops
+    unfolding withCheckpoint
+    checkpoint-stored z =
+        checkpoint-returned _ (segments-stored s 0 e ∙ ap (λ (b : Bool). wordsOf (cond b (withCheckpoint (sessionIn s)) (sessionIn s))) (sym z))
+
+    pub checkpoint-kept : served (codeOf (a .status)) ≡ false → Returns (checkpointReturned I s t) number s t′ ops
+    checkpoint-kept z =
+        checkpoint-returned s (sym (words-session s e) ∙ ap (λ (b : Bool). wordsOf (cond b (withCheckpoint (sessionIn s)) (sessionIn s))) (sym z))
 
 -- ---- the reads
 

@@ -2,6 +2,8 @@
 // a session is a pointer to its words (in C: struct crpm_session), and every number that a call answers with is a pointer to one
 // word, so that no length of theirs can be wrong. Each call returns the number of its status. What opening, write and checkpoint
 // return is said in crates/interface/specs/Interface.antt, the rest in model's terms.
+use interface::DIRTY_BLOCKS_AT;
+use interface::DIRTY_SEGMENTS_AT;
 use interface::SESSION_WORDS;
 use model::Layout;
 ghost use mathlib.Core.Path.{_≡_};
@@ -56,9 +58,29 @@ pub extern "C" fn crpm_write(
 ) -> u64
     ensures { λ r. ⌜ Returns (writeReturned (now (image .entry)) (now (session .entry)) (writeArgsOf main block offset (now (bytes .entry))) (now (trace .entry))) r (now (session .exit)) (now (trace .exit)) (now (ops .exit)) ⌝ }
 {
-    let before = interface::session_in(*session);
-    let written = write::crpm_write(image, before, main, block, offset, bytes, trace);
-    interface::give_answer(session, ops, written)
+    let words = &session[..];
+    let layout = interface::layout_in(words);
+    let segments = words[DIRTY_SEGMENTS_AT];
+    let blocks = &words[DIRTY_BLOCKS_AT..SESSION_WORDS];
+    let written = write::write_parts(
+        image,
+        layout,
+        segments,
+        blocks,
+        main,
+        block,
+        offset,
+        bytes,
+        trace,
+    );
+    let status = written.status;
+    let code = status.code();
+    *ops = written.ops;
+    if status.is_served() {
+        session[DIRTY_SEGMENTS_AT] = written.dirty_segments;
+        session[DIRTY_BLOCKS_AT + main as usize] = written.word;
+    }
+    code
 }
 
 // Checkpoint: the session afterwards, and the number of its operations.
@@ -71,9 +93,18 @@ pub extern "C" fn crpm_checkpoint(
 ) -> u64
     ensures { λ r. ⌜ Returns (checkpointReturned (now (image .entry)) (now (session .entry)) (now (trace .entry))) r (now (session .exit)) (now (trace .exit)) (now (ops .exit)) ⌝ }
 {
-    let before = interface::session_in(*session);
-    let saved = checkpoint::crpm_checkpoint(image, before, trace);
-    interface::give_answer(session, ops, saved)
+    let words = &session[..];
+    let layout = interface::layout_in(words);
+    let segments = words[DIRTY_SEGMENTS_AT];
+    let blocks = &words[DIRTY_BLOCKS_AT..SESSION_WORDS];
+    let done = checkpoint::checkpoint_parts(image, layout, segments, blocks, trace);
+    let status = done.status;
+    let code = status.code();
+    *ops = done.ops;
+    if status.is_served() {
+        session[DIRTY_SEGMENTS_AT] = 0;
+    }
+    code
 }
 
 // Replay: the image afterwards, and the number of operations played.

@@ -19,76 +19,7 @@ use Rattle.model.specs.Ops.{clwb, stores}
 use Rattle.model.specs.Checkpoint.{nextState, nextStates, statesOps}
 use Rattle.model.proofs.Laws.Range.{or-zero, all-at}
 use Rattle.model.proofs.Laws.Words.{word-cong}
-use Rattle.checkpoint.proofs.ByteLaws.{Small, by-bytes, sum-bytes, top-bytes, word-from}
-
--- ---- eight bits, one in each byte
-
--- the code's words of eight bytes
-abbrev eachOne : ℕ
-eachOne = 0x0101010101010101
-
-abbrev eachItsBit : ℕ
-eachItsBit = 0x8040201008040201
-
-abbrev eachLow : ℕ
-eachLow = 0x7f7f7f7f7f7f7f7f
-
-each : (b : ℕ) → b * eachOne ≡ littleEndian 8 (λ k. b) 0
-unfolding littleEndian
-each b = omega arith
-
--- `(bits * EACH_ONE) & EACH_ITS_BIT`
-abbrev spreadOf : ℕ → ℕ
-spreadOf bits = bitAnd (bits * eachOne) eachItsBit
-
--- byte k is bit k, where it stands
-spread : (bits : ℕ) → bits < 256 → spreadOf bits ≡ wordOf (λ k. bitAnd bits (2 ^ k)) 0
-unfolding wordOf
-spread bits h = ap₂ bitAnd (each bits) its ∙ by-bytes bitAnd (and-block 8) refl 8 (λ k. bits) (λ k. 2 ^ k) 0 (λ k a b. h) (λ k a b. pow-lt b)
-  where
-    its : eachItsBit ≡ littleEndian 8 (λ k. 2 ^ k) 0
-    its = unfold littleEndian in refl
-
--- bit k of the eight bits from bit p on
-bit-of-eight : (m p k : ℕ) → k < 8 → bitAnd (m / 2 ^ p % 256) (2 ^ k) ≡ bit m (p + k) * 2 ^ k
-unfolding bit
-bit-of-eight m p k h =
-    let e : 7 - k + 1 + k ≡ 8 = omega arith in
-    let d : 2 ^ k ≡ 2 ^ (1 + k) - 2 ^ k = omega (arith, pow-add 2 1 k) in
-    ap (bitAnd (m / 2 ^ p % 256)) d ∙ and-high (m / 2 ^ p % 256) 1 k
-    ∙ ap (λ (w : ℕ). w % 2 * 2 ^ k) (ap (λ (n : ℕ). m / 2 ^ p % 2 ^ n / 2 ^ k) (sym e) ∙ field (m / 2 ^ p) (7 - k + 1) k)
-    ∙ ap (λ (w : ℕ). w * 2 ^ k) (mod-mod-pow (m / 2 ^ p / 2 ^ k) (7 - k) 1 ∙ ap (λ (w : ℕ). w % 2) (shr-shr m p k))
-
--- ---- the bytes that are not 0
-
--- `((w & EACH_LOW) + EACH_LOW) | w`, its top bits brought down; and the same of one byte
-abbrev presentOf : ℕ → ℕ
-presentOf w = bitAnd (bitOr (bitAnd w eachLow + eachLow) w / 128) eachOne
-
-abbrev presentByte : ℕ → ℕ
-presentByte b = bitOr (bitAnd b 127 + 127) b / 128
-
--- the sum is a word
-pub no-carry : (w : ℕ) → bitAnd w eachLow + eachLow < 2 ^ 64
-no-carry w = omega (arith, and-le-r w eachLow)
-
-present-bytes : (f : ℕ → ℕ) → Small 8 f 0 → presentOf (wordOf f 0) ≡ wordOf (λ k. presentByte (f k)) 0
-unfolding wordOf
-present-bytes f h = rw (
-  each 127,
-  each 1,
-  by-bytes bitAnd (and-block 8) refl 8 f (λ k. 127) 0 h (λ k a b. omega arith),
-  sum-bytes 8 (λ k. bitAnd (f k) 127) (λ k. 127) 0,
-  by-bytes bitOr (or-block 8) refl 8 (λ k. bitAnd (f k) 127 + 127) f 0 (λ k a b. low k) h,
-) (top-bytes 8 (λ k. bitOr (bitAnd (f k) 127 + 127) (f k)) 0 (λ k a b. or-lt 8 _ (f k) (low k) (h k a b)))
-  where
-    low : (k : ℕ) → bitAnd (f k) 127 + 127 < 256
-    low k = omega (arith, and-le-r (f k) 127)
-
--- it is 0 for the byte 0 and 1 for every other
-present-byte : (b : ℕ) → b < 256 → presentByte b ≡ cond (eqb b 0) 0 1
-unfolding allB
-present-byte b h = eqb-true _ _ (all-at 256 (λ b. eqb (presentByte b) (cond (eqb b 0) 0 1)) refl b h)
+use Rattle.words.proofs.ByteLaws.{by-bytes, word-from, bit-small}
 
 -- ---- the next states
 
@@ -111,34 +42,26 @@ next-present st m i k = ap (λ (b : Bool). cond b 0 1) (or-zero st (bit m i * 2 
 
 -- the eight states from segment p on
 module _ (I : Image) (line m p : ℕ) (bytes : Bytes I) where
-  abbrev bits : ℕ
-  bits = m / 2 ^ p % 256
-
   abbrev state : ℕ → ℕ
   state k = byteAt I (line + p + k)
 
   -- a state laid over by the segment's bit, where that stands
-  abbrev present : ℕ → ℕ
-  present k = bitOr (state k) (bitAnd bits (2 ^ k))
+  abbrev overlaid : ℕ → ℕ
+  overlaid k = bitOr (state k) (bit m (p + k) * 2 ^ k)
 
-  small-bit : (k : ℕ) → bitAnd bits (2 ^ k) < 256
-  small-bit k = omega (arith, and-le-l bits (2 ^ k))
+  pub overlaid-small : (k : ℕ) → k < 8 → overlaid k < 256
+  overlaid-small k h = or-lt 8 (state k) (bit m (p + k) * 2 ^ k) (bytes (line + p + k)) (bit-small m p k h)
 
-  small : Small 8 present 0
-  small k a b = or-lt 8 (state k) (bitAnd bits (2 ^ k)) (bytes (line + p + k)) (small-bit k)
+  pub overlaid-word : (states bits : ℕ) → states ≡ wordAt I (line + p) → bits ≡ wordOf (λ k. bit m (p + k) * 2 ^ k) 0 → bitOr states bits ≡ wordOf overlaid 0
+  overlaid-word states bits e b =
+      ap₂ bitOr (e ∙ word-from (byteAt I) (line + p)) b
+      ∙ unfold wordOf in (by-bytes bitOr (or-block 8) refl 8 state (λ k. bit m (p + k) * 2 ^ k) 0 (λ k a h. bytes (line + p + k)) (λ k a h. bit-small m p k h))
 
-  overlaid : bitOr (wordAt I (line + p)) (spreadOf bits) ≡ wordOf present 0
-  overlaid =
-      ap₂ bitOr (word-from (byteAt I) (line + p)) (spread bits (omega arith))
-      ∙ unfold wordOf in (by-bytes bitOr (or-block 8) refl 8 state (λ k. bitAnd bits (2 ^ k)) 0 (λ k a b. bytes (line + p + k)) (λ k a b. small-bit k))
-
-  next-byte : (k : ℕ) → 0 ≤ k → k < 8 → presentByte (present k) ≡ next I line m (p + k)
-  next-byte k a b =
-      present-byte (present k) (small k a b) ∙ ap (λ (w : ℕ). cond (eqb (bitOr (state k) w) 0) 0 1) (bit-of-eight m p k b)
-      ∙ next-present (state k) m (p + k) k ∙ ap (λ (n : ℕ). nextState (byteAt I n) (isDirty m (p + k))) (add-assoc line p k)
-
-  pub next-word : (states : ℕ) → states ≡ wordAt I (line + p) → presentOf (bitOr states (spreadOf bits)) ≡ wordOf (next I line m) p
-  next-word states e = rw (e, overlaid) (present-bytes present small ∙ word-cong _ (λ k. next I line m (p + k)) 0 next-byte ∙ sym (word-from (next I line m) p))
+  pub next-word : wordOf (λ k. cond (eqb (overlaid k) 0) 0 1) 0 ≡ wordOf (next I line m) p
+  next-word =
+      word-cong (λ k. cond (eqb (overlaid k) 0) 0 1) (λ k. next I line m (p + k)) 0
+      (λ k a h. next-present (state k) m (p + k) k ∙ ap (λ (n : ℕ). nextState (byteAt I n) (isDirty m (p + k))) (add-assoc line p k))
+      ∙ sym (word-from (next I line m) p)
 
 -- ---- operations
 

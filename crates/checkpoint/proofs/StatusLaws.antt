@@ -8,7 +8,7 @@ use lib.ListN.{length}
 use borrow.Author.Tests.{eqb-true, eqb-false, not-false}
 use Rattle.model.specs.declared.Session.{Session}
 use Rattle.model.specs.Words.{Image}
-use Rattle.model.specs.Layout.{metadataSize}
+use Rattle.model.specs.Layout.{most, metadataSize}
 use Rattle.model.specs.Status.{firstError, served}
 use Rattle.model.specs.Container.{activeState}
 use Rattle.model.specs.Session.{contextErrors}
@@ -25,13 +25,14 @@ long-enough s I n e z =
     omega (arith, metadata-inside (s .layout), eqb-true (length I) _ (not-false _ (served-condition (contextErrors s I) (omega arith) (sym e ∙ eqb-true _ _ z) 2)))
 
 -- 1 to 5 and 10 leave what the operations go by
-pub advancing : (s : Session) (I : Image) (n : ℕ) → n ≡ firstError (contextErrors s I ++ epochErrors I) → served n ≡ true → Advancing (s .layout) I (s .«dirty_blocks»)
-advancing s I n e z =
+pub advancing : (s : Session) (I : Image) (n : ℕ) → most ≤ length (s .«dirty_blocks») → n ≡ firstError (contextErrors s I ++ epochErrors I) → served n ≡ true → Advancing (s .layout) I (s .«dirty_blocks»)
+advancing s I n l e z =
     let r = served-condition (contextErrors s I ++ epochErrors I) (omega arith) (sym e ∙ eqb-true _ _ z) in
     let k = sizes-ok (s .layout) .0 (not-false _ (r 1)) in
     record {
       mains = k .0 .1;
       blocks = k .2 .1;
+      enough = l;
       long = omega (arith, eqb-true (length I) _ (not-false _ (r 2)), metadata-inside (s .layout));
       raises = eqb-false _ _ (r 10);
       within = words-within s (activeState I) (k .0 .1) (not-false _ (r 5));

@@ -17,6 +17,7 @@ lastEpoch = 2 ^ 64 - 1
 pub record Advancing (l : Layout) (I : Image) (words : List ℕ) : Type 0 where
   pub mains : l .mains ≤ most
   pub blocks : l .blocks ≤ most
+  pub enough : most ≤ length words
   pub long : metadataSize ≤ length I
   pub raises : committedEpoch I ≢ lastEpoch
   pub within : (i : ℕ) → i < l .mains → getD words i 0 < 2 ^ l .blocks

@@ -20,6 +20,7 @@ ghost use Rattle.model.specs.Checkpoint.{flushDirty, nextStates, statesOps, epo
 ghost use Rattle.trace.specs.Emit.{Fits, Emitted};
 ghost use Rattle.session.specs.Parts.{sessionOf};
 ghost use Rattle.checkpoint.specs.Advance.{lastEpoch, Advancing};
+ghost use Rattle.checkpoint.specs.Checkpointed.{checkpointedAnswer};
 
 // Sizes as indexes count them.
 const WORD_SIZE: usize = Layout::WORD_SIZE as usize;
@@ -27,19 +28,6 @@ const WORD_SIZE: usize = Layout::WORD_SIZE as usize;
 const LINE_WORDS: usize = Layout::LINE_WORDS as usize;
 
 const EPOCH_AT: usize = Layout::EPOCH_AT as usize;
-
-// The values of eight bits: a word of dirty segments has one for each byte of states, so eight for a word of them.
-const EIGHT_BITS: u64 = 1 << Layout::LINE_WORDS;
-
-// Words by their bytes: each is 1; byte k has bit k alone; each has its seven low bits.
-const EACH_ONE: u64 = 0x0101010101010101;
-
-const EACH_ITS_BIT: u64 = 0x8040201008040201;
-
-const EACH_LOW: u64 = 0x7f7f7f7f7f7f7f7f;
-
-// The top bit of a byte.
-const TOP_BIT: u64 = 7;
 
 // The epoch that cannot be raised.
 const LAST_EPOCH: u64 = 18446744073709551615;
@@ -57,13 +45,8 @@ const FIXED_OPS: u64 = STATES_OPS + EPOCH_OPS + FENCES;
 // ---- the dirty blocks
 
 // Writes back every dirty block of every main segment, upward.
-fn put_flushes(
-    layout: Layout,
-    words: &[u64; Layout::MOST_LEN],
-    trace: &mut [u64],
-    n: usize,
-) -> usize
-    requires { ⌜ (layout .mains ≤ most) × (layout .blocks ≤ most) ⌝ }
+fn put_flushes(layout: Layout, words: &[u64], trace: &mut [u64], n: usize) -> usize
+    requires { ⌜ (layout .mains ≤ most) × (layout .blocks ≤ most) × (most ≤ length (now words)) ⌝ }
     requires { ⌜ Fits (now trace) n (flushDirty layout (now words)) ⌝ }
     ensures { λ r. ⌜ Emitted (now (trace .entry)) n (flushDirty layout (now (words .entry))) (now (trace .exit)) r ⌝ }
 {
@@ -80,18 +63,15 @@ fn put_flushes(
 
 // ---- the states
 
-// Word k of the next states, by the line of states: eight segments at once (SPECIFICATION 11.2). A byte of `present` is 0 exactly
-// where the segment is in state 0 and not dirty, and a byte of `topped` has its top bit exactly where that of `present` is not 0.
+// Word k of the next states, by the line of states: eight segments at once (SPECIFICATION 11.2). A byte of the states laid over by the
+// bit of its segment is 0 exactly where the segment is in state 0 and not dirty.
 fn next_word(image: &[u8], line: usize, segments: u64, k: usize) -> u64
     requires { ⌜ (k < lineWords) × (line + lineSize ≤ length (now image)) ⌝ }
     ensures { λ r. ⌜ r ≡ wordOf (nextStates segments (segState (now (image .entry)) line)) (wordSize * k) ⌝ }
 {
     let i = WORD_SIZE * k;
     let states = words::word_at(image, line + i);
-    let bits = (segments >> i) % EIGHT_BITS;
-    let present = states | ((bits * EACH_ONE) & EACH_ITS_BIT);
-    let topped = ((present & EACH_LOW) + EACH_LOW) | present;
-    (topped >> TOP_BIT) & EACH_ONE
+    words::present(states | words::spread(segments, i as u64))
 }
 
 // Stores the next states on the inactive line, upward, and writes it back.
@@ -128,8 +108,8 @@ fn put_epoch(image: &[u8], trace: &mut [u64], n: usize) -> usize
 // ---- all operations
 
 // Their number, whatever the dirty segments and the image.
-fn checkpoint_length(layout: Layout, words: &[u64; Layout::MOST_LEN]) -> u64
-    requires { ⌜ layout .mains ≤ most ⌝ }
+fn checkpoint_length(layout: Layout, words: &[u64]) -> u64
+    requires { ⌜ (layout .mains ≤ most) × (most ≤ length (now words)) ⌝ }
     requires { ⌜ ((i : ℕ) → i < layout .mains → getD (now words) i 0 < 2 ^ layout .blocks) ⌝ }
     ensures { λ r. ⌜ ((segments : ℕ) (I : Image) → r ≡ length (checkpointOps (sessionOf layout segments (now (words .entry))) I)) × (r < 2 ^ 32) ⌝ }
 {
@@ -141,7 +121,7 @@ fn put_checkpoint(
     image: &[u8],
     layout: Layout,
     segments: u64,
-    words: &[u64; Layout::MOST_LEN],
+    words: &[u64],
     trace: &mut [u64],
     n: usize,
 ) -> usize
@@ -161,12 +141,8 @@ fn put_checkpoint(
 
 // The first refusal of a checkpoint that applies, whatever the trace: a bad image or session, or an epoch that cannot be
 // raised.
-fn checkpoint_status(
-    image: &[u8],
-    layout: Layout,
-    segments: u64,
-    words: &[u64; Layout::MOST_LEN],
-) -> Status
+fn checkpoint_status(image: &[u8], layout: Layout, segments: u64, words: &[u64]) -> Status
+    requires { ⌜ most ≤ length (now words) ⌝ }
     ensures { λ r. ⌜ codeOf r ≡ firstError (contextErrors (sessionOf layout segments (now (words .entry))) (now (image .entry)) ++ epochErrors (now (image .entry))) ⌝ }
 {
     let context = session::context_status(image, layout, segments, words);
@@ -179,21 +155,63 @@ fn checkpoint_status(
     Status::Served
 }
 
-// Checkpoint (the trade: save): all that was written becomes the checkpoint, in one step that no crash divides.
+// What a checkpoint on the parts of a session answers: how it ended, and how many operations stand on the trace. Served, it leaves
+// no dirty segment, and the words of dirty blocks stay; refused, the session stays whole.
+pub struct Checkpointed {
+    pub status: Status,
+    pub ops: u64,
+}
+
+// A checkpoint with the session lent by its parts (the trade: save): all that was written becomes the checkpoint, in one step that
+// no crash divides.
+pub fn checkpoint_parts(
+    image: &[u8],
+    layout: Layout,
+    segments: u64,
+    words: &[u64],
+    trace: &mut [u64],
+) -> Checkpointed
+    requires { ⌜ most ≤ length (now words) ⌝ }
+    ensures { λ r. ⌜ Gives (checkpointOutcome (sessionOf layout segments (now (words .entry))) (now (image .entry)) (now (trace .entry))) (now (trace .entry)) (checkpointedAnswer (sessionOf layout segments (now (words .entry))) r) (now (trace .exit)) ⌝ }
+{
+    let status = checkpoint_status(image, layout, segments, words);
+    if !status.is_served() {
+        return Checkpointed {
+            status: status,
+            ops: 0,
+        };
+    }
+    let ops = checkpoint_length(layout, words);
+    let room = trace::trace_status(trace.len(), ops);
+    if !room.is_served() {
+        return Checkpointed {
+            status: room,
+            ops: 0,
+        };
+    }
+    put_checkpoint(image, layout, segments, words, trace, 0);
+    Checkpointed {
+        status: Status::Served,
+        ops: ops,
+    }
+}
+
+// Checkpoint, with the session by value: the answer has the session afterwards.
 pub fn crpm_checkpoint(image: &[u8], session: Session, trace: &mut [u64]) -> Answer
     ensures { λ r. ⌜ Gives (checkpointOutcome session (now (image .entry)) (now (trace .entry))) (now (trace .entry)) r (now (trace .exit)) ⌝ }
 {
     let layout = session.layout;
     let segments = session.dirty_segments;
-    let status = checkpoint_status(image, layout, segments, &session.dirty_blocks);
-    if !status.is_served() {
-        return Answer::refused(status, session);
+    let words = &session.dirty_blocks;
+    let done = checkpoint_parts(image, layout, segments, words, trace);
+    let status = done.status;
+    let mut next = session;
+    if status.is_served() {
+        next = session::with_checkpoint(session);
     }
-    let ops = checkpoint_length(layout, &session.dirty_blocks);
-    let room = trace::trace_status(trace.len(), ops);
-    if !room.is_served() {
-        return Answer::refused(room, session);
+    Answer {
+        status: status,
+        session: next,
+        ops: done.ops,
     }
-    put_checkpoint(image, layout, segments, &session.dirty_blocks, trace, 0);
-    Answer::served(session::with_checkpoint(session), ops)
 }

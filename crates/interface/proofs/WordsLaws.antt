@@ -1,15 +1,15 @@
 -- Laws of specs/Interface.antt: a session and its words.
 use Prim.Native.Nat.{ℕ, zero, suc, _+_, _<_}
-use mathlib.Core.Path.{_≡_, refl, sym, ap₂, _∙_}
+use mathlib.Core.Path.{_≡_, refl, ap, ap₂, _∙_}
 use mathlib.Core.List.{[], _∷_}
 use native.Mathlib.Omega.{arith}
-use lib.ListN.{length, getD, set, drop, replicate, length-drop}
-use lib.Seq.{getD-drop, ext-getD, getD-set-same, getD-set-other}
+use lib.ListN.{length, getD, set, take, drop, replicate, length-drop}
+use lib.Seq.{take-all, getD-drop, ext-getD, getD-set-same, getD-set-other}
 use borrow.Author.Count.{below-more}
 use Rattle.model.specs.declared.Layout.{Layout}
 use Rattle.model.specs.declared.Session.{Session}
-use Rattle.model.specs.Layout.{layoutOf, most}
-use Rattle.interface.specs.Interface.{Words, dirtyBlocksAt, sessionWords, wordsOf, sessionIn}
+use Rattle.model.specs.Layout.{most}
+use Rattle.interface.specs.Interface.{Words, dirtySegmentsAt, dirtyBlocksAt, sessionWords, wordsOf, sessionIn}
 
 -- ---- nothing is lost in the words
 
@@ -40,7 +40,7 @@ word-at s i = getD-drop dirtyBlocksAt (wordsOf s) i 0
 
 -- the words before it, stored into zeros
 pub first-words : (s : Session) (k : ℕ) → k < dirtyBlocksAt
-    → getD (set (set (set (set (replicate sessionWords 0) 0 (s .layout .mains)) 1 (s .layout .backups)) 2 (s .layout .blocks)) 3 (s .«dirty_segments»)) k 0
+    → getD (set (set (set (set (replicate sessionWords 0) 0 (s .layout .mains)) 1 (s .layout .backups)) 2 (s .layout .blocks)) dirtySegmentsAt (s .«dirty_segments»)) k 0
     ≡ getD (wordsOf s) k 0
 unfolding wordsOf
 first-words s zero h = refl
@@ -55,16 +55,28 @@ pub words-are : (w : Words) (s : Session) → length w ≡ sessionWords → leng
 unfolding wordsOf
 words-are w s e d h = ext-getD 0 w (wordsOf s) (omega (arith, e, d)) (λ k l. h k (omega (arith, e, l)))
 
--- blocks that agree with the words after the first four are they
-blocks-are : (w b : Words) → length w ≡ sessionWords → length b ≡ most → ((k : ℕ) → k < most → getD b k 0 ≡ getD w (dirtyBlocksAt + k) 0)
-    → b ≡ drop dirtyBlocksAt w
-blocks-are w b e d h =
-    ext-getD 0 b (drop dirtyBlocksAt w) (omega (arith, e, d, length-drop dirtyBlocksAt w)) (λ k l. h k (omega (arith, d, l)) ∙ sym (getD-drop dirtyBlocksAt w k 0))
+-- ---- the parts of a session that stands in words
 
--- so a session that is read word by word is the one that stands there
-pub session-is : (w b : Words) (l : Layout) → l ≡ layoutOf (getD w 0 0) (getD w 1 0) (getD w 2 0) → length w ≡ sessionWords → length b ≡ most
-    → ((k : ℕ) → k < most → getD b k 0 ≡ getD w (dirtyBlocksAt + k) 0)
-    → record { layout = l; «dirty_segments» = getD w 3 0; «dirty_blocks» = b } ≡ sessionIn w
+-- lent as they stand: the layout, the dirty segments, and the words from place 4 on
+pub lent-session : (w : Words) (l : Layout) → length w ≡ sessionWords → l ≡ sessionIn w .layout
+    → record { layout = l; «dirty_segments» = getD w dirtySegmentsAt 0; «dirty_blocks» = take most (drop dirtyBlocksAt w) } ≡ sessionIn w
 unfolding sessionIn
-session-is w b l p e d h =
-    ap₂ (λ (x : Layout) (y : Words). record { layout = x; «dirty_segments» = getD w 3 0; «dirty_blocks» = y }) p (blocks-are w b e d h)
+lent-session w l e p =
+    ap₂ (λ (x : Layout) (y : Words). record { layout = x; «dirty_segments» = getD w dirtySegmentsAt 0; «dirty_blocks» = y }) p
+    (take-all most (drop dirtyBlocksAt w) (omega (arith, e, length-drop dirtyBlocksAt w)))
+
+-- with other dirty segments
+pub segments-stored : (w : Words) (v : ℕ) → length w ≡ sessionWords
+    → set w dirtySegmentsAt v ≡ wordsOf (record { layout = sessionIn w .layout; «dirty_segments» = v; «dirty_blocks» = sessionIn w .«dirty_blocks» })
+unfolding sessionIn wordsOf
+segments-stored [] v e = let z : ⊥ = omega (arith, e) in absurd z
+segments-stored (a ∷ []) v e = let z : ⊥ = omega (arith, e) in absurd z
+segments-stored (a ∷ b ∷ []) v e = let z : ⊥ = omega (arith, e) in absurd z
+segments-stored (a ∷ b ∷ c ∷ []) v e = let z : ⊥ = omega (arith, e) in absurd z
+segments-stored (a ∷ b ∷ c ∷ d ∷ r) v e = refl
+
+-- and with another word of dirty blocks for main segment i
+pub word-stored : (s : Session) (i v : ℕ)
+    → set (wordsOf s) (dirtyBlocksAt + i) v ≡ wordsOf (record { layout = s .layout; «dirty_segments» = s .«dirty_segments»; «dirty_blocks» = set (s .«dirty_blocks») i v })
+unfolding wordsOf
+word-stored s i v = let e : dirtyBlocksAt + i ≡ suc (suc (suc (suc i))) = omega arith in ap (λ (k : ℕ). set (wordsOf s) k v) e

@@ -20,7 +20,11 @@ use Rattle.model.specs.Checkpoint.{checkpointOutcome}
 abbrev pub Words : Type 0
 Words = List ℕ
 
--- where the words of dirty blocks start: after the three sizes and the dirty segments
+-- where the dirty segments stand: after the three sizes
+abbrev pub dirtySegmentsAt : ℕ
+dirtySegmentsAt = 3
+
+-- where the words of dirty blocks start: after the dirty segments
 abbrev pub dirtyBlocksAt : ℕ
 dirtyBlocksAt = 4
 
@@ -34,7 +38,7 @@ wordsOf s = s .layout .mains ∷ s .layout .backups ∷ s .layout .blocks ∷ s 
 
 -- the session that stands in words
 unfoldable pub sessionIn : Words → Session
-sessionIn w = record { layout = layoutOf (getD w 0 0) (getD w 1 0) (getD w 2 0); «dirty_segments» = getD w 3 0; «dirty_blocks» = drop dirtyBlocksAt w }
+sessionIn w = record { layout = layoutOf (getD w 0 0) (getD w 1 0) (getD w 2 0); «dirty_segments» = getD w dirtySegmentsAt 0; «dirty_blocks» = drop dirtyBlocksAt w }
 
 -- ---- opening, write and checkpoint
 

@@ -1,33 +1,29 @@
-// How a session and an answer cross the C interface: a session goes in and out as words (the trade: the card), and the number of
-// operations goes out as a number of its own. specs/Interface.antt says what the calls of the interface return.
+// How a session and an answer cross the C interface: a session stands in words (the trade: the card), and the number of operations
+// goes out as a number of its own. specs/Interface.antt says what the calls of the interface return.
 use model::Answer;
 use model::Layout;
 use model::Session;
 ghost use mathlib.Core.Path.{_≡_};
+ghost use Prim.Native.Nat.{_≤_};
+ghost use lib.ListN.{length};
 ghost use Rattle.model.specs.Status.{codeOf};
-ghost use Rattle.interface.specs.Interface.{wordsOf, sessionIn};
+ghost use Rattle.interface.specs.Interface.{dirtySegmentsAt, wordsOf, sessionIn};
 
-// Where the words of dirty blocks start: after the three sizes and the dirty segments.
-const DIRTY_BLOCKS_AT: usize = 4;
+// Where the dirty segments stand: after the three sizes.
+pub const DIRTY_SEGMENTS_AT: usize = 3;
+
+// Where the words of dirty blocks start: after the dirty segments.
+pub const DIRTY_BLOCKS_AT: usize = 4;
 
 // Words of a session: these, and a word of dirty blocks for each main segment.
 pub const SESSION_WORDS: usize = DIRTY_BLOCKS_AT + Layout::MOST_LEN;
 
-// The session that stands in words.
-pub fn session_in(words: [u64; SESSION_WORDS]) -> Session
-    ensures { λ r. ⌜ r ≡ sessionIn words ⌝ }
+// The layout of the session that stands in words.
+pub fn layout_in(words: &[u64]) -> Layout
+    requires { ⌜ dirtySegmentsAt ≤ length (now words) ⌝ }
+    ensures { λ r. ⌜ r ≡ sessionIn (now (words .entry)) .layout ⌝ }
 {
-    let mut blocks = [0u64; Layout::MOST_LEN];
-    let mut i = 0;
-    while i < Layout::MOST_LEN {
-        blocks[i] = words[DIRTY_BLOCKS_AT + i];
-        i += 1;
-    }
-    Session {
-        layout: Layout::new(words[0], words[1], words[2]),
-        dirty_segments: words[3],
-        dirty_blocks: blocks,
-    }
+    Layout::new(words[0], words[1], words[2])
 }
 
 // The words of a session.
@@ -38,7 +34,7 @@ fn words_of(session: Session) -> [u64; SESSION_WORDS]
     words[0] = session.layout.mains;
     words[1] = session.layout.backups;
     words[2] = session.layout.blocks;
-    words[3] = session.dirty_segments;
+    words[DIRTY_SEGMENTS_AT] = session.dirty_segments;
     let mut i = 0;
     while i < Layout::MOST_LEN {
         words[DIRTY_BLOCKS_AT + i] = session.dirty_blocks[i];

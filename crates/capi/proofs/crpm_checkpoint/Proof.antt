@@ -1,34 +1,77 @@
-use Rattle.capi.proofs.CallLaws.{checkpoint-returned}
+use mathlib.Core.Path.{_≡_, refl, sym, _∙_}
+use lib.ListN.{length}
 use borrow.Author.Needs.{needs}
+use Rattle.interface.specs.Interface.{sessionWords}
+use Rattle.interface.proofs.WordsLaws.{lent-session}
+use Rattle.capi.proofs.CallLaws.{checkpoint-stored, checkpoint-kept}
 use Rattle.capi.proofs.crpm_checkpoint.Statement.{statement}
 use Rattle.capi.proofs.crpm_checkpoint.Tie as tie
 
-session-in-requires : tie.Need-session-in-requires
-session-in-requires c κs = search needs
+layout-in-requires : tie.Need-layout-in-requires
+layout-in-requires c κs = search needs
 
-crpm-checkpoint-requires : tie.Need-crpm-checkpoint-requires
-crpm-checkpoint-requires c κs = search needs
+shared-slice-read-segments : tie.Need-shared-slice-read-segments
+shared-slice-read-segments c = search needs
 
-give-answer-requires : tie.Need-give-answer-requires
-give-answer-requires c κs = search needs
+sub-blocks : tie.Need-sub-blocks
+sub-blocks c = search needs
+
+part-blocks-start : tie.Need-part-blocks-start
+part-blocks-start c = search needs
+
+part-blocks-end : tie.Need-part-blocks-end
+part-blocks-end c = search needs
+
+checkpoint-parts-requires : tie.Need-checkpoint-parts-requires
+checkpoint-parts-requires c κs = search needs
+
+code-requires : tie.Need-code-requires
+code-requires c κs = search needs
+
+is-served-requires : tie.Need-is-served-requires
+is-served-requires c κs = search needs
+
+element-write-session : tie.Need-element-write-session
+element-write-session c = search needs
 
 same-length : tie.Need-same-length
 same-length c = search needs
 
 returns : tie.Need-returns
 returns c =
-    let e = c .give-answer .ensures in
-    let o = c .before .before .before .before .before in
-    let i = o .before .before in
-    let a = i .before .before .before .before .args in
-    checkpoint-returned (a .trace .now) (o .crpm-checkpoint .result) _ _ _ _ (e .0) (e .1 .0) (e .1 .1) (a .image .now) (a .session .now) _ (i .session-in .ensures) (o .crpm-checkpoint .ensures)
+    let r = c .before .before .before .before .before in
+    let l = r .before .before .before .before in
+    let a = l .before .before .before .before .before .args in
+    let e : length (a .session .now) ≡ sessionWords = search needs in
+    checkpoint-stored (a .image .now) (a .session .now) e _ (lent-session (a .session .now) (l .layout-in .result) e (l .layout-in .ensures)) (a .trace .now) _ _ _
+    (r .checkpoint-parts .result) (c .before .before .code .ensures) refl (r .checkpoint-parts .ensures) (sym (c .before .is-served .ensures) ∙ c .if1 .taken)
+
+same-length-2 : tie.Need-same-length-2
+same-length-2 c = search needs
+
+returns-2 : tie.Need-returns-2
+returns-2 c =
+    let r = c .before .before .before .before .before in
+    let l = r .before .before .before .before in
+    let a = l .before .before .before .before .before .args in
+    let e : length (a .session .now) ≡ sessionWords = search needs in
+    checkpoint-kept (a .image .now) (a .session .now) e _ (lent-session (a .session .now) (l .layout-in .result) e (l .layout-in .ensures)) (a .trace .now) _ _ _
+    (r .checkpoint-parts .result) (c .before .before .code .ensures) refl (r .checkpoint-parts .ensures) (sym (c .before .is-served .ensures) ∙ c .if1 .left)
 
 pub crpm-checkpoint-spec : {M : Type 1} → statement M
 crpm-checkpoint-spec =
     tie.close
     (tie.spec
-    session-in-requires
-    crpm-checkpoint-requires
-    give-answer-requires
+    layout-in-requires
+    shared-slice-read-segments
+    sub-blocks
+    part-blocks-start
+    part-blocks-end
+    checkpoint-parts-requires
+    code-requires
+    is-served-requires
+    element-write-session
     same-length
-    returns)
+    returns
+    same-length-2
+    returns-2)

@@ -16,7 +16,7 @@ add-result c = search needs
 
 returns : tie.Need-returns
 returns c =
-    let g = c .before .args in
+    let g = c .before .before .args in
     ((λ segments I. omega (arith, c .dirty-total .ensures .0, length-checkpoint-ops (sessionOf (g .layout) segments (g .words .now)) I)), omega arith)
 
 pub checkpoint-length-spec : {M : Type 1} → statement M

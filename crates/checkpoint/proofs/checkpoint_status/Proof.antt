@@ -20,7 +20,7 @@ returns c = stage-refused _ _ _ (c .before .before .context-status .ensures) (sy
 word-at-requires : tie.Need-word-at-requires
 word-at-requires c κs =
     let s = c .before .before in
-    let g = s .before .before .args in
+    let g = s .before .before .before .args in
     omega (arith, long-enough (sessionOf (g .layout) (g .segments) (g .words .now)) (g .image .now) _ (s .context-status .ensures) (sym (c .before .is-served .ensures) ∙ not-false _ (c .if1 .left)))
 
 returns-2 : tie.Need-returns-2

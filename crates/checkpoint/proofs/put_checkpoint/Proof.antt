@@ -6,13 +6,13 @@ use Rattle.checkpoint.proofs.put_checkpoint.Tie as tie
 
 put-flushes-requires : tie.Need-put-flushes-requires
 unfolding checkpointOps
-put-flushes-requires c κs = let a = c .before .before .before in ((a .pre .0 .mains, a .pre .0 .blocks), fits-first _ (fits-first _ (fits-first _ (a .pre .1))))
+put-flushes-requires c κs = let a = c .before .before .before .before in ((a .pre .0 .mains, a .pre .0 .blocks, a .pre .0 .enough), fits-first _ (fits-first _ (fits-first _ (a .pre .1))))
 
 put-sfence-requires : tie.Need-put-sfence-requires
 unfolding checkpointOps
 put-sfence-requires c κs =
     let p₁ = c .before .before .before in
-    let h = p₁ .before .before .before .before .pre .1 in
+    let h = p₁ .before .before .before .before .before .pre .1 in
     fits-first _ (fits-then (fits-first _ (fits-first _ h)) (p₁ .put-flushes .ensures))
 
 put-states-requires : tie.Need-put-states-requires
@@ -20,7 +20,7 @@ unfolding checkpointOps
 put-states-requires c κs =
     let p₂ = c .before .before .before in
     let p₁ = p₂ .before .before .before .before in
-    let h = p₁ .before .before .before .before .pre .1 in
+    let h = p₁ .before .before .before .before .before .pre .1 in
     (search needs, fits-then (fits-then (fits-first _ (fits-first _ h)) (p₁ .put-flushes .ensures)) (p₂ .put-sfence .ensures))
 
 put-sfence-requires-2 : tie.Need-put-sfence-requires-2
@@ -29,7 +29,7 @@ put-sfence-requires-2 c κs =
     let p₃ = c .before .before .before in
     let p₂ = p₃ .before .before .before .before in
     let p₁ = p₂ .before .before .before .before in
-    let h = p₁ .before .before .before .before .pre .1 in
+    let h = p₁ .before .before .before .before .before .pre .1 in
     let w = emitted-then (p₁ .put-flushes .ensures) (emitted-then (p₂ .put-sfence .ensures) (p₃ .put-states .ensures)) in
     fits-first _ (fits-then (fits-first _ h) w)
 
@@ -40,7 +40,7 @@ put-epoch-requires c κs =
     let p₃ = p₄ .before .before .before .before in
     let p₂ = p₃ .before .before .before .before in
     let p₁ = p₂ .before .before .before .before in
-    let a = p₁ .before .before .before .before in
+    let a = p₁ .before .before .before .before .before in
     let w = emitted-then (p₁ .put-flushes .ensures) (emitted-then (p₂ .put-sfence .ensures) (p₃ .put-states .ensures)) in
     ((search needs, a .pre .0 .raises), fits-then (fits-then (fits-first _ (a .pre .1)) w) (p₄ .put-sfence2 .ensures))
 
@@ -53,7 +53,7 @@ put-sfence-requires-3 c κs =
     let p₂ = p₃ .before .before .before .before in
     let p₁ = p₂ .before .before .before .before in
     let w = emitted-then (p₁ .put-flushes .ensures) (emitted-then (p₂ .put-sfence .ensures) (p₃ .put-states .ensures)) in
-    fits-then (p₁ .before .before .before .before .pre .1) (emitted-then w (emitted-then (p₄ .put-sfence2 .ensures) (p₅ .put-epoch .ensures)))
+    fits-then (p₁ .before .before .before .before .before .pre .1) (emitted-then w (emitted-then (p₄ .put-sfence2 .ensures) (p₅ .put-epoch .ensures)))
 
 same-length : tie.Need-same-length
 same-length c = search needs

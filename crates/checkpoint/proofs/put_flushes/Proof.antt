@@ -34,15 +34,15 @@ main-at-requires c κs = search needs
 mul-put-dirty-clwbs : tie.Need-mul-put-dirty-clwbs Inv-loop μ-loop
 mul-put-dirty-clwbs c = search needs
 
-element-copy-out-put-dirty-clwbs : tie.Need-element-copy-out-put-dirty-clwbs Inv-loop μ-loop
-element-copy-out-put-dirty-clwbs c = search needs
+shared-slice-read-put-dirty-clwbs : tie.Need-shared-slice-read-put-dirty-clwbs Inv-loop μ-loop
+shared-slice-read-put-dirty-clwbs c = search needs
 
 put-dirty-clwbs-requires : tie.Need-put-dirty-clwbs-requires Inv-loop μ-loop
 unfolding flushDirty
 put-dirty-clwbs-requires c κs =
     let m = c .before .before in
     let l = m .before .before .loop in
-    let a = m .before .before .before .before in
+    let a = m .before .before .before .before .before in
     (search needs, (search needs, rw (m .main-at .ensures .0) (fits-each (l .i) (a .args .layout .mains) (flushed (a .args .layout) (a .args .words .now)) (omega arith) (a .pre .1) (l .inv .2))))
 
 add-i : tie.Need-add-i Inv-loop μ-loop
@@ -55,7 +55,7 @@ loop-again : tie.Need-loop-again Inv-loop μ-loop
 loop-again c =
     let m = c .before .before .before .before .before in
     let l = m .before .before .loop in
-    let g = m .before .before .before .before .args in
+    let g = m .before .before .before .before .before .args in
     (search needs, search needs, emitted-each (l .i) (flushed (g .layout) (g .words .now)) (l .inv .2) (rw (m .main-at .ensures .0) at (c .before .before .put-dirty-clwbs .ensures)))
 
 same-length : tie.Need-same-length Inv-loop μ-loop
@@ -64,7 +64,7 @@ same-length c = search needs
 returns : tie.Need-returns Inv-loop μ-loop
 unfolding flushDirty
 returns c =
-    let e : c .before .loop .i ≡ c .before .before .before .args .layout .mains = omega arith in
+    let e : c .before .loop .i ≡ c .before .before .before .before .args .layout .mains = omega arith in
     rw e at (c .before .loop .inv .2)
 
 pub put-flushes-spec : {M : Type 1} → statement M
@@ -76,7 +76,7 @@ put-flushes-spec =
     loop-holds
     main-at-requires
     mul-put-dirty-clwbs
-    element-copy-out-put-dirty-clwbs
+    shared-slice-read-put-dirty-clwbs
     put-dirty-clwbs-requires
     add-i
     loop-less

@@ -29,7 +29,7 @@ is-served-requires-2 c κs = search needs
 returns-2 : tie.Need-returns-2
 returns-2 c bytes x =
     let b = c .before .before .before in
-    let a = b .before .before .before .before .args in
+    let a = b .before .before .before .before .before .args in
     let s = sessionOf (a .layout) (a .segments) (a .words .now) in
     let p = stage-passed _ (contextErrors s (a .image .now)) _ (omega arith) (b .before .before .context-status .ensures) (sym (b .before .is-served .ensures) ∙ not-false _ (b .if1 .left)) in
     stage-refused _ _ _ (c .before .before .place-status .ensures) (sym (c .before .is-served2 .ensures) ∙ not-true _ (c .if2 .taken)) ∙ sym p
@@ -37,7 +37,7 @@ returns-2 c bytes x =
 span-bad-requires : tie.Need-span-bad-requires
 span-bad-requires c κs =
     let b = c .before .before .before in
-    let a = b .before .before .before .before .args in
+    let a = b .before .before .before .before .before .args in
     let h = sym (b .before .before .context-status .ensures) ∙ eqb-true _ 0 (sym (b .before .is-served .ensures) ∙ not-false _ (b .if1 .left)) in
     let z = sym (c .before .before .place-status .ensures) ∙ eqb-true _ 0 (sym (c .before .is-served2 .ensures) ∙ not-false _ (c .if2 .left)) in
     let place = served-condition (mainErrors (a .layout) (a .span .main) ++ blockErrors (a .layout) (a .span .block)) (omega arith) z in
@@ -47,7 +47,7 @@ returns-3 : tie.Need-returns-3
 returns-3 c bytes x =
     let d = c .before .before in
     let b = d .before .before .before in
-    let a = b .before .before .before .before .args in
+    let a = b .before .before .before .before .before .args in
     let s = sessionOf (a .layout) (a .segments) (a .words .now) in
     let p = stage-passed _ (contextErrors s (a .image .now)) _ (omega arith) (b .before .before .context-status .ensures) (sym (b .before .is-served .ensures) ∙ not-false _ (b .if1 .left)) in
     let q = stage-passed _ (mainErrors (a .layout) (a .span .main) ++ blockErrors (a .layout) (a .span .block)) _ (omega arith) (d .before .before .place-status .ensures) (sym (d .before .is-served2 .ensures) ∙ not-false _ (d .if2 .left)) in
@@ -57,7 +57,7 @@ returns-4 : tie.Need-returns-4
 returns-4 c bytes x =
     let d = c .before .before in
     let b = d .before .before .before in
-    let a = b .before .before .before .before .args in
+    let a = b .before .before .before .before .before .args in
     let s = sessionOf (a .layout) (a .segments) (a .words .now) in
     let p = stage-passed _ (contextErrors s (a .image .now)) _ (omega arith) (b .before .before .context-status .ensures) (sym (b .before .is-served .ensures) ∙ not-false _ (b .if1 .left)) in
     let q = stage-passed _ (mainErrors (a .layout) (a .span .main) ++ blockErrors (a .layout) (a .span .block)) _ (omega arith) (d .before .before .place-status .ensures) (sym (d .before .is-served2 .ensures) ∙ not-false _ (d .if2 .left)) in

@@ -1,0 +1,110 @@
+use mathlib.Core.Path.{refl, sym, ap, _∙_}
+use mathlib.Core.Bool.{Bool, cond}
+use native.Mathlib.Omega.{arith}
+use borrow.Author.Needs.{needs}
+use borrow.Author.Tests.{eqb-true, not-true, not-false}
+use Rattle.model.specs.Ops.{traceErrors}
+use Rattle.model.specs.Session.{withCheckpoint}
+use Rattle.model.specs.Checkpoint.{checkpointOps, checkpointStatus, checkpointOutcome}
+use Rattle.model.proofs.Laws.Status.{stage-refused, stage-passed}
+use Rattle.trace.proofs.CallLaws.{fits-whole, gives-refused, gives-served}
+use Rattle.session.specs.Parts.{sessionOf}
+use Rattle.checkpoint.proofs.StatusLaws.{advancing}
+use Rattle.checkpoint.proofs.checkpoint_parts.Statement.{statement}
+use Rattle.checkpoint.proofs.checkpoint_parts.Tie as tie
+
+checkpoint-status-requires : tie.Need-checkpoint-status-requires
+checkpoint-status-requires c κs = search needs
+
+is-served-requires : tie.Need-is-served-requires
+is-served-requires c κs = search needs
+
+returns : tie.Need-returns
+unfolding checkpointOutcome checkpointStatus
+returns c =
+    let k = c .before .before in
+    let g = k .before .before .before .before .args in
+    let s = sessionOf (g .layout) (g .segments) (g .words .now) in
+    let r = sym (c .before .is-served .ensures) ∙ not-true _ (c .if1 .taken) in
+    gives-refused _ s _ _ _ _ {k = k .checkpoint-status .result} (refl, ap (λ (b : Bool). cond b (withCheckpoint s) s) r, refl) (stage-refused _ _ _ (k .checkpoint-status .ensures) r) r refl
+
+checkpoint-length-requires : tie.Need-checkpoint-length-requires
+checkpoint-length-requires c κs =
+    let k = c .before .before in
+    let g = k .before .before .before .before .args in
+    let s = sessionOf (g .layout) (g .segments) (g .words .now) in
+    let z = sym (c .before .is-served .ensures) ∙ not-false _ (c .if1 .left) in
+    let ok = advancing s (g .image .now) _ (k .before .before .before .before .pre) (k .checkpoint-status .ensures) z in
+    ((ok .mains, ok .enough), ok .within)
+
+trace-status-requires : tie.Need-trace-status-requires
+trace-status-requires c κs = omega (arith, c .checkpoint-length .ensures .1)
+
+is-served-requires-2 : tie.Need-is-served-requires-2
+is-served-requires-2 c κs = search needs
+
+returns-2 : tie.Need-returns-2
+unfolding checkpointOutcome checkpointStatus
+returns-2 c =
+    let t = c .before .before in
+    let n = t .before in
+    let i = n .before in
+    let k = i .before .before in
+    let g = k .before .before .before .before .args in
+    let s = sessionOf (g .layout) (g .segments) (g .words .now) in
+    let O = checkpointOps s (g .image .now) in
+    let z = sym (i .before .is-served .ensures) ∙ not-false _ (i .if1 .left) in
+    let r = sym (c .before .is-served2 .ensures) ∙ not-true _ (c .if2 .taken) in
+    let e = t .trace-status .ensures O (g .trace .now) (sym (n .checkpoint-length .ensures .0 (g .segments) (g .image .now))) refl in
+    gives-refused _ s _ _ _ _ {k = t .trace-status .result} (refl, ap (λ (b : Bool). cond b (withCheckpoint s) s) r, refl)
+    (e ∙ sym (stage-passed _ _ (traceErrors O (g .trace .now)) (omega arith) (k .checkpoint-status .ensures) z)) r refl
+
+put-checkpoint-requires : tie.Need-put-checkpoint-requires
+put-checkpoint-requires c κs =
+    let j = c .before in
+    let t = j .before .before in
+    let n = t .before in
+    let i = n .before in
+    let k = i .before .before in
+    let g = k .before .before .before .before .args in
+    let s = sessionOf (g .layout) (g .segments) (g .words .now) in
+    let O = checkpointOps s (g .image .now) in
+    let z = sym (i .before .is-served .ensures) ∙ not-false _ (i .if1 .left) in
+    let e = t .trace-status .ensures O (g .trace .now) (sym (n .checkpoint-length .ensures .0 (g .segments) (g .image .now))) refl in
+    let p = sym (eqb-true _ 0 (sym (j .before .is-served2 .ensures) ∙ not-false _ (j .if2 .left))) ∙ e in
+    (advancing s (g .image .now) _ (k .before .before .before .before .pre) (k .checkpoint-status .ensures) z, fits-whole O (g .trace .now) p)
+
+same-length : tie.Need-same-length
+same-length c = search needs
+
+returns-3 : tie.Need-returns-3
+unfolding checkpointOutcome checkpointStatus
+returns-3 c =
+    let j = c .before .before .before .before in
+    let t = j .before .before in
+    let n = t .before in
+    let i = n .before in
+    let k = i .before .before in
+    let g = k .before .before .before .before .args in
+    let s = sessionOf (g .layout) (g .segments) (g .words .now) in
+    let O = checkpointOps s (g .image .now) in
+    let m = n .checkpoint-length .ensures .0 (g .segments) (g .image .now) in
+    let z = sym (i .before .is-served .ensures) ∙ not-false _ (i .if1 .left) in
+    let p = sym (eqb-true _ 0 (sym (j .before .is-served2 .ensures) ∙ not-false _ (j .if2 .left))) ∙ t .trace-status .ensures O (g .trace .now) (sym m) refl in
+    gives-served _ s _ _ _ _ (refl, refl, refl) (stage-passed _ _ (traceErrors O (g .trace .now)) (omega arith) (k .checkpoint-status .ensures) z ∙ sym p) refl m
+    (fits-whole O (g .trace .now) p) (c .before .before .put-checkpoint .ensures)
+
+pub checkpoint-parts-spec : {M : Type 1} → statement M
+checkpoint-parts-spec =
+    tie.close
+    (tie.spec
+    checkpoint-status-requires
+    is-served-requires
+    returns
+    checkpoint-length-requires
+    trace-status-requires
+    is-served-requires-2
+    returns-2
+    put-checkpoint-requires
+    same-length
+    returns-3)
