@@ -47,6 +47,7 @@ const FIXED_OPS: u64 = STATES_OPS + EPOCH_OPS + FENCES;
 // Writes back every dirty block of every main segment, upward.
 fn put_flushes(layout: Layout, words: &[u64], trace: &mut [u64], n: usize) -> usize
     requires { ⌜ (layout .mains ≤ most) × (layout .blocks ≤ most) × (most ≤ length (now words)) ⌝ }
+    requires { ⌜ ((i : ℕ) → i < layout .mains → getD (now words) i 0 < 2 ^ layout .blocks) ⌝ }
     requires { ⌜ Fits (now trace) n (flushDirty layout (now words)) ⌝ }
     ensures { λ r. ⌜ Emitted (now (trace .entry)) n (flushDirty layout (now (words .entry))) (now (trace .exit)) r ⌝ }
 {

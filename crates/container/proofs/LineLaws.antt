@@ -100,6 +100,19 @@ rest-more f v n w k seen h l b e s =
     last : (t : ℕ) → eqb (f (8 * k + 0 + t)) v ≡ restAt f n v (8 * k + t)
     last t = let q : 8 * k + 0 + t ≡ 8 * k + t = omega arith in rw (q, le-ltb (8 * k + t) n (omega arith))
 
+-- a line by its halves: the bytes of the rest are in both, or in the second alone
+module _ (f g : ℕ → ℕ) (v n : ℕ) (moved : (i : ℕ) → g i ≡ f (32 + i)) where
+  pub rest-halves : n < 32 → (allB 32 (restAt f n v) && allB 32 (restAt g 0 v)) ≡ allB 64 (restAt f n v)
+  rest-halves h = ap (λ (b : Bool). allB 32 (restAt f n v) && b) (all-ext 32 _ _ (λ i l. rw (moved i, le-ltb i 0 (omega arith), le-ltb (32 + i) n (omega arith)))) ∙ all-append 32 32 (restAt f n v)
+
+  pub rest-second : 32 ≤ n → allB 32 (restAt g (n - 32) v) ≡ allB 64 (restAt f n v)
+  rest-second h =
+      ap₂ _&&_ (sym (all-from 32 (restAt f n v) (λ i l. or-left _ (lt-ltb i n (omega arith))))) (all-ext 32 _ _ (λ i l. ap₂ _||_ (later i) (ap (λ (b : ℕ). eqb b v) (moved i))))
+      ∙ all-append 32 32 (restAt f n v)
+    where
+      later : (i : ℕ) → ltb i (n - 32) ≡ ltb (32 + i) n
+      later i = same-test _ _ (λ e. lt-ltb (32 + i) n (omega (arith, ltb-true i (n - 32) e))) (λ e. lt-ltb i (n - 32) (omega (arith, ltb-true (32 + i) n e)))
+
 -- ---- states that fit
 
 -- `byte & 0xfe == 0`

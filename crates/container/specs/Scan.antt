@@ -11,6 +11,10 @@ use Rattle.model.specs.Container.{isPaired, validMetadata}
 use Rattle.container.specs.declared.Paired.{Paired}
 use Rattle.container.specs.declared.Examined.{Examined}
 
+-- bytes of half a line
+abbrev pub halfLine : ℕ
+halfLine = 32
+
 -- one pair more: unless it is `unpaired` it is counted, and a main segment below 64 that it names joins the set
 unfoldable pub layPair : Paired → ℕ → Paired
 layPair p pair = cond (eqb pair unpaired) p (record { set = cond (ltb pair most) (setBit (p .set) pair) (p .set); count = p .count + 1 })

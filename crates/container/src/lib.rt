@@ -13,7 +13,7 @@ ghost use Rattle.model.specs.Status.{codeOf, firstError};
 ghost use Rattle.model.specs.Layout.{wordSize, lineSize, lineWords, most, pairsEnd};
 ghost use Rattle.model.specs.Session.{bit};
 ghost use Rattle.model.specs.Container.{segState, backupToMain, containerErrors};
-ghost use Rattle.container.specs.Scan.{layPair, layBytes, lowBytes, layPairs, stateFits, ExaminedBy};
+ghost use Rattle.container.specs.Scan.{halfLine, layPair, layBytes, lowBytes, layPairs, stateFits, ExaminedBy};
 
 // Sizes as indexes count them, and the bits of a byte.
 const WORD_SIZE: usize = Layout::WORD_SIZE as usize;
@@ -21,6 +21,11 @@ const WORD_SIZE: usize = Layout::WORD_SIZE as usize;
 const LINE_WORDS: usize = Layout::LINE_WORDS as usize;
 
 const BYTE_BITS: usize = 8;
+
+// Half a line, and its words.
+const HALF_LINE: usize = 32;
+
+const HALF_WORDS: usize = 4;
 
 // The values of a byte.
 const BYTE: u64 = 256;
@@ -143,24 +148,36 @@ fn scan_pairs(image: &[u8], count: usize) -> Paired
 
 // ---- bytes of a line
 
-// Whether the bytes of a line from its byte n on all have this value.
-fn rest_is(image: &[u8], line: usize, n: usize, value: u8) -> bool
-    requires { ⌜ (n ≤ most) × (line + lineSize ≤ length (now image)) ⌝ }
-    ensures { λ r. ⌜ r ≡ allB most (λ i. ltb i n || eqb (byteAt (now (image .entry)) (line + i)) value) ⌝ }
+// Whether the bytes of half a line from its byte n on all have this value.
+fn half_is(image: &[u8], at: usize, n: usize, value: u8) -> bool
+    requires { ⌜ (n ≤ halfLine) × (at + halfLine ≤ length (now image)) ⌝ }
+    ensures { λ r. ⌜ r ≡ allB halfLine (λ i. ltb i n || eqb (byteAt (now (image .entry)) (at + i)) value) ⌝ }
 {
-    if n == Layout::MOST_LEN {
+    if n == HALF_LINE {
         return true;
     }
     let pattern = words::each(value);
     let first = n / WORD_SIZE;
-    let word = words::word_at(image, line + WORD_SIZE * first);
+    let word = words::word_at(image, at + WORD_SIZE * first);
     let mut seen = (word ^ pattern) >> (BYTE_BITS * (n % WORD_SIZE));
     let mut k = first + 1;
-    while k < LINE_WORDS {
-        seen = seen | (words::word_at(image, line + WORD_SIZE * k) ^ pattern);
+    while k < HALF_WORDS {
+        seen = seen | (words::word_at(image, at + WORD_SIZE * k) ^ pattern);
         k += 1;
     }
     seen == 0
+}
+
+// Whether the bytes of a line from its byte n on all have this value. On most boards the second half is tested whole, without a count.
+fn rest_is(image: &[u8], line: usize, n: usize, value: u8) -> bool
+    requires { ⌜ (n ≤ most) × (line + lineSize ≤ length (now image)) ⌝ }
+    ensures { λ r. ⌜ r ≡ allB most (λ i. ltb i n || eqb (byteAt (now (image .entry)) (line + i)) value) ⌝ }
+{
+    let half = line + HALF_LINE;
+    if n < HALF_LINE {
+        return half_is(image, line, n, value) & half_is(image, half, 0, value);
+    }
+    half_is(image, half, n - HALF_LINE, value)
 }
 
 // Whether the states in the first `count` words of a line fit a set of paired main segments: 1 or 2 for a paired one, else 0 or 1. So

@@ -123,7 +123,7 @@ fn put_state(image: &[u8], main: u64, trace: &mut [u64], n: usize) -> usize
 // Makes the bytes of a main segment stand in the plan's backup segment: its dirty blocks in its own, all in the new one, which
 // is given to it first.
 fn put_backup(image: &[u8], segment: Segment, plan: Plan, trace: &mut [u64], n: usize) -> usize
-    requires { ⌜ Writable (segment .layout) (now image) (segment .main) ⌝ }
+    requires { ⌜ Writable (segment .layout) (now image) (segment .main) × (segment .word < 2 ^ segment .layout .blocks) ⌝ }
     requires { ⌜ CopiesTo (segment .layout) plan ⌝ }
     requires { ⌜ Fits (now trace) n (backupOps (segment .layout) (now image) (segment .word) (segment .main) plan) ⌝ }
     ensures { λ r. ⌜ Emitted (now (trace .entry)) n (backupOps (segment .layout) (now (image .entry)) (segment .word) (segment .main) plan) (now (trace .exit)) r ⌝ }
@@ -153,7 +153,7 @@ pub fn put_copy_on_write(
     trace: &mut [u64],
     n: usize,
 ) -> usize
-    requires { ⌜ Writable (segment .layout) (now image) (segment .main) ⌝ }
+    requires { ⌜ Writable (segment .layout) (now image) (segment .main) × (segment .word < 2 ^ segment .layout .blocks) ⌝ }
     requires { ⌜ CopiesTo (segment .layout) plan ⌝ }
     requires { ⌜ Fits (now trace) n (copyOnWriteOps (segment .layout) (now image) (segment .word) (segment .main) plan) ⌝ }
     ensures { λ r. ⌜ Emitted (now (trace .entry)) n (copyOnWriteOps (segment .layout) (now (image .entry)) (segment .word) (segment .main) plan) (now (trace .exit)) r ⌝ }

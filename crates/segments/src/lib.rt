@@ -60,7 +60,7 @@ pub fn put_segment_zero(layout: Layout, to: usize, trace: &mut [u64], n: usize) 
 // ---- dirty blocks
 
 // Copies the dirty blocks of the segment at one place to that at another, upward; bit b of the word says that block b is
-// dirty.
+// dirty, and `rest` has those that are left.
 pub fn put_dirty_copies(
     image: &[u8],
     blocks: u64,
@@ -70,53 +70,43 @@ pub fn put_dirty_copies(
     trace: &mut [u64],
     n: usize,
 ) -> usize
-    requires { ⌜ blocks ≤ most ⌝ }
+    requires { ⌜ (blocks ≤ most) × (word < 2 ^ blocks) ⌝ }
     requires { ⌜ from + blockSize * blocks ≤ length (now image) ⌝ }
     requires { ⌜ to + blockSize * blocks < 2 ^ 64 ⌝ }
     requires { ⌜ Fits (now trace) n (eachDirty word blocks (λ b. persistCopy (now image) (from + blockSize * b) (to + blockSize * b))) ⌝ }
     ensures { λ r. ⌜ Emitted (now (trace .entry)) n (eachDirty word blocks (λ b. persistCopy (now (image .entry)) (from + blockSize * b) (to + blockSize * b))) (now (trace .exit)) r ⌝ }
 {
-    if word == 0 {
-        return n;
-    }
-    let count = blocks as usize;
     let mut next = n;
-    let mut b: usize = 0;
-    while b < count {
-        if (word >> b) & 1 == 1 {
-            let source = from + BLOCK_SIZE * b;
-            let target = to + BLOCK_SIZE * b;
-            next = blocks::put_copy(
-                &image[source..source + BLOCK_SIZE],
-                target as u64,
-                trace,
-                next,
-            );
-        }
-        b += 1;
+    let mut rest = word;
+    while rest != 0 {
+        let b = u64::trailing_zeros(rest) as usize;
+        let source = from + BLOCK_SIZE * b;
+        let target = to + BLOCK_SIZE * b;
+        next = blocks::put_copy(
+            &image[source..source + BLOCK_SIZE],
+            target as u64,
+            trace,
+            next,
+        );
+        rest = rest & (rest - 1);
     }
     next
 }
 
-// Writes back the dirty blocks of the segment at a place, upward; bit b of the word `dirty` says that block b is.
+// Writes back the dirty blocks of the segment at a place, upward; bit b of the word `dirty` says that block b is, and `rest` has
+// those that are left.
 pub fn put_dirty_clwbs(blocks: u64, dirty: u64, at: usize, trace: &mut [u64], n: usize) -> usize
-    requires { ⌜ blocks ≤ most ⌝ }
+    requires { ⌜ (blocks ≤ most) × (dirty < 2 ^ blocks) ⌝ }
     requires { ⌜ at + blockSize * blocks < 2 ^ 64 ⌝ }
     requires { ⌜ Fits (now trace) n (eachDirty dirty blocks (λ b. clwbs blockLines (at + blockSize * b))) ⌝ }
     ensures { λ r. ⌜ Emitted (now (trace .entry)) n (eachDirty dirty blocks (λ b. clwbs blockLines (at + blockSize * b))) (now (trace .exit)) r ⌝ }
 {
-    if dirty == 0 {
-        return n;
-    }
-    let count = blocks as usize;
     let mut next = n;
-    let mut k: usize = 0;
-    while k < count {
-        if (dirty >> k) & 1 == 1 {
-            let place = at + BLOCK_SIZE * k;
-            next = blocks::put_clwbs(place as u64, trace, next);
-        }
-        k += 1;
+    let mut rest = dirty;
+    while rest != 0 {
+        let place = at + BLOCK_SIZE * (u64::trailing_zeros(rest) as usize);
+        next = blocks::put_clwbs(place as u64, trace, next);
+        rest = rest & (rest - 1);
     }
     next
 }

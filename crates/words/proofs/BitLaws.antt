@@ -51,9 +51,10 @@ bit-half m f = ap (λ (x : ℕ). x % 2) (shr-shr m 1 f) ∙ ap (λ (k : ℕ). m 
 abbrev pub withoutLowest : ℕ → ℕ
 withoutLowest m = bitAnd m (m - 1)
 
--- bit z of m is set, and `rest` has the other bits of m
+-- bit z of m is set and none below it, and `rest` has the other bits of m
 pub record Lowest (m rest z : ℕ) : Type 0 where
   pub there : bit m z ≡ 1
+  pub below : (f : ℕ) → f < z → bit m f ≡ 0
   pub gone : bit rest z ≡ 0
   pub others : (f : ℕ) → f ≢ z → bit rest f ≡ bit m f
 
@@ -78,10 +79,15 @@ lowest-bit (suc n) m h k = go (m % 2) refl (λ p. lowest-bit n (m / 2) p (omega 
         let half : withoutLowest m / 2 ≡ withoutLowest (m / 2) = omega (arith, step, ap (bitAnd (m / 2)) q) in
         record {
           there = sym (bit-half m _) ∙ l .there;
+          below = below (l .below);
           gone = sym (bit-half (withoutLowest m) _) ∙ ap (λ (w : ℕ). bit w (trailingZeros n (m / 2))) half ∙ l .gone;
           others = λ f. others half (l .others) f;
         }
       where
+        below : ((f : ℕ) → f < trailingZeros n (m / 2) → bit (m / 2) f ≡ 0) → (f : ℕ) → f < suc (trailingZeros n (m / 2)) → bit m f ≡ 0
+        below b zero h = omega (arith, bit-low m)
+        below b (suc f) h = sym (bit-half m f) ∙ b f (omega arith)
+
         others : withoutLowest m / 2 ≡ withoutLowest (m / 2) → ((f : ℕ) → f ≢ trailingZeros n (m / 2) → bit (withoutLowest (m / 2)) f ≡ bit (m / 2) f)
             → (f : ℕ) → f ≢ suc (trailingZeros n (m / 2)) → bit (withoutLowest m) f ≡ bit m f
         others half o zero ne = omega (arith, step, bit-low m, bit-low (withoutLowest m))
@@ -89,7 +95,7 @@ lowest-bit (suc n) m h k = go (m % 2) refl (λ p. lowest-bit n (m / 2) p (omega 
     go (suc d) e ih =
         let q : (m - 1) / 2 ≡ m / 2 = omega arith in
         let half : withoutLowest m / 2 ≡ m / 2 = omega (arith, step, ap (bitAnd (m / 2)) q, and-self (m / 2)) in
-        record { there = omega (arith, bit-low m); gone = omega (arith, step, bit-low (withoutLowest m)); others = λ f. others half f }
+        record { there = omega (arith, bit-low m); below = λ f h. absurd (omega arith); gone = omega (arith, step, bit-low (withoutLowest m)); others = λ f. others half f }
       where
         others : withoutLowest m / 2 ≡ m / 2 → (f : ℕ) → f ≢ 0 → bit (withoutLowest m) f ≡ bit m f
         others half zero ne = absurd (ne refl)

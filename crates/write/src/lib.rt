@@ -67,7 +67,7 @@ fn put_write(
     bytes: &[u8],
     trace: &mut [u64],
 ) -> usize
-    requires { ⌜ Writable (segment .layout) (now image) (segment .main) ⌝ }
+    requires { ⌜ Writable (segment .layout) (now image) (segment .main) × (segment .word < 2 ^ segment .layout .blocks) ⌝ }
     requires { ⌜ CopiesTo (segment .layout) plan ⌝ }
     requires { ⌜ (1 ≤ length (now bytes)) × (at + length (now bytes) ≤ length (now image)) ⌝ }
     requires { ⌜ Fits (now trace) 0 (copyOnWriteOps (segment .layout) (now image) (segment .word) (segment .main) plan ++ spanStores (now image) at (now bytes)) ⌝ }

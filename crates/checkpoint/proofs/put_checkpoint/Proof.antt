@@ -6,7 +6,7 @@ use Rattle.checkpoint.proofs.put_checkpoint.Tie as tie
 
 put-flushes-requires : tie.Need-put-flushes-requires
 unfolding checkpointOps
-put-flushes-requires c κs = let a = c .before .before .before .before in ((a .pre .0 .mains, a .pre .0 .blocks, a .pre .0 .enough), fits-first _ (fits-first _ (fits-first _ (a .pre .1))))
+put-flushes-requires c κs = let a = c .before .before .before .before in ((a .pre .0 .mains, a .pre .0 .blocks, a .pre .0 .enough), (a .pre .0 .within, fits-first _ (fits-first _ (fits-first _ (a .pre .1)))))
 
 put-sfence-requires : tie.Need-put-sfence-requires
 unfolding checkpointOps

@@ -43,7 +43,13 @@ put-dirty-clwbs-requires c κs =
     let m = c .before .before in
     let l = m .before .before .loop in
     let a = m .before .before .before .before .before in
-    (search needs, (search needs, rw (m .main-at .ensures .0) (fits-each (l .i) (a .args .layout .mains) (flushed (a .args .layout) (a .args .words .now)) (omega arith) (a .pre .1) (l .inv .2))))
+    let g = a .args in (
+      (search needs, a .pre .1 .0 (l .i) (omega arith)),
+      (
+        search needs,
+        rw (m .main-at .ensures .0) (fits-each (l .i) (g .layout .mains) (flushed (g .layout) (g .words .now)) (omega arith) (a .pre .1 .1) (l .inv .2)),
+      ),
+    )
 
 add-i : tie.Need-add-i Inv-loop μ-loop
 add-i c = search needs

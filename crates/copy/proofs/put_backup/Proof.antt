@@ -33,7 +33,7 @@ put-dirty-copies-requires c κs =
     let from = c .before .before .before .before .before .main-at .ensures in
     let to = c .before .backup-at .ensures in
     let ops = own-ops (a .segment .layout) (a .image .now) (a .segment .word) (a .segment .main) _ _ (g .0 .0) (a .plan) (from .0) (to .0) (g .1) in
-    (omega arith, (omega arith, (omega arith, fits-as (sym ops) (b .pre .1 .1))))
+    ((omega arith, b .pre .0 .1), (omega arith, (omega arith, fits-as (sym ops) (b .pre .1 .1))))
 
 enum-known-plan-2 : tie.Need-enum-known-plan-2
 enum-known-plan-2 c = search needs

@@ -27,7 +27,7 @@ put-state-requires c κs =
     let b = c .before .before .before .before .before .before .before .before .before in
     let a = b .args in
     let ops = copy-ops (a .segment .layout) (a .image .now) (a .segment .word) (a .segment .main) (a .plan) (sym (c .before .before .before .before .before .before .has-copy .ensures) ∙ not-false _ (c .before .before .before .before .before .if1 .left)) in
-    (omega (arith, b .pre .0), fits-then (fits-as (sym ops) (b .pre .1 .1)) (c .before .before .before .put-backup .ensures))
+    (omega (arith, b .pre .0 .0), fits-then (fits-as (sym ops) (b .pre .1 .1)) (c .before .before .before .put-backup .ensures))
 
 same-length : tie.Need-same-length
 same-length c = search needs

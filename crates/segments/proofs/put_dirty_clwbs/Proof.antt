@@ -1,70 +1,60 @@
-use Rattle.segments.proofs.DirtyLaws.{bit-tested, emitted-clean, dirty-fits, dirty-set, dirty-clear}
-use Rattle.trace.proofs.EmitLaws.{emitted-none}
-use Rattle.trace.specs.Emit.{Emitted}
-use Rattle.model.specs.Ops.{clwbs, eachDirty}
-use Rattle.model.specs.Layout.{blockSize, blockLines}
-use lib.ListN.{length}
+use Prim.Native.Nat.{ℕ, _+_, _-_, _*_}
+use mathlib.Core.Path.{_≡_}
 use native.Mathlib.Omega.{arith}
-use mathlib.Core.Logic.{⊎-elim}
-use mathlib.Core.Path.{_≡_, sym, ap, _∙_}
-use Prim.Native.Nat.{_+_, _-_, _*_, _≤_}
+use lib.Bits.{and-le-r}
+use lib.Count.{trailingZeros, trailing-le}
+use lib.ListN.{length}
 use borrow.Author.Needs.{needs}
+use Rattle.model.specs.Layout.{blockSize, blockLines}
+use Rattle.model.specs.Ops.{clwbs, eachDirty}
+use Rattle.trace.specs.Emit.{Emitted}
+use Rattle.trace.proofs.EmitLaws.{emitted-none}
+use Rattle.segments.proofs.DirtyLaws.{Walk, walk-start, walk-ends, walk-below, walk-turns, walk-fits, walk-emits}
 use Rattle.segments.proofs.put_dirty_clwbs.Statement.{statement}
 use Rattle.segments.proofs.put_dirty_clwbs.Tie as tie
 
 abbrev Inv-loop : tie.InvT-loop
-Inv-loop blocks word at trace₀ n count next₀ k₀ trace next k =
-    (k ≤ count)
-    × (length trace ≡ length trace₀)
-    × Emitted trace₀ n (eachDirty word k (λ i. clwbs blockLines (at + blockSize * i))) trace next
+Inv-loop blocks dirty at trace₀ n next₀ rest₀ trace next rest =
+    (length trace ≡ length trace₀)
+    × ((k : ℕ) × (Walk dirty blocks rest k × Emitted trace₀ n (eachDirty dirty k (λ b. clwbs blockLines (at + blockSize * b))) trace next))
 
 abbrev μ-loop : tie.MeasureT-loop
-μ-loop blocks word at trace₀ n count next₀ k₀ trace next k = count - k
-
-returns : tie.Need-returns Inv-loop μ-loop
-returns c = emitted-clean _ _ _ (c .if1 .taken)
+μ-loop blocks dirty at trace₀ n next₀ rest₀ trace next rest = rest
 
 loop-holds : tie.Need-loop-holds Inv-loop μ-loop
-loop-holds c = (search needs, search needs, emitted-none _)
+loop-holds c = (search needs, (0, (walk-start (search needs) (search needs), emitted-none _)))
 
-shr-if2 : tie.Need-shr-if2 Inv-loop μ-loop
-shr-if2 c = search needs
+cast-place : tie.Need-cast-place Inv-loop μ-loop
+cast-place c = omega (arith, trailing-le 64 (c .before .loop .rest))
 
 mul-place : tie.Need-mul-place Inv-loop μ-loop
-mul-place c = search needs
+mul-place c = omega (arith, trailing-le 64 (c .before .loop .rest))
 
 add-place : tie.Need-add-place Inv-loop μ-loop
-add-place c = search needs
+add-place c = omega (arith, walk-below (c .before .loop .inv .1 .1 .0) (omega arith))
 
 put-clwbs-requires : tie.Need-put-clwbs-requires Inv-loop μ-loop
 put-clwbs-requires c κs =
-    let l = c .before .before .before .loop in
-    let a = c .before .before .before .before .before .before in
-    (search needs, dirty-fits (a .args .dirty) (l .k) _ (l .inv .2) (a .args .blocks) (omega arith) (sym (bit-tested (a .args .dirty) (l .k)) ∙ c .before .if2 .taken) (a .pre .1 .1))
+    let w = c .before .before .loop .inv .1 .1 in
+    (omega (arith, walk-below (w .0) (omega arith)), walk-fits (w .0) (omega arith) _ (w .1) (c .before .before .before .before .pre .1 .1))
 
-add-k : tie.Need-add-k Inv-loop μ-loop
-add-k c = search needs
+sub-rest : tie.Need-sub-rest Inv-loop μ-loop
+sub-rest c = search needs
 
 loop-less : tie.Need-loop-less Inv-loop μ-loop
-loop-less c = search needs
+loop-less c = let m = c .before .before .before .before .before .loop .rest in omega (arith, and-le-r m (m - 1))
 
 loop-again : tie.Need-loop-again Inv-loop μ-loop
 loop-again c =
-    let l = c .before .before .loop in
-    let word = c .before .before .before .before .before .args .dirty in
-    let t = bit-tested word (l .k) in
-    ⊎-elim
-    (λ w. (omega arith, omega (arith, ap length (w .5)), rw (w .5, w .6) (dirty-set word (l .k) _ (l .inv .2) (sym t ∙ w .0 .taken) (w .2 .ensures))))
-    (λ w. (omega arith, omega (arith, ap length (w .1)), dirty-clear word (l .k) _ (l .inv .2) (λ e. w .0 .left (t ∙ e)) (w .1) (w .2)))
-    (c .if2 .came)
+    let l = c .before .before .before .before .before .loop in
+    let w = l .inv .1 .1 in
+    (search needs, (trailingZeros 64 (l .rest) + 1, (walk-turns (w .0) (omega arith), walk-emits (w .0) (omega arith) _ (w .1) (c .before .before .put-clwbs .ensures))))
 
 same-length : tie.Need-same-length Inv-loop μ-loop
 same-length c = search needs
 
-returns-2 : tie.Need-returns-2 Inv-loop μ-loop
-returns-2 c =
-    let e : c .before .loop .k ≡ c .before .before .before .before .args .blocks = omega arith in
-    rw e at (c .before .loop .inv .2)
+returns : tie.Need-returns Inv-loop μ-loop
+returns c = let w = c .before .loop .inv .1 .1 in walk-ends _ (w .0) (omega arith) (w .1)
 
 pub put-dirty-clwbs-spec : {M : Type 1} → statement M
 put-dirty-clwbs-spec =
@@ -72,14 +62,13 @@ put-dirty-clwbs-spec =
     (tie.spec
     Inv-loop
     μ-loop
-    returns
     loop-holds
-    shr-if2
+    cast-place
     mul-place
     add-place
     put-clwbs-requires
-    add-k
+    sub-rest
     loop-less
     loop-again
     same-length
-    returns-2)
+    returns)

@@ -1,103 +1,93 @@
-use Rattle.segments.proofs.DirtyLaws.{bit-tested, emitted-clean, dirty-fits, dirty-set, dirty-clear}
-use Rattle.blocks.proofs.PartLaws.{length-part, copy-part}
-use Rattle.trace.proofs.EmitLaws.{fits-as, emitted-as, emitted-none}
-use Rattle.trace.specs.Emit.{Emitted}
-use Rattle.model.specs.Ops.{persistCopy, eachDirty}
-use Rattle.model.specs.Layout.{blockSize}
-use mathlib.Core.Logic.{⊎-elim}
-use lib.ListN.{length}
+use Prim.Native.Nat.{ℕ, _+_, _-_, _*_}
+use mathlib.Core.Path.{_≡_, sym}
 use native.Mathlib.Omega.{arith}
-use mathlib.Core.Path.{_≡_, sym, ap, _∙_}
-use Prim.Native.Nat.{_+_, _-_, _*_, _≤_}
+use lib.Bits.{and-le-r}
+use lib.Count.{trailingZeros, trailing-le}
+use lib.ListN.{length}
 use borrow.Author.Needs.{needs}
+use Rattle.model.specs.Layout.{blockSize}
+use Rattle.model.specs.Ops.{persistCopy, eachDirty}
+use Rattle.trace.specs.Emit.{Emitted}
+use Rattle.trace.proofs.EmitLaws.{fits-as, emitted-as, emitted-none}
+use Rattle.blocks.proofs.PartLaws.{length-part, copy-part}
+use Rattle.segments.proofs.DirtyLaws.{Walk, walk-start, walk-ends, walk-below, walk-turns, walk-fits, walk-emits}
 use Rattle.segments.proofs.put_dirty_copies.Statement.{statement}
 use Rattle.segments.proofs.put_dirty_copies.Tie as tie
 
 abbrev Inv-loop : tie.InvT-loop
-Inv-loop image blocks word from to trace₀ n count next₀ b₀ trace next b =
-    (b ≤ count)
-    × (length trace ≡ length trace₀)
-    × Emitted trace₀ n (eachDirty word b (λ i. persistCopy image (from + blockSize * i) (to + blockSize * i))) trace next
+Inv-loop image blocks word from to trace₀ n next₀ rest₀ trace next rest =
+    (length trace ≡ length trace₀)
+    × ((k : ℕ) × (Walk word blocks rest k × Emitted trace₀ n (eachDirty word k (λ b. persistCopy image (from + blockSize * b) (to + blockSize * b))) trace next))
 
 abbrev μ-loop : tie.MeasureT-loop
-μ-loop image blocks word from to trace₀ n count next₀ b₀ trace next b = count - b
-
-returns : tie.Need-returns Inv-loop μ-loop
-returns c = emitted-clean _ _ _ (c .if1 .taken)
+μ-loop image blocks word from to trace₀ n next₀ rest₀ trace next rest = rest
 
 loop-holds : tie.Need-loop-holds Inv-loop μ-loop
-loop-holds c = (search needs, search needs, emitted-none _)
+loop-holds c = (search needs, (0, (walk-start (search needs) (search needs), emitted-none _)))
 
-shr-if2 : tie.Need-shr-if2 Inv-loop μ-loop
-shr-if2 c = search needs
+cast-b : tie.Need-cast-b Inv-loop μ-loop
+cast-b c = omega (arith, trailing-le 64 (c .before .loop .rest))
 
 mul-source : tie.Need-mul-source Inv-loop μ-loop
-mul-source c = search needs
+mul-source c = omega (arith, trailing-le 64 (c .before .loop .rest))
 
 add-source : tie.Need-add-source Inv-loop μ-loop
-add-source c = search needs
+add-source c = omega (arith, walk-below (c .before .loop .inv .1 .1 .0) (omega arith))
 
 mul-target : tie.Need-mul-target Inv-loop μ-loop
-mul-target c = search needs
+mul-target c = omega (arith, trailing-le 64 (c .before .loop .rest))
 
 add-target : tie.Need-add-target Inv-loop μ-loop
-add-target c = search needs
+add-target c = omega (arith, walk-below (c .before .loop .inv .1 .1 .0) (omega arith))
 
 add-put-copy : tie.Need-add-put-copy Inv-loop μ-loop
-add-put-copy c = search needs
+add-put-copy c = omega (arith, walk-below (c .before .loop .inv .1 .1 .0) (omega arith))
 
 sub-put-copy : tie.Need-sub-put-copy Inv-loop μ-loop
 sub-put-copy c = search needs
 
 part-put-copy-start : tie.Need-part-put-copy-start Inv-loop μ-loop
-part-put-copy-start c = search needs
+part-put-copy-start c = omega (arith, walk-below (c .before .loop .inv .1 .1 .0) (omega arith))
 
 part-put-copy-end : tie.Need-part-put-copy-end Inv-loop μ-loop
-part-put-copy-end c = search needs
+part-put-copy-end c = omega (arith, walk-below (c .before .loop .inv .1 .1 .0) (omega arith))
 
 put-copy-requires : tie.Need-put-copy-requires Inv-loop μ-loop
 put-copy-requires c κs =
-    let l = c .before .before .before .before .loop in
-    let a = c .before .before .before .before .before .before .before .before in
+    let l = c .before .before .before .loop in
+    let a = c .before .before .before .before .before .before in
     let g = a .args in
-    let e = length-part (g .image .now) (g .from + blockSize * l .b) (omega arith) in
-    let d = sym (bit-tested (g .word) (l .b)) ∙ c .before .before .if2 .taken in (
-      omega arith,
+    let w = l .inv .1 .1 in
+    let b = trailingZeros 64 (l .rest) in
+    let below = walk-below (w .0) (omega arith) in
+    let e = length-part (g .image .now) (g .from + blockSize * b) (omega (arith, below)) in (
+      omega (arith, e),
       (
-        omega arith,
-        fits-as (sym (copy-part (g .image .now) (g .from + blockSize * l .b) (g .to + blockSize * l .b)))
-            (dirty-fits (g .word) (l .b) _ (l .inv .2) (g .blocks) (omega arith) d (a .pre .1 .1 .1)),
+        omega (arith, below),
+        fits-as (sym (copy-part (g .image .now) (g .from + blockSize * b) (g .to + blockSize * b))) (walk-fits (w .0) (omega arith) _ (w .1) (a .pre .1 .1 .1)),
       ),
     )
 
-add-b : tie.Need-add-b Inv-loop μ-loop
-add-b c = search needs
+sub-rest : tie.Need-sub-rest Inv-loop μ-loop
+sub-rest c = search needs
 
 loop-less : tie.Need-loop-less Inv-loop μ-loop
-loop-less c = search needs
+loop-less c = let m = c .before .before .before .before .before .before .loop .rest in omega (arith, and-le-r m (m - 1))
 
 loop-again : tie.Need-loop-again Inv-loop μ-loop
 loop-again c =
-    let l = c .before .before .loop in
-    let g = c .before .before .before .before .before .before .args in
-    let t = bit-tested (g .word) (l .b) in
-    ⊎-elim
-    (λ w. (
-      omega arith,
-      omega (arith, ap length (w .6)),
-      rw (w .6, w .7) (dirty-set (g .word) (l .b) _ (l .inv .2) (sym t ∙ w .0 .taken)
-          (emitted-as (w .3 .ensures) (copy-part (g .image .now) (g .from + blockSize * l .b) (g .to + blockSize * l .b)))),
-    ))
-    (λ w. (omega arith, omega (arith, ap length (w .1)), dirty-clear (g .word) (l .b) _ (l .inv .2) (λ e. w .0 .left (t ∙ e)) (w .1) (w .2)))
-    (c .if2 .came)
+    let l = c .before .before .before .before .before .before .loop in
+    let g = c .before .before .before .before .before .before .before .before .before .args in
+    let w = l .inv .1 .1 in
+    let b = trailingZeros 64 (l .rest) in
+    let copied = emitted-as (c .before .before .put-copy .ensures) (copy-part (g .image .now) (g .from + blockSize * b) (g .to + blockSize * b)) in
+    (search needs, (b + 1, (walk-turns (w .0) (omega arith), walk-emits (w .0) (omega arith) _ (w .1) copied)))
 
 same-length : tie.Need-same-length Inv-loop μ-loop
 same-length c = search needs
 
-returns-2 : tie.Need-returns-2 Inv-loop μ-loop
-returns-2 c =
-    let e : c .before .loop .b ≡ c .before .before .before .before .before .args .blocks = omega arith in
-    rw e at (c .before .loop .inv .2)
+returns : tie.Need-returns Inv-loop μ-loop
+returns c = let w = c .before .loop .inv .1 .1 in walk-ends _ (w .0) (omega arith) (w .1)
 
 pub put-dirty-copies-spec : {M : Type 1} → statement M
 put-dirty-copies-spec =
@@ -105,9 +95,8 @@ put-dirty-copies-spec =
     (tie.spec
     Inv-loop
     μ-loop
-    returns
     loop-holds
-    shr-if2
+    cast-b
     mul-source
     add-source
     mul-target
@@ -117,8 +106,8 @@ put-dirty-copies-spec =
     part-put-copy-start
     part-put-copy-end
     put-copy-requires
-    add-b
+    sub-rest
     loop-less
     loop-again
     same-length
-    returns-2)
+    returns)

@@ -9,7 +9,7 @@ put-copy-on-write-requires c κs = let b = c .before .before .before .before in 
 put-span-requires : tie.Need-put-span-requires
 put-span-requires c κs =
     let b = c .before .before .before .before .before .before .before .before in
-    (b .pre .1 .1 .0, ((b .pre .0 .lines, b .pre .0 .size), fits-then (b .pre .1 .1 .1) (c .before .before .before .put-copy-on-write .ensures)))
+    (b .pre .1 .1 .0, ((b .pre .0 .0 .lines, b .pre .0 .0 .size), fits-then (b .pre .1 .1 .1) (c .before .before .before .put-copy-on-write .ensures)))
 
 same-length : tie.Need-same-length
 same-length c = search needs

@@ -127,7 +127,7 @@ put-write-requires c κs =
     let count = length-ops s (a .image .now) w (a .trace .now) (plan .result) (place .result) ok «is» (place .ensures) _ _ (l .before .before .copy-count .ensures .0 (a .image .now)) (l .before .span-words .ensures) in
     let e = l .late-status .ensures (ops s (a .image .now) w (a .trace .now) (plan .result) (place .result) ok «is» (place .ensures)) (a .trace .now) count refl in
     let z = sym e ∙ eqb-true _ _ (sym (c .before .before .is-served2 .ensures) ∙ not-false _ (c .before .if2 .left)) in
-    (ok .segment, (plan .ensures .1, (omega (arith, ok, ok .segment, place .ensures), room s (a .image .now) w (a .trace .now) (plan .result) (place .result) ok «is» (place .ensures) z)))
+    ((ok .segment, ok .word), (plan .ensures .1, (omega (arith, ok, ok .segment, place .ensures), room s (a .image .now) w (a .trace .now) (plan .result) (place .result) ok «is» (place .ensures) z)))
 
 set-segment-requires : tie.Need-set-segment-requires
 set-segment-requires c κs =
