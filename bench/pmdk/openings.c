@@ -8,9 +8,10 @@
  * pages. So recovery is timed, but no power cut is tried.
  *
  * After the fork each page of ordinary memory that the opening writes to costs a
- * fault, as in a new process: for A that is its trace, 864 pages at 64,64,64. What
- * is opened again in the same process has its pages. The mapping of the file is
- * part of the opening for libpmemobj, and not for the others.
+ * fault, as in a new process: for A its trace (864 pages at 64,64,64), for
+ * libpmemobj what it allocates, for E its copy of the board. What is opened again
+ * in the same process has its pages. The mapping of the file is part of the
+ * opening for libpmemobj, and not for the others.
  */
 #include "lists.h"
 #include "ours.h"
@@ -34,7 +35,7 @@ static const struct state {
     {&side_a, "every level paired", 1, 1},
     {&side_a, "the same, opened again", 1, 0},
     {&side_b, "killed in a transaction", 1, 1},
-    {&side_b, "closed properly", 1, 0},
+    {&side_b, "closed, opened again", 1, 0},
     {&side_c, "every frame on the log", 1, 1},
     {&side_e, "nothing committed", 1, 1},
 };
