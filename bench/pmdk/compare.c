@@ -76,12 +76,16 @@ static void heading(size_t core)
     static const char *const flushes[] = {"", "clflush", "clflushopt", "clwb"};
     const time_t seconds = time(NULL);
     char date[32];
+    size_t i;
     strftime(date, sizeof date, "%Y-%m-%d %H:%M UTC", gmtime(&seconds));
     printf("machine: %s, core %zu, flushes by %s\n", machine(), core, flushes[crpm_best_flush()]);
     printf("date: %s\n", date);
     printf("versions: crpm %s, PMDK %s\n", CRPM_VERSION, PMDK_VERSION);
     printf("memory: mapped files, no persistent memory\n");
-    printf("sizes: 8,8,16 and 64,64,64 (levels, spares, frames of 256 bytes in each)\n\n");
+    printf("sizes:");
+    for (i = 0; i < SIZES; i++)
+        printf(" %s%s", i == 0 ? "" : "and ", sizes_text(both[i]));
+    printf(" (levels, spares, frames of %d bytes in each)\n\n", BLOCK);
 }
 
 int main(int argc, char **argv)
