@@ -1,4 +1,4 @@
--- Main segments that are not dirty (SPECIFICATION 11.2): a crash can leave only what stands in them, although some of their blocks may be
+-- Main segments that are not dirty (SPECIFICATION 11.7): a crash can leave only what stands in them, although some of their blocks may be
 -- marked as dirty from before the last checkpoint. A checkpoint flushes those blocks too; a shorter one, which does not, would allow no
 -- further crash image. The rule stays as it is: nothing here is a call. Proved in proofs/CleanSegments.antt. Assumes what specs/Crash.antt
 -- does of the hardware.
