@@ -1,13 +1,17 @@
 //! The calls in safe Rust as one would write them for speed, for the
 //! benchmarks: no list of orders, straight onto the tape, with the signatures
-//! of `raw` and the card by value behind them.
+//! of `raw`; the session is changed in place, and only by a call that is served.
 //!
-//! The calls are not inlined, as the library's are not. The test of the metadata
-//! has the library's shape (an array of paired levels, no exit from its loops),
-//! which is the quickest known. The places that write or read many orders exist
-//! in two forms, by index and by chunks; the benchmark takes the better one of
-//! each measurement. Both are checked against the reference (`selftest`) and
-//! against the library (`speed`, before it measures).
+//! The calls are not inlined, as the library's are not. Metadata are judged by
+//! words, as the library judges them: pairs become a set of bits, whose count
+//! shows whether a level is named twice, and words of unpaired spares behind the
+//! others cost one comparison each. Further than the library: the states become
+//! two sets as well, so that all of them are held against the pairs and against the
+//! touched levels at once, however many there are; and a save counts its marks only
+//! if the tape is too short for a save of all frames. The places that write or read
+//! many orders exist in two forms, by index and by chunks; the benchmark takes the
+//! better one of each measurement. Both are checked against the reference
+//! (`selftest`) and against the library (`speed`, before it measures).
 
 use crate::calls::*;
 use crate::raw::{card_of, session_of, Extent};
@@ -146,79 +150,168 @@ impl Form for Chunked {
     }
 }
 
-/// What sound metadata say: the epoch, where the active states and the pairs
-/// stand, and which levels have a spare.
+/// Words by their bytes: each is 1, each has its top bit. Others are multiples.
+const ONES: u64 = 0x0101_0101_0101_0101;
+const TOPS: u64 = 0x80 * ONES;
+
+/// The words of a line of metadata.
+fn words(line: &[u8; LINE]) -> impl Iterator<Item = u64> + '_ {
+    line.as_chunks::<8>().0.iter().map(|word| u64::from_le_bytes(*word))
+}
+
+/// The lowest of a line's bytes that is this one, eight looked at at once.
+fn position(line: &[u8; LINE], byte: u8) -> Option<usize> {
+    for (i, word) in words(line).enumerate() {
+        let other = word ^ byte as u64 * ONES;
+        let found = other.wrapping_sub(ONES) & !other & TOPS;
+        if found != 0 {
+            return Some(8 * i + found.trailing_zeros() as usize / 8);
+        }
+    }
+    None
+}
+
+/// The bits of a word as a square, its rows made its columns: bit 8i + k becomes
+/// bit 8k + i. A set of levels, turned, has those of word i of a line of states at
+/// bit i of each byte.
+fn turned(set: u64) -> u64 {
+    let swap = |bits: u64, by: u32, mask: u64| {
+        let changed = (bits ^ bits >> by) & mask;
+        bits ^ changed ^ changed << by
+    };
+    let in_twos = swap(set, 7, 0x00aa_00aa_00aa_00aa);
+    let in_fours = swap(in_twos, 14, 0x0000_cccc_0000_cccc);
+    swap(in_fours, 28, 0x0000_0000_f0f0_f0f0)
+}
+
+fn has(set: u64, level: usize) -> bool {
+    set >> level & 1 == 1
+}
+
+/// Does a set stay below a bound from 1 to 64?
+fn within(set: u64, bound: u64) -> bool {
+    set >> (bound - 1) >> 1 == 0
+}
+
+/// What sound metadata say: the epoch, the active states and where they stand, the
+/// pairs, and which levels are in state 1, are in state 2 and have a spare.
 struct Sound<'a> {
     epoch: u64,
     active: usize,
-    states: &'a [u8],
-    pairs: &'a [u8],
-    paired: [bool; LINE],
+    states: &'a [u8; LINE],
+    pairs: &'a [u8; LINE],
+    own: u64,
+    spared: u64,
+    paired: u64,
 }
 
 impl<'a> Sound<'a> {
+    #[inline(always)]
     fn of(image: &'a [u8], sizes: Sizes) -> Result<Sound<'a>, u64> {
-        if !sizes.in_range() {
+        let Sizes { levels, spares, frames } = sizes;
+        if levels.wrapping_sub(1) | spares.wrapping_sub(1) | frames.wrapping_sub(1) > 63 {
             return Err(1);
         }
         if image.len() != sizes.image_length() {
             return Err(2);
         }
-        let named = (word_at(image, 64), word_at(image, 72), word_at(image, 80));
-        if named != (sizes.levels, sizes.spares, sizes.frames) {
+        let ([first, header, even, odd, pairs, ..], _) = image.as_chunks::<LINE>() else { return Err(2) };
+        if (word_at(header, 0), word_at(header, 8), word_at(header, 16)) != (levels, spares, frames) {
             return Err(3);
         }
-        let epoch = word_at(image, EPOCH);
-        let active = if epoch.is_multiple_of(2) { EVEN_STATES } else { ODD_STATES };
-        let (levels, spares) = (sizes.levels as usize, sizes.spares as usize);
-        let (states, beyond) = image[active..active + LINE].split_at(levels);
-        let (pairs, behind) = image[PAIRS..PAIRS + LINE].split_at(spares);
-        let mut good = beyond.iter().fold(0, |all, state| all | state) == 0;
-        good &= behind.iter().fold(UNPAIRED, |all, level| all & level) == UNPAIRED;
-        let mut paired = [false; LINE];
-        for &level in pairs {
-            let (some, at) = (level != UNPAIRED, level as usize % LINE);
-            good &= !some | ((level as usize) < levels) & !paired[at];
-            paired[at] |= some;
-        }
-        for (&state, &paired) in states.iter().zip(&paired) {
-            good &= (state == 1) | (state == 0) & !paired | (state == 2) & paired;
-        }
-        match good {
-            true => Ok(Sound { epoch, active, states, pairs, paired }),
-            false => Err(4),
-        }
-    }
-
-    /// Is no touched level in state 1?
-    fn none_own(&self, touched: u64) -> bool {
-        let touches = |level: usize| touched >> level & 1 == 1;
-        self.states
-            .iter()
-            .enumerate()
-            .fold(true, |all, (level, &state)| all & !((state == 1) & touches(level)))
+        let epoch = word_at(first, 0);
+        let (active, states) = if epoch.is_multiple_of(2) { (EVEN_STATES, even) } else { (ODD_STATES, odd) };
+        let (own, spared) = in_states(states, levels).ok_or(4u64)?;
+        let paired = in_pairs(pairs, spares as usize).ok_or(4u64)?;
+        let fits = (spared ^ paired) & !own | spared & own == 0 && within(own | paired, levels);
+        fits.then_some(Sound { epoch, active, states, pairs, own, spared, paired }).ok_or(4)
     }
 
     /// The lowest unpaired spare; if all are paired, the lowest whose level is in
     /// state 1.
-    fn new_spare(&self) -> Option<usize> {
-        let unpaired = self.pairs.iter().position(|level| *level == UNPAIRED);
-        unpaired.or_else(|| self.pairs.iter().position(|level| self.states[*level as usize] == 1))
+    fn new_spare(&self, spares: usize) -> Option<usize> {
+        let unpaired = position(self.pairs, UNPAIRED).filter(|spare| *spare < spares);
+        unpaired.or_else(|| self.pairs[..spares].iter().position(|level| has(self.own, *level as usize)))
     }
 
     /// The spare of a paired level.
     fn spare_of(&self, level: usize) -> usize {
-        self.pairs.iter().position(|paired| *paired as usize == level).unwrap_or(0)
+        position(self.pairs, level as u8).unwrap_or(0)
     }
 }
 
-fn card_is_true(sound: &Sound, card: &Card) -> bool {
-    let (below, beyond) = card.marks.split_at(card.sizes.levels as usize);
-    let over = |bits: u64, size: u64| bits >> (size - 1) >> 1 != 0;
-    !over(card.touched, card.sizes.levels)
-        && sound.none_own(card.touched)
-        && !over(below.iter().fold(0, |all, m| all | m), card.sizes.frames)
-        && beyond.iter().fold(0, |all, m| all | m) == 0
+/// The levels in state 1 and those in state 2, with those of state 3 in both, if no
+/// state is above. Up to eight levels stand in one word; of more, the two bits of
+/// each state are laid beside those of the other words, and the squares turned.
+fn in_states(states: &[u8; LINE], levels: u64) -> Option<(u64, u64)> {
+    const HIGH: u64 = 0xfc * ONES;
+    const EVEN: u64 = 0x55 * ONES;
+    if levels <= 8 {
+        let first = word_at(states, 0);
+        let rest = words(states).skip(1).fold(0, |all, word| all | word);
+        return (first & HIGH | rest == 0).then_some((low_bits(first), low_bits(first >> 1)));
+    }
+    let (mut seen, mut bits) = (0, [0; 2]);
+    for (i, word) in words(states).enumerate() {
+        seen |= word;
+        bits[i % 2] |= word << (i & 6);
+    }
+    let own = bits[0] & EVEN | (bits[1] & EVEN) << 1;
+    let spared = bits[0] >> 1 & EVEN | bits[1] & !EVEN;
+    (seen & HIGH == 0).then_some((turned(own), turned(spared)))
+}
+
+/// The lowest bits of a word's bytes, as the bits of one byte.
+fn low_bits(word: u64) -> u64 {
+    (word & ONES).wrapping_mul(0x0102_0408_1020_4080) >> 56
+}
+
+/// The levels that pairs name, if each is below 64 and named once and no spare
+/// beyond the last has one. Words of unpaired spares behind the others are passed
+/// over; of a word with some unpaired, only the paired ones are looked at.
+fn in_pairs(pairs: &[u8; LINE], spares: usize) -> Option<u64> {
+    let (words, _) = pairs.as_chunks::<8>();
+    let Some(last) = words.iter().rposition(|word| *word != [UNPAIRED; 8]) else { return Some(0) };
+    let unpaired = (!u64::from_le_bytes(words[last])).leading_zeros() as usize / 8;
+    if 8 * last + 8 - unpaired > spares {
+        return None;
+    }
+    let (mut set, mut count) = (0u64, 0);
+    for eight in &words[..=last] {
+        let word = u64::from_le_bytes(*eight);
+        let mut below_64 = !(word | word << 1) & TOPS;
+        if below_64 == TOPS {
+            count += 8;
+            set |= eight.iter().fold(0, |all, level| all | 1 << (level % 64));
+            continue;
+        }
+        let paired = (!word | (!word & !TOPS) + !TOPS) & TOPS;
+        if below_64 != paired {
+            return None;
+        }
+        while below_64 != 0 {
+            count += 1;
+            set |= 1 << (word >> (below_64.trailing_zeros() & 56) & 63);
+            below_64 &= below_64 - 1;
+        }
+    }
+    (set.count_ones() == count).then_some(set)
+}
+
+fn sizes_of(session: &Session) -> Sizes {
+    Sizes::new(session.mains, session.backups, session.blocks)
+}
+
+/// Is the session true to sound metadata? Its words of marks are laid over one
+/// another.
+fn is_true(sound: &Sound, session: &Session) -> bool {
+    let touched = session.dirty_segments;
+    let (below, beyond) = session.dirty_blocks.split_at(session.mains as usize);
+    let all = |marks: &[u64]| marks.iter().fold(0, |all, m| all | m);
+    within(touched, session.mains)
+        && touched & sound.own == 0
+        && within(all(below), session.blocks)
+        && all(beyond) == 0
 }
 
 #[inline(never)]
@@ -237,21 +330,10 @@ pub fn format(image: &mut [u8], sizes: Sizes) -> u64 {
     0
 }
 
-/// What opening, write and save answer.
-struct Served {
-    card: Card,
-    orders: usize,
-}
-
-/// Hands back an answer; a refused call hands back this card.
-fn answered(result: Result<Served, u64>, refused: Card, session: &mut Session, orders: &mut u64) -> u64 {
-    let (number, card, count) = match result {
-        Ok(served) => (0, served.card, served.orders),
-        Err(number) => (number, refused, 0),
-    };
-    *session = session_of(&card);
-    *orders = count as u64;
-    number
+/// Hands back the orders of a call; a refused one has none.
+fn answered(orders: &mut u64, result: Result<usize, u64>) -> u64 {
+    *orders = result.unwrap_or(0) as u64;
+    result.err().unwrap_or(0)
 }
 
 #[inline(never)]
@@ -262,13 +344,15 @@ pub fn open<F: Form>(
     tape: &mut [u64],
     orders: &mut u64,
 ) -> u64 {
-    answered(opening::<F>(image, sizes, tape), Card::zeros(), session, orders)
+    let opened = opening::<F>(image, sizes, tape);
+    *session = if opened.is_ok() { session_of(&Card::fresh(sizes)) } else { Session::ZEROS };
+    answered(orders, opened)
 }
 
-fn opening<F: Form>(image: &[u8], sizes: Sizes, tape: &mut [u64]) -> Result<Served, u64> {
+fn opening<F: Form>(image: &[u8], sizes: Sizes, tape: &mut [u64]) -> Result<usize, u64> {
     let sound = Sound::of(image, sizes)?;
     let (levels, frames) = (sizes.levels as usize, sizes.frames as usize);
-    let treats = |l: usize| sound.states[l] != 1 || sound.paired[l];
+    let treats = |l: usize| sound.states[l] != 1 || has(sound.paired, l);
     let treated = (0..levels).filter(|l| treats(*l)).count();
     let count = 36 * frames * treated + 1;
     let tape = tape.get_mut(..3 * count).ok_or(11u64)?;
@@ -284,7 +368,7 @@ fn opening<F: Form>(image: &[u8], sizes: Sizes, tape: &mut [u64]) -> Result<Serv
         }
     }
     put(tape, count - 1, [3, 0, 0]);
-    Ok(Served { card: Card::fresh(sizes), orders: count })
+    Ok(count)
 }
 
 /// Copies frame after frame from the source's start to the place.
@@ -303,8 +387,7 @@ pub fn write<F: Form>(
     tape: &mut [u64],
     orders: &mut u64,
 ) -> u64 {
-    let card = card_of(session);
-    answered(writing::<F>(image, card, target, bytes, tape), card, session, orders)
+    answered(orders, writing::<F>(image, session, target, bytes, tape))
 }
 
 /// What a write does before its own words.
@@ -316,15 +399,15 @@ enum Before {
 
 fn writing<F: Form>(
     image: &[u8],
-    mut card: Card,
+    session: &mut Session,
     target: Target,
     bytes: &[u8],
     tape: &mut [u64],
-) -> Result<Served, u64> {
-    let sizes = card.sizes;
+) -> Result<usize, u64> {
+    let sizes = sizes_of(session);
     let sound = Sound::of(image, sizes)?;
     let length = bytes.len();
-    if !card_is_true(&sound, &card) {
+    if !is_true(&sound, session) {
         return Err(5);
     }
     if target.level >= sizes.levels {
@@ -338,11 +421,11 @@ fn writing<F: Form>(
         return Err(8);
     }
     let (level, frame, offset) = (target.level as usize, target.frame as usize, target.offset as usize);
-    let marks = card.marks[level];
-    let needs_copy = sound.states[level] == 1 && card.touched >> level & 1 == 0;
-    let before = match (needs_copy, sound.paired[level]) {
+    let marks = session.dirty_blocks[level];
+    let needs_copy = has(sound.own & !session.dirty_segments, level);
+    let before = match (needs_copy, has(sound.paired, level)) {
         (false, _) => Before::Nothing,
-        (true, false) => Before::Pair(sound.new_spare().ok_or(9u64)?),
+        (true, false) => Before::Pair(sound.new_spare(sizes.spares as usize).ok_or(9u64)?),
         (true, true) => Before::Marked(sound.spare_of(level)),
     };
     let copied = match before {
@@ -359,14 +442,14 @@ fn writing<F: Form>(
     }
     if copied > 0 {
         turn(image, sound.active, level, &mut tape[3 * (copied - 4)..]);
-        card.marks[level] = 0;
+        session.dirty_blocks[level] = 0;
     }
     let first = sizes.in_level(level, frame) + offset;
     span::<F>(image, first, bytes, &mut tape[3 * copied..]);
-    card.touched |= 1 << level;
+    session.dirty_segments |= 1 << level;
     let more = (offset + length - 1) / FRAME;
-    card.marks[level] |= u64::MAX >> (63 - more) << frame;
-    Ok(Served { card, orders: copied + words })
+    session.dirty_blocks[level] |= u64::MAX >> (63 - more) << frame;
+    Ok(copied + words)
 }
 
 fn byte_in_word(image: &[u8], at: usize, byte: u8) -> [u64; 3] {
@@ -436,61 +519,55 @@ fn part_of_word(image: &[u8], place: usize, skipped: usize, part: &[u8]) -> [u64
 
 #[inline(never)]
 pub fn save(image: &[u8], session: &mut Session, tape: &mut [u64], orders: &mut u64) -> u64 {
-    let card = card_of(session);
-    answered(saving(image, card, tape), card, session, orders)
+    answered(orders, saving(image, session, tape))
 }
 
-fn saving(image: &[u8], mut card: Card, tape: &mut [u64]) -> Result<Served, u64> {
-    let sizes = card.sizes;
+fn saving(image: &[u8], session: &mut Session, tape: &mut [u64]) -> Result<usize, u64> {
+    let sizes = sizes_of(session);
     let sound = Sound::of(image, sizes)?;
-    if !card_is_true(&sound, &card) {
+    if !is_true(&sound, session) {
         return Err(5);
     }
     let epoch = sound.epoch.checked_add(1).ok_or(10u64)?;
-    let levels = sizes.levels as usize;
-    let marked: u32 = card.marks[..levels].iter().map(|m| m.count_ones()).sum();
-    let count = 4 * marked as usize + 14;
-    let tape = tape.get_mut(..3 * count).ok_or(11u64)?;
+    let (marks, levels) = (&session.dirty_blocks, sizes.levels as usize);
+    let room = tape.len() / 3;
+    let marked = || marks.iter().map(|m| m.count_ones() as usize).sum::<usize>();
+    if room < 4 * levels * sizes.frames as usize + 14 && room < 4 * marked() + 14 {
+        return Err(11);
+    }
     let mut at = 0;
-    for (l, &word) in card.marks[..levels].iter().enumerate() {
-        let mut marks = word;
-        while marks != 0 {
-            flushes(tape, at, sizes.in_level(l, marks.trailing_zeros() as usize));
-            at += 4;
-            marks &= marks - 1;
+    for (i, eight) in marks.as_chunks::<8>().0[..levels.div_ceil(8)].iter().enumerate() {
+        if eight.iter().fold(0, |all, m| all | m) == 0 {
+            continue;
+        }
+        for (k, &word) in eight.iter().enumerate() {
+            let mut marks = word;
+            while marks != 0 {
+                flushes(tape, at, sizes.in_level(8 * i + k, marks.trailing_zeros() as usize));
+                at += 4;
+                marks &= marks - 1;
+            }
         }
     }
     let idle = EVEN_STATES + ODD_STATES - sound.active;
-    let states = &image[sound.active..sound.active + LINE];
-    put(tape, at, [3, 0, 0]);
-    for (i, word) in states.as_chunks::<8>().0.iter().enumerate() {
-        let word = settled(u64::from_le_bytes(*word), card.touched >> (8 * i));
-        put(tape, at + 1 + i, [1, (idle + 8 * i) as u64, word]);
+    let set = turned(sound.own | sound.spared | session.dirty_segments);
+    let Some(rest) = tape[3 * at..].as_chunks_mut::<3>().0.first_chunk_mut::<14>() else { return Err(11) };
+    rest[0] = [3, 0, 0];
+    for i in 0..8 {
+        rest[1 + i] = [1, (idle + 8 * i) as u64, set >> i & ONES];
     }
-    put(tape, at + 9, [2, idle as u64, 0]);
-    put(tape, at + 10, [3, 0, 0]);
-    put(tape, at + 11, [1, 0, epoch]);
-    put(tape, at + 12, [2, 0, 0]);
-    put(tape, at + 13, [3, 0, 0]);
-    card.touched = 0;
-    Ok(Served { card, orders: count })
-}
-
-const ONES: u64 = 0x0101_0101_0101_0101;
-
-/// The states that a save stores for eight levels: 1 for each in state 1 or 2
-/// and for each that is touched, 0 for the others.
-fn settled(states: u64, touched: u64) -> u64 {
-    let each = (touched & 0xff).wrapping_mul(ONES) & 0x8040_2010_0804_0201;
-    let spread = (each + 0x7f * ONES) >> 7;
-    (states | states >> 1 | spread) & ONES
+    rest[9] = [2, idle as u64, 0];
+    rest[10] = [3, 0, 0];
+    rest[11] = [1, 0, epoch];
+    rest[12] = [2, 0, 0];
+    rest[13] = [3, 0, 0];
+    session.dirty_segments = 0;
+    Ok(at + 14)
 }
 
 #[inline(never)]
 pub fn replay<F: Form>(image: &mut [u8], tape: &[u64], n: u64, orders: &mut u64) -> u64 {
-    let played = playing::<F>(image, tape, n);
-    *orders = played.unwrap_or(0) as u64;
-    played.err().unwrap_or(0)
+    answered(orders, playing::<F>(image, tape, n))
 }
 
 fn playing<F: Form>(image: &mut [u8], tape: &[u64], n: u64) -> Result<usize, u64> {
