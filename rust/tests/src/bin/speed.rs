@@ -3,16 +3,20 @@
 //! many rounds; beside them the limits, a memset of the bytes that the tape
 //! takes and a memcpy of the image.
 //!
-//! Same machine, same inputs, same interface, the card by value on both sides,
-//! both built for release. All buffers are allocated and written before the
+//! Same machine, same inputs, same interface, the session changed in place on both
+//! sides, both built for release. Every call is given a copy of its session, made
+//! inside the time of either side. All buffers are allocated and written before the
 //! first round and are not cleared between rounds; rounds run at 25 depths of
 //! the stack, since its place in its page alone moves a small call. Before
-//! measuring, all sides must give the same answers. The line
-//! `worst: copies=C writes=W rust=R small=Q limit=L` has the greatest ratios of
-//! the library's time to Rust's: C over openings and writes that copy, of 1,000
+//! measuring, all sides must give the same answers.
+//!
+//! Every spare is paired that can be, unless a row says how many are. The line
+//! `worst: copies=C writes=W rust=R small=Q calls=K limit=L` has the greatest ratios
+//! of the library's time to Rust's: C over openings and writes that copy, of 1,000
 //! orders or more, W over all writes that copy, R over calls of 1,000 orders or
-//! more and over replay, Q over all other calls; and L, the greatest ratio to
-//! memset of an opening at 64,64,64.
+//! more and over replay, Q over all other calls, K over all writes, saves and reads;
+//! and L, the greatest ratio to memset of an opening at 64,64,64. The line before
+//! names the row of K.
 
 use crpm::ffi::Session;
 use crpm_tests::arbitrary::{distinct_data, image_of, Metadata};
@@ -47,7 +51,9 @@ fn main() -> ExitCode {
     }
 }
 
-const SIZES: [Sizes; 3] = [Sizes::new(2, 1, 1), Sizes::new(16, 8, 16), Sizes::new(64, 64, 64)];
+const BOARD: Sizes = Sizes::new(8, 8, 16);
+const LARGEST: Sizes = Sizes::new(64, 64, 64);
+const SIZES: [Sizes; 4] = [Sizes::new(2, 1, 1), BOARD, Sizes::new(16, 8, 16), LARGEST];
 const ROUNDS: usize = 200;
 const DEPTHS: usize = 25;
 const ROUND_NANOSECONDS: f64 = 200_000.0;
@@ -69,7 +75,8 @@ enum Action {
     Write(Target, Vec<u8>),
     Save,
     Replay,
-    Read(Page),
+    /// A read of the last frame of a level.
+    Read(Page, u64),
     Same(Vec<u8>),
 }
 
@@ -90,7 +97,7 @@ struct Case {
 impl Case {
     fn call(&mut self, side: Side, session: &mut Session) -> u64 {
         let Case { sizes, action, image, tape, out, extent, .. } = self;
-        let last = Target { level: sizes.levels - 1, frame: sizes.frames - 1, offset: 0 };
+        let frame = sizes.frames - 1;
         match (action, side) {
             (Action::Format, Side::Library) => raw::format(image, *sizes),
             (Action::Format, _) => fast::format(image, *sizes),
@@ -105,10 +112,8 @@ impl Case {
             (Action::Replay, Side::Library) => raw::replay(image, tape, u64::MAX, out),
             (Action::Replay, Side::Indexed) => fast::replay::<Indexed>(image, tape, u64::MAX, out),
             (Action::Replay, Side::Chunked) => fast::replay::<Chunked>(image, tape, u64::MAX, out),
-            (Action::Read(page), Side::Library) => {
-                raw::read(*page, image, *sizes, last.level, last.frame, extent)
-            }
-            (Action::Read(page), _) => fast::read(*page, image, *sizes, last.level, last.frame, extent),
+            (Action::Read(page, l), Side::Library) => raw::read(*page, image, *sizes, *l, frame, extent),
+            (Action::Read(page, l), _) => fast::read(*page, image, *sizes, *l, frame, extent),
             (Action::Same(other), Side::Library) => raw::same(image, other, *sizes, out),
             (Action::Same(other), _) => fast::same(image, other, *sizes, out),
         }
@@ -157,12 +162,12 @@ impl Case {
     }
 }
 
-/// States and pairs with as many spares paired as can be: paired levels in
-/// one state, the others in another.
-fn paired(sizes: Sizes, paired: u8, others: u8) -> Metadata {
-    let pairs: Vec<u8> =
-        (0..sizes.spares).map(|s| if s < sizes.levels { s as u8 } else { UNPAIRED }).collect();
-    let state = |level| if pairs.contains(&(level as u8)) { paired } else { others };
+/// States and pairs with so many spares paired, or as many as can be: paired levels
+/// in one state, the others in state 1.
+fn paired(sizes: Sizes, most: u64, paired: u8) -> Metadata {
+    let most = most.min(sizes.levels);
+    let pairs: Vec<u8> = (0..sizes.spares).map(|s| if s < most { s as u8 } else { UNPAIRED }).collect();
+    let state = |level| if pairs.contains(&(level as u8)) { paired } else { 1 };
     Metadata { states: (0..sizes.levels).map(state).collect(), pairs }
 }
 
@@ -183,6 +188,13 @@ fn session(sizes: Sizes, touched: u64, levels: usize, marks: u64) -> Session {
 /// words with a part of one before and behind them.
 const LONG: [(&str, u64, usize); 3] =
     [("write 1024 bytes", 0, 1024), ("write 1019 bytes at 3", 3, 1019), ("write 16384 bytes", 0, 16384)];
+
+/// Rows with few spares paired: how many, and the rows' names. The read level is the
+/// last of them.
+const PAIRED: [(u64, [&str; 4]); 2] = [
+    (2, ["write 1 word, 2 paired", "save, 2 paired", "working read, 2 paired", "saved read, 2 paired"]),
+    (8, ["write 1 word, 8 paired", "save, 8 paired", "working read, 8 paired", "saved read, 8 paired"]),
+];
 
 fn cases(sizes: Sizes) -> Vec<Case> {
     let data = distinct_data(sizes);
@@ -208,7 +220,8 @@ fn cases(sizes: Sizes) -> Vec<Case> {
         Action::Write(target, vec![0x77; length])
     };
     let (empty, own) = (unpaired(sizes, 0), unpaired(sizes, 1));
-    let (with_spares, in_spares) = (paired(sizes, 1, 1), paired(sizes, 2, 1));
+    let (with_spares, in_spares) = (paired(sizes, MOST, 1), paired(sizes, MOST, 2));
+    let last = sizes.levels - 1;
     let mut cases = vec![
         case("format", Action::Format, &empty, fresh),
         case("open, all empty", Action::Open, &empty, fresh),
@@ -223,8 +236,8 @@ fn cases(sizes: Sizes) -> Vec<Case> {
         case("save, one mark", Action::Save, &in_spares, touched_few),
         case("save, all marks", Action::Save, &in_spares, touched_full),
         case("save, restored levels", Action::Save, &in_spares, fresh),
-        case("working read", Action::Read(Page::Working), &in_spares, fresh),
-        case("saved read", Action::Read(Page::Saved), &in_spares, fresh),
+        case("working read", Action::Read(Page::Working, last), &in_spares, fresh),
+        case("saved read", Action::Read(Page::Saved, last), &in_spares, fresh),
         case("likeness, alike", Action::Same(image(&in_spares)), &in_spares, fresh),
     ];
     for (name, offset, length) in LONG {
@@ -232,6 +245,21 @@ fn cases(sizes: Sizes) -> Vec<Case> {
             let target = Target { level: 0, frame: 0, offset };
             let write = Action::Write(target, vec![0x77; length]);
             cases.push(case(name, write, &in_spares, touched_few));
+        }
+    }
+    if sizes == BOARD || sizes == LARGEST {
+        for (few, [one_word, save, working, saved]) in PAIRED {
+            let in_few = paired(sizes, few, 2);
+            cases.push(case(one_word, write(8), &in_few, touched_few));
+            cases.push(case(save, Action::Save, &in_few, touched_few));
+            cases.push(case(working, Action::Read(Page::Working, few - 1), &in_few, fresh));
+            cases.push(case(saved, Action::Read(Page::Saved, few - 1), &in_few, fresh));
+        }
+        let touched = |levels| session(sizes, u64::MAX >> (64 - levels), 1, 1);
+        cases.push(case("write 1 word, 8 touched", write(8), &paired(sizes, 8, 2), touched(8)));
+        if sizes == LARGEST {
+            cases.push(case("write 1 word, all touched", write(8), &in_spares, touched(64)));
+            cases.push(case("save, all touched", Action::Save, &in_spares, touched(64)));
         }
     }
     let replayed = [
@@ -336,6 +364,7 @@ fn run() -> Result<(usize, usize), String> {
     let mut measured = 0;
     let (mut worst, mut small, mut limit, mut replay) = (0.0f64, 0.0f64, 0.0f64, 0.0f64);
     let (mut copies, mut writes) = (0.0f64, 0.0f64);
+    let mut calls = (0.0f64, String::new());
     println!("times in nanoseconds a call; ratio = library / best Rust form; tape = library / memset");
     for sizes in SIZES {
         println!("sizes {sizes}: memcpy of the image {:.0}", memcpy_of_image(sizes));
@@ -361,15 +390,21 @@ fn run() -> Result<(usize, usize), String> {
             if row.copies && matches!(case.action, Action::Write(..)) {
                 writes = writes.max(ratio);
             }
-            if sizes == SIZES[2] && matches!(case.action, Action::Open) {
+            if matches!(case.action, Action::Write(..) | Action::Save | Action::Read(..)) && ratio > calls.0 {
+                calls = (ratio, format!("{} at {sizes}", case.name));
+            }
+            if sizes == LARGEST && matches!(case.action, Action::Open) {
                 limit = limit.max(to_limit);
             }
         }
     }
     let workloads = workloads()?;
     println!("replay: worst ratio {replay:.2}");
+    let (calls, row) = calls;
+    println!("writes, saves, reads: worst ratio {calls:.2}, {row}");
     println!(
-        "worst: copies={copies:.2} writes={writes:.2} rust={worst:.2} small={small:.2} limit={limit:.2}"
+        "worst: copies={copies:.2} writes={writes:.2} rust={worst:.2} small={small:.2} calls={calls:.2} \
+         limit={limit:.2}"
     );
     Ok((measured, workloads))
 }
@@ -391,7 +426,7 @@ const WARM: usize = 4;
 /// fences; at the end of the epoch 4 flushes a frame and 1 for the log's
 /// head, with two fences.
 fn workloads() -> Result<usize, String> {
-    let sizes = Sizes::new(8, 8, 16);
+    let sizes = BOARD;
     println!("an epoch's cost at sizes {sizes}, mean of {EPOCHS} epochs: library / undo log");
     println!("  {:<40} {:>15} {:>15} {:>19}", "workload", "fences", "flushes", "copied bytes");
     let names = [
