@@ -162,7 +162,7 @@ fn words(line: &[u8; LINE]) -> impl Iterator<Item = u64> + '_ {
 /// The lowest of a line's bytes that is this one, eight looked at at once.
 fn position(line: &[u8; LINE], byte: u8) -> Option<usize> {
     for (i, word) in words(line).enumerate() {
-        let other = word ^ byte as u64 * ONES;
+        let other = word ^ (byte as u64 * ONES);
         let found = other.wrapping_sub(ONES) & !other & TOPS;
         if found != 0 {
             return Some(8 * i + found.trailing_zeros() as usize / 8);
@@ -285,7 +285,7 @@ fn in_pairs(pairs: &[u8; LINE], spares: usize) -> Option<u64> {
             set |= eight.iter().fold(0, |all, level| all | 1 << (level % 64));
             continue;
         }
-        let paired = (!word | (!word & !TOPS) + !TOPS) & TOPS;
+        let paired = (!word | ((!word & !TOPS) + !TOPS)) & TOPS;
         if below_64 != paired {
             return None;
         }
