@@ -10,7 +10,8 @@
 //! the stack, since its place in its page alone moves a small call. Before
 //! measuring, all sides must give the same answers.
 //!
-//! Every spare is paired that can be, unless a row says how many are. The line
+//! Writes that copy nothing, saves and reads find every spare paired that can be,
+//! unless the row's name says how many are. The line
 //! `worst: copies=C writes=W rust=R small=Q calls=K limit=L` has the greatest ratios
 //! of the library's time to Rust's: C over openings and writes that copy, of 1,000
 //! orders or more, W over all writes that copy, R over calls of 1,000 orders or
