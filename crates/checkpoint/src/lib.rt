@@ -19,6 +19,7 @@ ghost use Rattle.model.specs.Outcome.{Gives};
 ghost use Rattle.model.specs.Checkpoint.{flushDirty, nextStates, statesOps, epochOps, checkpointOps, checkpointOutcome, epochErrors};
 ghost use Rattle.trace.specs.Emit.{Fits, Emitted};
 ghost use Rattle.session.specs.Parts.{sessionOf};
+ghost use Rattle.session.specs.Marked.{markedSegments};
 ghost use Rattle.checkpoint.specs.Advance.{lastEpoch, Advancing};
 ghost use Rattle.checkpoint.specs.Checkpointed.{checkpointedAnswer};
 
@@ -44,20 +45,21 @@ const FIXED_OPS: u64 = STATES_OPS + EPOCH_OPS + FENCES;
 
 // ---- the dirty blocks
 
-// Writes back every dirty block of every main segment, upward.
-fn put_flushes(layout: Layout, words: &[u64], trace: &mut [u64], n: usize) -> usize
+// Writes back every dirty block of every main segment, upward: `marked` has those that have one, and `rest` those that are left.
+fn put_flushes(layout: Layout, words: &[u64], marked: u64, trace: &mut [u64], n: usize) -> usize
     requires { ⌜ (layout .mains ≤ most) × (layout .blocks ≤ most) × (most ≤ length (now words)) ⌝ }
     requires { ⌜ ((i : ℕ) → i < layout .mains → getD (now words) i 0 < 2 ^ layout .blocks) ⌝ }
+    requires { ⌜ marked ≡ markedSegments (now words) (layout .mains) ⌝ }
     requires { ⌜ Fits (now trace) n (flushDirty layout (now words)) ⌝ }
     ensures { λ r. ⌜ Emitted (now (trace .entry)) n (flushDirty layout (now (words .entry))) (now (trace .exit)) r ⌝ }
 {
-    let mains = layout.mains;
     let mut next = n;
-    let mut i = 0;
-    while i < mains {
-        let at = places::main_at(layout, i);
-        next = segments::put_dirty_clwbs(layout.blocks, words[i as usize], at, trace, next);
-        i += 1;
+    let mut rest = marked;
+    while rest != 0 {
+        let i = u64::trailing_zeros(rest) as usize;
+        let at = places::main_at(layout, i as u64);
+        next = segments::put_dirty_clwbs(layout.blocks, words[i], at, trace, next);
+        rest = rest & (rest - 1);
     }
     next
 }
@@ -109,12 +111,13 @@ fn put_epoch(image: &[u8], trace: &mut [u64], n: usize) -> usize
 // ---- all operations
 
 // Their number, whatever the dirty segments and the image.
-fn checkpoint_length(layout: Layout, words: &[u64]) -> u64
+fn checkpoint_length(layout: Layout, words: &[u64], marked: u64) -> u64
     requires { ⌜ (layout .mains ≤ most) × (most ≤ length (now words)) ⌝ }
     requires { ⌜ ((i : ℕ) → i < layout .mains → getD (now words) i 0 < 2 ^ layout .blocks) ⌝ }
+    requires { ⌜ marked ≡ markedSegments (now words) (layout .mains) ⌝ }
     ensures { λ r. ⌜ ((segments : ℕ) (I : Image) → r ≡ length (checkpointOps (sessionOf layout segments (now (words .entry))) I)) × (r < 2 ^ 32) ⌝ }
 {
-    Layout::BLOCK_LINES * session::dirty_total(layout, words) + FIXED_OPS
+    Layout::BLOCK_LINES * session::dirty_total(layout, words, marked) + FIXED_OPS
 }
 
 // Writes them, by the parts of the session: dirty blocks, fence, states, fence, epoch, fence.
@@ -123,14 +126,15 @@ fn put_checkpoint(
     layout: Layout,
     segments: u64,
     words: &[u64],
+    marked: u64,
     trace: &mut [u64],
     n: usize,
 ) -> usize
-    requires { ⌜ Advancing layout (now image) (now words) ⌝ }
+    requires { ⌜ Advancing layout (now image) (now words) × (marked ≡ markedSegments (now words) (layout .mains)) ⌝ }
     requires { ⌜ Fits (now trace) n (checkpointOps (sessionOf layout segments (now words)) (now image)) ⌝ }
     ensures { λ r. ⌜ Emitted (now (trace .entry)) n (checkpointOps (sessionOf layout segments (now (words .entry))) (now (image .entry))) (now (trace .exit)) r ⌝ }
 {
-    let flushed = put_flushes(layout, words, trace, n);
+    let flushed = put_flushes(layout, words, marked, trace, n);
     let fenced = trace::put_sfence(trace, flushed);
     let stored = put_states(image, segments, trace, fenced);
     let held = trace::put_sfence(trace, stored);
@@ -182,7 +186,8 @@ pub fn checkpoint_parts(
             ops: 0,
         };
     }
-    let ops = checkpoint_length(layout, words);
+    let marked = session::marked_segments(words, layout.mains as usize);
+    let ops = checkpoint_length(layout, words, marked);
     let room = trace::trace_status(trace.len(), ops);
     if !room.is_served() {
         return Checkpointed {
@@ -190,7 +195,7 @@ pub fn checkpoint_parts(
             ops: 0,
         };
     }
-    put_checkpoint(image, layout, segments, words, trace, 0);
+    put_checkpoint(image, layout, segments, words, marked, trace, 0);
     Checkpointed {
         status: Status::Served,
         ops: ops,

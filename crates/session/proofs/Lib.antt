@@ -1,3 +1,4 @@
 pub mod BitLaws
 pub mod OverlaidLaws
 pub mod SessionLaws
+pub mod MarkedLaws

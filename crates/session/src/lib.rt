@@ -4,20 +4,24 @@ use model::Layout;
 use model::Session;
 use model::Status;
 ghost use mathlib.Core.Path.{_≡_};
-ghost use mathlib.Core.Bool.{not, _&&_, _||_};
+ghost use mathlib.Core.Bool.{true, not, cond, _&&_, _||_};
 ghost use Prim.Native.Nat.{ℕ, _+_, _*_, _/_, _^_, _≤_, _<_};
 ghost use lib.Count.{ones};
 ghost use lib.Dec.{eqb, ltb};
 ghost use lib.ListN.{length, getD};
 ghost use Rattle.model.specs.Range.{allB};
-ghost use Rattle.model.specs.Layout.{lineSize, most, ssMain};
+ghost use Rattle.model.specs.Layout.{wordSize, lineSize, most, ssMain};
 ghost use Rattle.model.specs.Status.{codeOf, firstError};
 ghost use Rattle.model.specs.Session.{isDirty, setBit, setBits, withCheckpoint, validSession, contextErrors};
 ghost use Rattle.model.specs.Counts.{dirtyTotal};
 ghost use Rattle.session.specs.Parts.{sessionOf};
+ghost use Rattle.session.specs.Marked.{markedSegments};
 
 // Bytes of a line, as indexes count them.
 const LINE_SIZE: usize = Layout::LINE_SIZE as usize;
+
+// Main segments that are passed over at once.
+const EIGHT: usize = 8;
 
 // A word with all bits set.
 const ALL: u64 = 18446744073709551615;
@@ -136,21 +140,74 @@ pub fn dirty_count(word: u64) -> u64
     u64::count_ones(word) as u64
 }
 
-// How many blocks of all main segments are dirty, by their words; those of 0 are passed over.
-pub fn dirty_total(layout: Layout, words: &[u64]) -> u64
-    requires { ⌜ (layout .mains ≤ most) × (most ≤ length (now words)) ⌝ }
-    requires { ⌜ ((i : ℕ) → i < layout .mains → getD (now words) i 0 < 2 ^ layout .blocks) ⌝ }
-    ensures { λ r. ⌜ (r ≡ dirtyTotal layout (now (words .entry))) × (r ≤ most * most) ⌝ }
+// ---- the main segments that have a dirty block
+
+// Whether the eight words from word i on are 0.
+fn eight_clear(words: &[u64], i: usize) -> bool
+    requires { ⌜ (i + wordSize ≤ most) × (most ≤ length (now words)) ⌝ }
+    ensures { λ r. ⌜ r ≡ allB wordSize (λ t. eqb (getD (now (words .entry)) (i + t) 0) 0) ⌝ }
 {
-    let mains = layout.mains as usize;
-    let mut sum = 0;
+    let mut seen: u64 = 0;
+    let mut t = 0;
+    while t < EIGHT {
+        seen |= words[i + t];
+        t += 1;
+    }
+    seen == 0
+}
+
+// Whether the eight main segments from main segment i on are there and have no dirty block, so that they can be passed over.
+fn eight_passed(words: &[u64], i: usize, mains: usize) -> bool
+    requires { ⌜ (i ≤ mains) × (mains ≤ most) × (most ≤ length (now words)) ⌝ }
+    ensures { λ r. ⌜ (r ≡ true → (i + wordSize ≤ mains) × (allB wordSize (λ t. eqb (getD (now (words .entry)) (i + t) 0) 0) ≡ true)) ⌝ }
+{
+    if mains < i + EIGHT {
+        return false;
+    }
+    eight_clear(words, i)
+}
+
+// A set with main segment i, if its word of dirty blocks is not 0.
+fn with_mark(set: u64, word: u64, i: usize) -> u64
+    requires { ⌜ i < most ⌝ }
+    ensures { λ r. ⌜ r ≡ cond (eqb word 0) set (setBit set i) ⌝ }
+{
+    if word == 0 {
+        return set;
+    }
+    set_segment(set, i as u64)
+}
+
+// The main segments that have a dirty block, as bits of a word. Eight without one are passed over at once.
+pub fn marked_segments(words: &[u64], mains: usize) -> u64
+    requires { ⌜ (mains ≤ most) × (most ≤ length (now words)) ⌝ }
+    ensures { λ r. ⌜ r ≡ markedSegments (now (words .entry)) mains ⌝ }
+{
+    let mut set: u64 = 0;
     let mut i = 0;
     while i < mains {
-        let word = words[i];
-        if word != 0 {
-            sum += dirty_count(word);
+        if eight_passed(words, i, mains) {
+            i += EIGHT;
+        } else {
+            set = with_mark(set, words[i], i);
+            i += 1;
         }
-        i += 1;
+    }
+    set
+}
+
+// How many blocks of all main segments are dirty, by their words and the set of those that have one.
+pub fn dirty_total(layout: Layout, words: &[u64], marked: u64) -> u64
+    requires { ⌜ (layout .mains ≤ most) × (most ≤ length (now words)) ⌝ }
+    requires { ⌜ ((i : ℕ) → i < layout .mains → getD (now words) i 0 < 2 ^ layout .blocks) ⌝ }
+    requires { ⌜ marked ≡ markedSegments (now words) (layout .mains) ⌝ }
+    ensures { λ r. ⌜ (r ≡ dirtyTotal layout (now (words .entry))) × (r ≤ most * most) ⌝ }
+{
+    let mut sum = 0;
+    let mut rest = marked;
+    while rest != 0 {
+        sum += dirty_count(words[u64::trailing_zeros(rest) as usize]);
+        rest = rest & (rest - 1);
     }
     sum
 }

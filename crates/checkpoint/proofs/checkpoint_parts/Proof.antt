@@ -28,14 +28,24 @@ returns c =
     let r = sym (c .before .is-served .ensures) ∙ not-true _ (c .if1 .taken) in
     gives-refused _ s _ _ _ _ {k = k .checkpoint-status .result} (refl, ap (λ (b : Bool). cond b (withCheckpoint s) s) r, refl) (stage-refused _ _ _ (k .checkpoint-status .ensures) r) r refl
 
-checkpoint-length-requires : tie.Need-checkpoint-length-requires
-checkpoint-length-requires c κs =
+marked-segments-requires : tie.Need-marked-segments-requires
+marked-segments-requires c κs =
     let k = c .before .before in
     let g = k .before .before .before .before .args in
     let s = sessionOf (g .layout) (g .segments) (g .words .now) in
     let z = sym (c .before .is-served .ensures) ∙ not-false _ (c .if1 .left) in
     let ok = advancing s (g .image .now) _ (k .before .before .before .before .pre) (k .checkpoint-status .ensures) z in
-    ((ok .mains, ok .enough), ok .within)
+    (ok .mains, ok .enough)
+
+checkpoint-length-requires : tie.Need-checkpoint-length-requires
+checkpoint-length-requires c κs =
+    let i = c .before in
+    let k = i .before .before in
+    let g = k .before .before .before .before .args in
+    let s = sessionOf (g .layout) (g .segments) (g .words .now) in
+    let z = sym (i .before .is-served .ensures) ∙ not-false _ (i .if1 .left) in
+    let ok = advancing s (g .image .now) _ (k .before .before .before .before .pre) (k .checkpoint-status .ensures) z in
+    ((ok .mains, ok .enough), (ok .within, c .marked-segments .ensures))
 
 trace-status-requires : tie.Need-trace-status-requires
 trace-status-requires c κs = omega (arith, c .checkpoint-length .ensures .1)
@@ -48,7 +58,7 @@ unfolding checkpointOutcome checkpointStatus
 returns-2 c =
     let t = c .before .before in
     let n = t .before in
-    let i = n .before in
+    let i = n .before .before in
     let k = i .before .before in
     let g = k .before .before .before .before .args in
     let s = sessionOf (g .layout) (g .segments) (g .words .now) in
@@ -64,7 +74,7 @@ put-checkpoint-requires c κs =
     let j = c .before in
     let t = j .before .before in
     let n = t .before in
-    let i = n .before in
+    let i = n .before .before in
     let k = i .before .before in
     let g = k .before .before .before .before .args in
     let s = sessionOf (g .layout) (g .segments) (g .words .now) in
@@ -72,7 +82,8 @@ put-checkpoint-requires c κs =
     let z = sym (i .before .is-served .ensures) ∙ not-false _ (i .if1 .left) in
     let e = t .trace-status .ensures O (g .trace .now) (sym (n .checkpoint-length .ensures .0 (g .segments) (g .image .now))) refl in
     let p = sym (eqb-true _ 0 (sym (j .before .is-served2 .ensures) ∙ not-false _ (j .if2 .left))) ∙ e in
-    (advancing s (g .image .now) _ (k .before .before .before .before .pre) (k .checkpoint-status .ensures) z, fits-whole O (g .trace .now) p)
+    let ok = advancing s (g .image .now) _ (k .before .before .before .before .pre) (k .checkpoint-status .ensures) z in
+    ((ok, n .before .marked-segments .ensures), fits-whole O (g .trace .now) p)
 
 same-length : tie.Need-same-length
 same-length c = search needs
@@ -83,7 +94,7 @@ returns-3 c =
     let j = c .before .before .before .before in
     let t = j .before .before in
     let n = t .before in
-    let i = n .before in
+    let i = n .before .before in
     let k = i .before .before in
     let g = k .before .before .before .before .args in
     let s = sessionOf (g .layout) (g .segments) (g .words .now) in
@@ -101,6 +112,7 @@ checkpoint-parts-spec =
     checkpoint-status-requires
     is-served-requires
     returns
+    marked-segments-requires
     checkpoint-length-requires
     trace-status-requires
     is-served-requires-2

@@ -6,7 +6,7 @@ use Rattle.checkpoint.proofs.put_checkpoint.Tie as tie
 
 put-flushes-requires : tie.Need-put-flushes-requires
 unfolding checkpointOps
-put-flushes-requires c κs = let a = c .before .before .before .before in ((a .pre .0 .mains, a .pre .0 .blocks, a .pre .0 .enough), (a .pre .0 .within, fits-first _ (fits-first _ (fits-first _ (a .pre .1)))))
+put-flushes-requires c κs = let a = c .before .before .before .before in ((a .pre .0 .0 .mains, a .pre .0 .0 .blocks, a .pre .0 .0 .enough), (a .pre .0 .0 .within, (a .pre .0 .1, fits-first _ (fits-first _ (fits-first _ (a .pre .1))))))
 
 put-sfence-requires : tie.Need-put-sfence-requires
 unfolding checkpointOps
@@ -42,7 +42,7 @@ put-epoch-requires c κs =
     let p₁ = p₂ .before .before .before .before in
     let a = p₁ .before .before .before .before .before in
     let w = emitted-then (p₁ .put-flushes .ensures) (emitted-then (p₂ .put-sfence .ensures) (p₃ .put-states .ensures)) in
-    ((search needs, a .pre .0 .raises), fits-then (fits-then (fits-first _ (a .pre .1)) w) (p₄ .put-sfence2 .ensures))
+    ((search needs, a .pre .0 .0 .raises), fits-then (fits-then (fits-first _ (a .pre .1)) w) (p₄ .put-sfence2 .ensures))
 
 put-sfence-requires-3 : tie.Need-put-sfence-requires-3
 unfolding checkpointOps

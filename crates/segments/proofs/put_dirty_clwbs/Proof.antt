@@ -9,7 +9,8 @@ use Rattle.model.specs.Layout.{blockSize, blockLines}
 use Rattle.model.specs.Ops.{clwbs, eachDirty}
 use Rattle.trace.specs.Emit.{Emitted}
 use Rattle.trace.proofs.EmitLaws.{emitted-none}
-use Rattle.segments.proofs.DirtyLaws.{Walk, walk-start, walk-ends, walk-below, walk-turns, walk-fits, walk-emits}
+use Rattle.words.proofs.WalkLaws.{Walk, walk-start, walk-below, walk-turns}
+use Rattle.segments.proofs.DirtyLaws.{dirty-ends, dirty-fits, dirty-emits}
 use Rattle.segments.proofs.put_dirty_clwbs.Statement.{statement}
 use Rattle.segments.proofs.put_dirty_clwbs.Tie as tie
 
@@ -36,7 +37,7 @@ add-place c = omega (arith, walk-below (c .before .loop .inv .1 .1 .0) (omega ar
 put-clwbs-requires : tie.Need-put-clwbs-requires Inv-loop μ-loop
 put-clwbs-requires c κs =
     let w = c .before .before .loop .inv .1 .1 in
-    (omega (arith, walk-below (w .0) (omega arith)), walk-fits (w .0) (omega arith) _ (w .1) (c .before .before .before .before .pre .1 .1))
+    (omega (arith, walk-below (w .0) (omega arith)), dirty-fits _ (w .0) (omega arith) (w .1) (c .before .before .before .before .pre .1 .1))
 
 sub-rest : tie.Need-sub-rest Inv-loop μ-loop
 sub-rest c = search needs
@@ -48,13 +49,13 @@ loop-again : tie.Need-loop-again Inv-loop μ-loop
 loop-again c =
     let l = c .before .before .before .before .before .loop in
     let w = l .inv .1 .1 in
-    (search needs, (trailingZeros 64 (l .rest) + 1, (walk-turns (w .0) (omega arith), walk-emits (w .0) (omega arith) _ (w .1) (c .before .before .put-clwbs .ensures))))
+    (search needs, (trailingZeros 64 (l .rest) + 1, (walk-turns (w .0) (omega arith), dirty-emits _ (w .0) (omega arith) (w .1) (c .before .before .put-clwbs .ensures))))
 
 same-length : tie.Need-same-length Inv-loop μ-loop
 same-length c = search needs
 
 returns : tie.Need-returns Inv-loop μ-loop
-returns c = let w = c .before .loop .inv .1 .1 in walk-ends _ (w .0) (omega arith) (w .1)
+returns c = let w = c .before .loop .inv .1 .1 in dirty-ends _ (w .0) (omega arith) (w .1)
 
 pub put-dirty-clwbs-spec : {M : Type 1} → statement M
 put-dirty-clwbs-spec =

@@ -10,7 +10,8 @@ use Rattle.model.specs.Ops.{persistCopy, eachDirty}
 use Rattle.trace.specs.Emit.{Emitted}
 use Rattle.trace.proofs.EmitLaws.{fits-as, emitted-as, emitted-none}
 use Rattle.blocks.proofs.PartLaws.{length-part, copy-part}
-use Rattle.segments.proofs.DirtyLaws.{Walk, walk-start, walk-ends, walk-below, walk-turns, walk-fits, walk-emits}
+use Rattle.words.proofs.WalkLaws.{Walk, walk-start, walk-below, walk-turns}
+use Rattle.segments.proofs.DirtyLaws.{dirty-ends, dirty-fits, dirty-emits}
 use Rattle.segments.proofs.put_dirty_copies.Statement.{statement}
 use Rattle.segments.proofs.put_dirty_copies.Tie as tie
 
@@ -64,7 +65,7 @@ put-copy-requires c κs =
       omega (arith, e),
       (
         omega (arith, below),
-        fits-as (sym (copy-part (g .image .now) (g .from + blockSize * b) (g .to + blockSize * b))) (walk-fits (w .0) (omega arith) _ (w .1) (a .pre .1 .1 .1)),
+        fits-as (sym (copy-part (g .image .now) (g .from + blockSize * b) (g .to + blockSize * b))) (dirty-fits _ (w .0) (omega arith) (w .1) (a .pre .1 .1 .1)),
       ),
     )
 
@@ -81,13 +82,13 @@ loop-again c =
     let w = l .inv .1 .1 in
     let b = trailingZeros 64 (l .rest) in
     let copied = emitted-as (c .before .before .put-copy .ensures) (copy-part (g .image .now) (g .from + blockSize * b) (g .to + blockSize * b)) in
-    (search needs, (b + 1, (walk-turns (w .0) (omega arith), walk-emits (w .0) (omega arith) _ (w .1) copied)))
+    (search needs, (b + 1, (walk-turns (w .0) (omega arith), dirty-emits _ (w .0) (omega arith) (w .1) copied)))
 
 same-length : tie.Need-same-length Inv-loop μ-loop
 same-length c = search needs
 
 returns : tie.Need-returns Inv-loop μ-loop
-returns c = let w = c .before .loop .inv .1 .1 in walk-ends _ (w .0) (omega arith) (w .1)
+returns c = let w = c .before .loop .inv .1 .1 in dirty-ends _ (w .0) (omega arith) (w .1)
 
 pub put-dirty-copies-spec : {M : Type 1} → statement M
 put-dirty-copies-spec =
