@@ -1,4 +1,5 @@
 pub mod BitLaws
+pub mod GroupLaws
 pub mod OverlaidLaws
 pub mod SessionLaws
 pub mod MarkedLaws

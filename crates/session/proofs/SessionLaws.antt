@@ -1,14 +1,9 @@
--- Laws of the session's validity: the words of dirty blocks in two runs, the states that it depends on, the walk over dirty segments,
--- and refusals 1 to 5.
+-- Laws of the session's validity: the words of dirty blocks in two runs, the states that it depends on, and refusals 1 to 5.
 use Prim.Native.Nat.{ℕ, _+_, _-_, _^_, _≤_, _<_}
 use mathlib.Core.Path.{_≡_, refl, sym, ap, ap₂, _∙_}
 use mathlib.Core.Bool.{Bool, true, false, not, cond, _&&_, _||_}
-use mathlib.Core.Logic.{_≢_}
 use native.Mathlib.Omega.{arith}
-use native.Mathlib.Decide.{ℕ-discrete}
-use lib.Count.{trailingZeros}
 use lib.Dec.{eqb, ltb}
-use lib.Pow.{pow-mono}
 use lib.ListN.{length, getD, take, drop}
 use lib.Seq.{getD-take, getD-drop}
 use borrow.Author.Tests.{lt-ltb, eq-eqb, eqb-true, ltb-true, ltb-false}
@@ -24,8 +19,6 @@ use Rattle.model.proofs.Laws.Range.{both, and-left, and-right, all-at, all-from
 use Rattle.model.proofs.Laws.Layout.{metadata-inside}
 use Rattle.model.proofs.Laws.Status.{stage-passed}
 use Rattle.model.proofs.Laws.Container.{container-ok}
-use Rattle.model.proofs.Laws.Session.{no-bit}
-use Rattle.words.proofs.BitLaws.{withoutLowest, lowest-bit, lowest-below}
 
 -- the words below n have no bit from k on, and the rest none at all
 module _ (words : ℕ → ℕ) (n k : ℕ) where
@@ -84,49 +77,6 @@ valid-session-cong s f g h =
 pub valid-session-part : (s : Session) (I : Image) (line : ℕ) → s .layout .mains ≤ 64
     → validSession s (λ (i : ℕ). getD (take (line + 64 - line) (drop line I)) i 0) ≡ validSession s (segState I line)
 valid-session-part s I line m = valid-session-cong s _ _ (λ i l. getD-take (line + 64 - line) (drop line I) i 0 (omega arith) ∙ getD-drop line I i 0)
-
--- ---- the walk over dirty segments
-
--- a test of every number is the test at one, and one that leaves it out
-all-but-one : (n z : ℕ) (P Q : ℕ → Bool) → z < n → Q z ≡ true → ((i : ℕ) → i ≢ z → Q i ≡ P i) → allB n P ≡ (P z && allB n Q)
-all-but-one n z P Q h t o = same-test _ _ there back
-  where
-    there : allB n P ≡ true → (P z && allB n Q) ≡ true
-    there e = both (all-at n P e z h) (all-from n Q (λ i l. go i l (ℕ-discrete i z)))
-      where
-        go : (i : ℕ) → i < n → Dec (i ≡ z) → Q i ≡ true
-        go i l (yes q) = ap Q q ∙ t
-        go i l (no q) = o i q ∙ all-at n P e i l
-
-    back : (P z && allB n Q) ≡ true → allB n P ≡ true
-    back e = all-from n P (λ i l. go i l (ℕ-discrete i z))
-      where
-        go : (i : ℕ) → i < n → Dec (i ≡ z) → P i ≡ true
-        go i l (yes q) = ap P q ∙ and-left (P z) (allB n Q) e
-        go i l (no q) = sym (o i q) ∙ all-at n Q (and-right (P z) (allB n Q) e) i l
-
-module _ (n : ℕ) (st : ℕ → ℕ) where
-  -- no segment of a word of dirty segments is in state 1
-  abbrev pub noneOf : ℕ → Bool
-  noneOf m = allB n (λ i. not (isDirty m i && eqb (st i) 1))
-
-  -- where none of them is left
-  pub none-left : (ok : Bool) → ok ≡ (ok && noneOf 0)
-  none-left false = refl
-  none-left true = sym (all-from n _ (λ i l. ap (λ (x : Bool). not (x && eqb (st i) 1)) (no-bit i)))
-
-  -- where all before them passed or not: the lowest of them, and the others
-  pub none-more : (m : ℕ) → n ≤ 64 → 0 < m → m < 2 ^ n → (ok : Bool)
-      → (ok && noneOf m) ≡ ((ok && not (eqb (st (trailingZeros 64 m)) 1)) && noneOf (withoutLowest m))
-  none-more m h p b false = refl
-  none-more m h p b true =
-      let z = trailingZeros 64 m in
-      let l = lowest-bit 64 m p (omega (arith, pow-mono h)) in
-      all-but-one n z _ _ (lowest-below n m h p b) (ap (may z) (l .gone)) (λ i ne. ap (may i) (l .others i ne))
-      ∙ ap (λ (x : ℕ). may z x && noneOf (withoutLowest m)) (l .there)
-    where
-      may : ℕ → ℕ → Bool
-      may i x = not (eqb x 1 && eqb (st i) 1)
 
 -- ---- refusals 1 to 5
 

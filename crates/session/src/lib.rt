@@ -9,8 +9,9 @@ ghost use Prim.Native.Nat.{ℕ, _+_, _*_, _/_, _^_, _≤_, _<_};
 ghost use lib.Count.{ones};
 ghost use lib.Dec.{eqb, ltb};
 ghost use lib.ListN.{length, getD};
-ghost use Rattle.model.specs.Range.{allB};
-ghost use Rattle.model.specs.Layout.{wordSize, lineSize, most, ssMain};
+ghost use Rattle.model.specs.Range.{allB, oneIf};
+ghost use Rattle.model.specs.Words.{wordOf};
+ghost use Rattle.model.specs.Layout.{lineSize, wordSize, most, ssMain};
 ghost use Rattle.model.specs.Status.{codeOf, firstError};
 ghost use Rattle.model.specs.Session.{isDirty, setBit, setBits, withCheckpoint, validSession, contextErrors};
 ghost use Rattle.model.specs.Counts.{dirtyTotal};
@@ -20,11 +21,16 @@ ghost use Rattle.session.specs.Marked.{markedSegments};
 // Bytes of a line, as indexes count them.
 const LINE_SIZE: usize = Layout::LINE_SIZE as usize;
 
-// Main segments that are passed over at once.
+// Bytes of a word, as indexes count them: states that are looked up at once.
+const WORD_SIZE: usize = Layout::WORD_SIZE as usize;
+
+// Main segments whose words of dirty blocks are passed over at once.
 const EIGHT: usize = 8;
 
-// A word with all bits set.
+// A word with all bits set, and one with all but the eight lowest.
 const ALL: u64 = 18446744073709551615;
+
+const BEYOND_EIGHT: u64 = 0xffffffffffffff00;
 
 // A word of dirty bits with the bits below `blocks` cleared; the others are kept.
 pub fn clear_blocks(word: u64, blocks: u64) -> u64
@@ -87,19 +93,31 @@ fn rest_clear(words: &[u64], mains: usize) -> bool
     seen == 0
 }
 
-// Whether no dirty segment is in state 1. The dirty segments are looked up alone, from the lowest on: `rest` has those that are left.
+// Which of the eight main segments from `p` on are dirty and in state 1: 1 in the byte of each that is. A byte of `tested` is 0 exactly
+// where the state is 1 and the segment is dirty: the bits of those that are not are laid over.
+fn own_dirty(segments: u64, states: &[u8], p: usize) -> u64
+    requires { ⌜ (p + wordSize ≤ most) × (p + wordSize ≤ length (now states)) ⌝ }
+    ensures { λ r. ⌜ r ≡ wordOf (λ i. oneIf (isDirty segments i && eqb (getD (now (states .entry)) i 0) ssMain)) p ⌝ }
+{
+    let word = words::word_at(states, p);
+    let tested = (word ^ words::each(Layout::SS_MAIN)) | words::spread(!segments, p as u64);
+    words::present(tested) ^ words::each(1)
+}
+
+// Whether no dirty segment is in state 1. States are looked up eight at a time, and only where a segment is dirty: `rest` has the dirty
+// segments that are left, and a turn looks up the eight among which the lowest of them is.
 fn none_in_main(segments: u64, states: &[u8], mains: u64) -> bool
     requires { ⌜ (mains ≤ most) × (segments < 2 ^ mains) × (lineSize ≤ length (now states)) ⌝ }
     ensures { λ r. ⌜ r ≡ allB mains (λ i. not (isDirty segments i && eqb (getD (now (states .entry)) i 0) ssMain)) ⌝ }
 {
     let mut rest = segments;
-    let mut ok = true;
+    let mut seen: u64 = 0;
     while rest != 0 {
-        let main = u64::trailing_zeros(rest) as usize;
-        ok = ok & (states[main] != Layout::SS_MAIN);
-        rest = rest & (rest - 1);
+        let p = u64::trailing_zeros(rest) as usize / WORD_SIZE * WORD_SIZE;
+        seen = seen | own_dirty(rest, states, p);
+        rest = rest & (BEYOND_EIGHT << p);
     }
-    ok
+    seen == 0
 }
 
 // Whether the session of these parts is valid, by the states of main segments.

@@ -43,7 +43,7 @@ bit-low : (m : ℕ) → bit m 0 ≡ m % 2
 unfolding bit
 bit-low m = omega arith
 
-bit-half : (m f : ℕ) → bit (m / 2) f ≡ bit m (suc f)
+pub bit-half : (m f : ℕ) → bit (m / 2) f ≡ bit m (suc f)
 unfolding bit
 bit-half m f = ap (λ (x : ℕ). x % 2) (shr-shr m 1 f) ∙ ap (λ (k : ℕ). m / 2 ^ k % 2) (let e : 1 + f ≡ suc f = omega arith in e)
 

@@ -189,10 +189,17 @@ pub xor-bytes : (f : ℕ → ℕ) (b : ℕ) → b < 256 → ((k : ℕ) → k < 8
 unfolding wordOf
 xor-bytes f b h s = by-bytes bitXor (xor-block 8) refl 8 f (λ k. b) 0 (λ k a c. s k c) (λ k a c. h)
 
--- a mark is a byte
-mark-byte : (t : Bool) → cond t 0 1 < 256
-mark-byte true = omega arith
-mark-byte false = omega arith
+-- 1 in the bytes that pass a test, where the marks of `present` are 1 in those that fail it
+pub marks-flipped : (t : ℕ → Bool) → bitXor (wordOf (λ k. cond (t k) 0 1) 0) (wordOf (λ k. 1) 0) ≡ wordOf (λ k. oneIf (t k)) 0
+marks-flipped t = xor-bytes (λ k. cond (t k) 0 1) 1 (omega arith) (λ k l. small (t k)) ∙ word-cong _ _ 0 (λ k a l. flipped (t k))
+  where
+    small : (b : Bool) → cond b 0 1 < 256
+    small true = omega arith
+    small false = omega arith
+
+    flipped : (b : Bool) → bitXor (cond b 0 1) 1 ≡ oneIf b
+    flipped true = refl
+    flipped false = refl
 
 -- ---- the lowest place of a byte in a word
 
@@ -260,12 +267,7 @@ byte-place f b = omega (arith, ap (trailingZeros 64) marks, trailing-word same)
     same : ℕ → Bool
     same k = eqb (f k) b
 
-    flipped : (t : Bool) → bitXor (cond t 0 1) 1 ≡ oneIf t
-    flipped true = refl
-    flipped false = refl
-
     marks : bitXor (wordOf (λ k. cond (eqb (bitXor (f k) b) 0) 0 1) 0) eachOne ≡ wordOf (λ k. oneIf (same k)) 0
     marks =
         ap (bitXor (wordOf (λ k. cond (eqb (bitXor (f k) b) 0) 0 1) 0)) (each-byte 1)
-        ∙ xor-bytes _ 1 (omega arith) (λ k l. mark-byte (eqb (bitXor (f k) b) 0))
-        ∙ word-cong _ _ 0 (λ k a c. ap (λ (t : Bool). bitXor (cond t 0 1) 1) (xor-same (f k) b) ∙ flipped (same k))
+        ∙ marks-flipped (λ k. eqb (bitXor (f k) b) 0) ∙ word-cong _ _ 0 (λ k a c. ap oneIf (xor-same (f k) b))
