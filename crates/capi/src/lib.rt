@@ -61,12 +61,12 @@ pub extern "C" fn crpm_write(
     let words = &session[..];
     let layout = interface::layout_in(words);
     let segments = words[DIRTY_SEGMENTS_AT];
-    let blocks = &words[DIRTY_BLOCKS_AT..SESSION_WORDS];
+    let dirty_blocks = &words[DIRTY_BLOCKS_AT..SESSION_WORDS];
     let written = write::write_parts(
         image,
         layout,
         segments,
-        blocks,
+        dirty_blocks,
         main,
         block,
         offset,
@@ -96,8 +96,8 @@ pub extern "C" fn crpm_checkpoint(
     let words = &session[..];
     let layout = interface::layout_in(words);
     let segments = words[DIRTY_SEGMENTS_AT];
-    let blocks = &words[DIRTY_BLOCKS_AT..SESSION_WORDS];
-    let done = checkpoint::checkpoint_parts(image, layout, segments, blocks, trace);
+    let dirty_blocks = &words[DIRTY_BLOCKS_AT..SESSION_WORDS];
+    let done = checkpoint::checkpoint_parts(image, layout, segments, dirty_blocks, trace);
     let status = done.status;
     let code = status.code();
     *ops = done.ops;

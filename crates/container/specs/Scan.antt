@@ -1,11 +1,11 @@
 -- The tests that one pass over pairs and one over states make: a helper's, which says nothing that users rely on. That they are the
 -- rules of model's Container is shown in proofs/. Assumes nothing.
-use Prim.Native.Nat.{ℕ, zero, suc, _+_, _/_, _%_, _<_}
+use Prim.Native.Nat.{ℕ, zero, suc, _+_, _*_, _/_, _%_, _<_}
 use mathlib.Core.Path.{_≡_}
 use mathlib.Core.Bool.{Bool, true, cond, _&&_, _||_}
 use lib.Dec.{ltb, eqb}
 use Rattle.model.specs.declared.Layout.{Layout}
-use Rattle.model.specs.Layout.{most, unpaired}
+use Rattle.model.specs.Layout.{wordSize, most, unpaired}
 use Rattle.model.specs.Session.{isDirty, setBit}
 use Rattle.model.specs.Container.{isPaired, validMetadata}
 use Rattle.container.specs.declared.Paired.{Paired}
@@ -38,7 +38,9 @@ layPairs pr (suc n) = layPair (layPairs pr n) (pr n)
 unfoldable pub stateFits : ℕ → ℕ → Bool
 stateFits paired st = eqb st paired || eqb st (suc paired)
 
--- what the passes answer: whether states and pairs are valid, and then, which main segments are paired
+-- what the passes answer: whether states and pairs are valid, and the set that the words of pairs lay; where they are valid, it has the
+-- main segments that are paired
 pub record ExaminedBy (l : Layout) (st pr : ℕ → ℕ) (r : Examined) : Type 0 where
   pub valid : r .valid ≡ validMetadata l st pr
+  pub set : r .paired ≡ layPairs pr (wordSize * ((l .backups + 7) / wordSize)) .set
   pub paired : r .valid ≡ true → (i : ℕ) → i < l .mains → isDirty (r .paired) i ≡ isPaired l pr i

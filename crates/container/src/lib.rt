@@ -18,8 +18,6 @@ ghost use Rattle.container.specs.Scan.{halfLine, layPair, layBytes, lowB
 // Sizes as indexes count them, and the bits of a byte.
 const WORD_SIZE: usize = Layout::WORD_SIZE as usize;
 
-const LINE_WORDS: usize = Layout::LINE_WORDS as usize;
-
 const BYTE_BITS: usize = 8;
 
 // Half a line, and its words.
@@ -52,7 +50,7 @@ pub struct Examined {
 }
 
 // How many words hold the first n bytes of a line.
-fn words_of(n: usize) -> usize
+fn word_count(n: usize) -> usize
     requires { ⌜ n ≤ most ⌝ }
     ensures { λ r. ⌜ (n ≤ wordSize * r) × (wordSize * r < n + wordSize) × (r ≤ lineWords) ⌝ }
 {
@@ -168,7 +166,7 @@ fn half_is(image: &[u8], at: usize, n: usize, value: u8) -> bool
     seen == 0
 }
 
-// Whether the bytes of a line from its byte n on all have this value. On most boards the second half is tested whole, without a count.
+// Whether the bytes of a line from its byte n on all have this value. Where n is below 32, the second half is tested whole, without a count.
 fn rest_is(image: &[u8], line: usize, n: usize, value: u8) -> bool
     requires { ⌜ (n ≤ most) × (line + lineSize ≤ length (now image)) ⌝ }
     ensures { λ r. ⌜ r ≡ allB most (λ i. ltb i n || eqb (byteAt (now (image .entry)) (line + i)) value) ⌝ }
@@ -207,10 +205,10 @@ pub fn examine(image: &[u8], layout: Layout, line: usize) -> Examined
 {
     let mains = layout.mains as usize;
     let backups = layout.backups as usize;
-    let paired = scan_pairs(image, words_of(backups));
+    let paired = scan_pairs(image, word_count(backups));
     let set = paired.set;
     let pairs_ok = (u64::count_ones(set) as u64 == paired.count) & words::within(set, layout.mains);
-    let states_ok = states_fit(image, line, words_of(mains), set);
+    let states_ok = states_fit(image, line, word_count(mains), set);
     let rest_ok = rest_is(image, Layout::PAIRS_AT as usize, backups, Layout::UNPAIRED)
         & rest_is(image, line, mains, Layout::SS_INITIAL);
     Examined {

@@ -19,13 +19,6 @@ const ACTIVE: u64 = 0;
 
 const INACTIVE: u64 = 1;
 
-// A byte as a number.
-pub fn wide(byte: u8) -> u64
-    ensures { λ r. ⌜ r ≡ byte ⌝ }
-{
-    byte as u64
-}
-
 // ---- the lines of states
 
 // Where the line of states stands that the parity of the epoch picks, so many epochs from now.

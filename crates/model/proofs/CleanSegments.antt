@@ -6,8 +6,8 @@ use mathlib.Core.Logic.{_↔_, _≢_, _⊎_, inl, inr, ⊎-elim}
 use mathlib.Core.Bool.{Bool, true, false, cond, true≢false}
 use mathlib.Core.List.{List, [], _∷_, _++_, append-nil, append-assoc}
 use native.Mathlib.Omega.{arith}
-use lib.ListN.{length, take}
-use lib.Seq.{take-length}
+use lib.ListN.{length, take, drop, take-append-drop}
+use lib.Seq.{take-length, take-append-seam}
 use Rattle.model.specs.declared.Layout.{Layout}
 use Rattle.model.specs.declared.Session.{Session}
 use Rattle.model.specs.Words.{Image, Bytes, byteAt}
@@ -107,17 +107,27 @@ module _ (s : State) (st : Stands s) where
   abbrev L : Ops
   L = leanCheckpointOps (s .device .session) (s .device .image)
 
+  crash-cut : (p q : ℕ) → take p L ≡ leaveOut (inClean σ) (take q C)
+      → (H : Image) → CrashImage (d .durable) (d .played ++ take p L) H ↔ CrashImage (d .durable) (d .played ++ take q C) H
+  crash-cut p q e H =
+      subst₂ (λ (X Y : Ops). CrashImage (d .durable) X H ↔ CrashImage (d .durable) Y H)
+      (append-nil _ ∙ ap (λ (X : Ops). d .played ++ X) (sym e)) (append-nil _) (crash-lean (take q C) (λ ℓ o i x. each-take _ q C (o i x)) [] H)
+
   cut-lean : (p : ℕ) → (q : ℕ) × (q ≤ length C) × (take p L ≡ leaveOut (inClean σ) (take q C))
       × ((H : Image) → CrashImage (d .durable) (d .played ++ take p L) H ↔ CrashImage (d .durable) (d .played ++ take q C) H)
   cut-lean p =
       let r = leave-out-part (inClean σ) C p in
-      let e : take p L ≡ leaveOut (inClean σ) (take (r .0) C) = ap (take p) (lean-shorter σ (d .image)) ∙ r .2 in (
-        r .0,
-        r .1,
-        e,
-        λ H. subst₂ (λ (X Y : Ops). CrashImage (d .durable) X H ↔ CrashImage (d .durable) Y H)
-            (append-nil _ ∙ ap (λ (X : Ops). d .played ++ X) (sym e)) (append-nil _) (crash-lean (take (r .0) C) (λ ℓ o i x. each-take _ (r .0) C (o i x)) [] H),
-      )
+      let e : take p L ≡ leaveOut (inClean σ) (take (r .0) C) = ap (take p) (lean-shorter σ (d .image)) ∙ r .2 in
+      (r .0, r .1, e, crash-cut p (r .0) e)
+
+  -- the first q operations of the checkpoint, without those flushes, are a first part of the shorter one
+  back-lean : (q : ℕ) → (p : ℕ) × (take p L ≡ leaveOut (inClean σ) (take q C))
+      × ((H : Image) → CrashImage (d .durable) (d .played ++ take p L) H ↔ CrashImage (d .durable) (d .played ++ take q C) H)
+  back-lean q =
+      let A : Ops = leaveOut (inClean σ) (take q C) in
+      let split = lean-shorter σ (d .image) ∙ ap (leaveOut (inClean σ)) (sym (take-append-drop q C)) ∙ leave-out-append (inClean σ) (take q C) (drop q C) in
+      let e : take (length A) L ≡ A = ap (take (length A)) split ∙ take-append-seam A (leaveOut (inClean σ) (drop q C)) in
+      (length A, e, crash-cut (length A) q e)
 
   later-lean : (E : Ops) (H : Image) → CrashImage (d .durable) (d .played ++ L ++ E) H ↔ CrashImage (d .durable) (d .played ++ C ++ E) H
   later-lean E H =
@@ -130,6 +140,7 @@ clean-flushes-needless = record {
   fewer = lean-fewer;
   leaves = λ s I J. ap (λ (X : Ops). replay X J) (lean-shorter s I) ∙ leave-out-replay (inClean s) (checkpointOps s I) J;
   cut = λ l I t b h cs permitted. cut-lean _ (history-stands l I t b h cs permitted);
+  back = λ l I t b h cs permitted. back-lean _ (history-stands l I t b h cs permitted);
   later = λ l I t b h cs permitted. later-lean _ (history-stands l I t b h cs permitted);
 }
 

@@ -23,8 +23,8 @@ use Rattle.model.specs.Reference.{Page, CallArgs, openArgs, writeArgs, c
 use Rattle.model.specs.History.{Call, Device, State, outcome, step, run, openedImage, start, Permitted, AllPermitted}
 use Rattle.model.specs.CrashSafety.{Recovers, Moment, between, during, EpochStored, InEveryHistory, CutOpenings}
 
--- main segment i of a session was not written since the last checkpoint; the session of zeros, which a refused opening answers and every
--- call refuses, has no main segment
+-- main segment i of a session was not written since the last checkpoint; the session of zeros, which a refused opening answers and which a
+-- write and a checkpoint refuse, has no main segment
 abbrev pub CleanSegment : Session → ℕ → Type 0
 CleanSegment s i = (i < s .layout .mains) × (dirtySegment s i ≡ false)
 
@@ -81,6 +81,14 @@ pub record CleanFlushesNeedless : Type 0 where
       let L : Ops = leanCheckpointOps σ (s .device .image) in
       (p : ℕ) → (q : ℕ) × (q ≤ length C) × (take p L ≡ leaveOut (inClean σ) (take q C))
       × ((H : Image) → CrashImage (s .device .durable) (s .device .played ++ take p L) H ↔ CrashImage (s .device .durable) (s .device .played ++ take q C) H))
+  -- and the other way: of the checkpoint, cut after any number q, a crash may leave what it may leave of the shorter one, cut after the same
+  -- operations without the flushes that are left out
+  pub back : InEveryHistory (λ s.
+      let σ : Session = s .device .session in
+      let C : Ops = checkpointOps σ (s .device .image) in
+      let L : Ops = leanCheckpointOps σ (s .device .image) in
+      (q : ℕ) → (p : ℕ) × (take p L ≡ leaveOut (inClean σ) (take q C))
+      × ((H : Image) → CrashImage (s .device .durable) (s .device .played ++ take p L) H ↔ CrashImage (s .device .durable) (s .device .played ++ take q C) H))
   -- and played whole, whatever is played afterwards
   pub later : InEveryHistory (λ s.
       let σ : Session = s .device .session in
@@ -88,7 +96,7 @@ pub record CleanFlushesNeedless : Type 0 where
       let L : Ops = leanCheckpointOps σ (s .device .image) in
       (E : Ops) (H : Image) → CrashImage (s .device .durable) (s .device .played ++ L ++ E) H ↔ CrashImage (s .device .durable) (s .device .played ++ C ++ E) H)
 
--- ---- a library whose checkpoints all leave them out, and which answers as this one does
+-- ---- a library whose checkpoints all leave them out, and which gives the same statuses and sessions: 11 by the operations of 11.2 too
 
 -- the operations of a call there: of a checkpoint without those flushes, of every other call as they are
 abbrev pub leanOf : Session → CallArgs → Ops → Ops

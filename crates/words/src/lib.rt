@@ -1,10 +1,10 @@
-// Words of an image: 8 bytes, the least significant first; and words whose eight bytes are tested or made at once.
+// Words of an image: 8 bytes, the least significant first; words whose eight bytes are tested or made at once; single bits of a word.
 ghost use mathlib.Core.Path.{_≡_};
 ghost use mathlib.Core.Bool.{cond};
 ghost use Prim.Native.Nat.{ℕ, _+_, _*_, _^_, _≤_, _<_};
 ghost use lib.Dec.{eqb, ltb};
 ghost use lib.ListN.{length};
-ghost use Rattle.model.specs.Range.{anyB, firstB};
+ghost use Rattle.model.specs.Range.{firstB};
 ghost use Rattle.model.specs.Words.{byteAt, wordOf, wordAt, storeWord};
 ghost use Rattle.model.specs.Layout.{wordSize, most};
 ghost use Rattle.model.specs.Session.{bit, isDirty};

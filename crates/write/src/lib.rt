@@ -8,12 +8,12 @@ use model::Session;
 use model::Status;
 use span::Span;
 ghost use mathlib.Core.Path.{_≡_};
-ghost use mathlib.Core.Bool.{cond};
+ghost use mathlib.Core.Bool.{false, cond};
 ghost use mathlib.Core.List.{List, _++_};
 ghost use Prim.Native.Nat.{ℕ, _+_, _-_, _*_, _^_, _≤_, _<_};
 ghost use lib.ListN.{length};
 ghost use Rattle.model.specs.Layout.{most, blockSize};
-ghost use Rattle.model.specs.Status.{codeOf, firstError};
+ghost use Rattle.model.specs.Status.{codeOf, firstError, served};
 ghost use Rattle.model.specs.Session.{setBits};
 ghost use Rattle.model.specs.Ops.{Ops, Trace};
 ghost use Rattle.model.specs.Outcome.{Gives};
@@ -103,7 +103,7 @@ pub struct Written {
 
 // A refusal: the dirty segments are handed back, and nothing stands on the trace.
 fn refused(status: Status, segments: u64) -> Written
-    ensures { λ r. ⌜ (r .status ≡ status) × (r .ops ≡ 0) ⌝ }
+    ensures { λ r. ⌜ (r .status ≡ status) × (r .ops ≡ 0) × (r .«dirty_segments» ≡ segments) × (r .word ≡ 0) ⌝ }
 {
     Written {
         status: status,
@@ -128,6 +128,7 @@ pub fn write_parts(
 ) -> Written
     requires { ⌜ most ≤ length (now words) ⌝ }
     ensures { λ r. ⌜ Gives (writeOutcome (sessionOf layout segments (now (words .entry))) (now (image .entry)) (writeArgsOf main block offset (now (bytes .entry))) (now (trace .entry))) (now (trace .entry)) (writtenAnswer (sessionOf layout segments (now (words .entry))) main r) (now (trace .exit)) ⌝ }
+    ensures { λ r. ⌜ (served (codeOf (r .status)) ≡ false → (r .«dirty_segments» ≡ segments) × (r .word ≡ 0)) ⌝ }
 {
     let span = Span {
         main: main,

@@ -13,14 +13,14 @@ layout-in-requires c κs = search needs
 shared-slice-read-segments : tie.Need-shared-slice-read-segments
 shared-slice-read-segments c = search needs
 
-sub-blocks : tie.Need-sub-blocks
-sub-blocks c = search needs
+sub-dirty-blocks : tie.Need-sub-dirty-blocks
+sub-dirty-blocks c = search needs
 
-part-blocks-start : tie.Need-part-blocks-start
-part-blocks-start c = search needs
+part-dirty-blocks-start : tie.Need-part-dirty-blocks-start
+part-dirty-blocks-start c = search needs
 
-part-blocks-end : tie.Need-part-blocks-end
-part-blocks-end c = search needs
+part-dirty-blocks-end : tie.Need-part-dirty-blocks-end
+part-dirty-blocks-end c = search needs
 
 checkpoint-parts-requires : tie.Need-checkpoint-parts-requires
 checkpoint-parts-requires c κs = search needs
@@ -64,9 +64,9 @@ crpm-checkpoint-spec =
     (tie.spec
     layout-in-requires
     shared-slice-read-segments
-    sub-blocks
-    part-blocks-start
-    part-blocks-end
+    sub-dirty-blocks
+    part-dirty-blocks-start
+    part-dirty-blocks-end
     checkpoint-parts-requires
     code-requires
     is-served-requires

@@ -16,14 +16,14 @@ layout-in-requires c κs = search needs
 shared-slice-read-segments : tie.Need-shared-slice-read-segments
 shared-slice-read-segments c = search needs
 
-sub-blocks : tie.Need-sub-blocks
-sub-blocks c = search needs
+sub-dirty-blocks : tie.Need-sub-dirty-blocks
+sub-dirty-blocks c = search needs
 
-part-blocks-start : tie.Need-part-blocks-start
-part-blocks-start c = search needs
+part-dirty-blocks-start : tie.Need-part-dirty-blocks-start
+part-dirty-blocks-start c = search needs
 
-part-blocks-end : tie.Need-part-blocks-end
-part-blocks-end c = search needs
+part-dirty-blocks-end : tie.Need-part-dirty-blocks-end
+part-dirty-blocks-end c = search needs
 
 write-parts-requires : tie.Need-write-parts-requires
 write-parts-requires c κs = search needs
@@ -44,7 +44,7 @@ add-session c =
     let v = l .before in
     let a = v .before .before .before .before .before .args in
     let w = writeArgsOf (a .main) (a .block) (a .offset) (a .bytes .now) in
-    omega (arith, served-main _ (a .image .now) w (a .trace .now) _ (r .write-parts .ensures .0) (sym (c .before .is-served .ensures) ∙ c .if1 .taken))
+    omega (arith, served-main _ (a .image .now) w (a .trace .now) _ (r .write-parts .ensures .0 .0) (sym (c .before .is-served .ensures) ∙ c .if1 .taken))
 
 mul-session : tie.Need-mul-session
 mul-session c =
@@ -53,7 +53,7 @@ mul-session c =
     let v = l .before in
     let a = v .before .before .before .before .before .args in
     let w = writeArgsOf (a .main) (a .block) (a .offset) (a .bytes .now) in
-    omega (arith, served-main _ (a .image .now) w (a .trace .now) _ (r .write-parts .ensures .0) (sym (c .before .is-served .ensures) ∙ c .if1 .taken))
+    omega (arith, served-main _ (a .image .now) w (a .trace .now) _ (r .write-parts .ensures .0 .0) (sym (c .before .is-served .ensures) ∙ c .if1 .taken))
 
 element-write-session-2 : tie.Need-element-write-session-2
 element-write-session-2 c =
@@ -62,7 +62,7 @@ element-write-session-2 c =
     let v = l .before in
     let a = v .before .before .before .before .before .args in
     let w = writeArgsOf (a .main) (a .block) (a .offset) (a .bytes .now) in
-    omega (arith, served-main _ (a .image .now) w (a .trace .now) _ (r .write-parts .ensures .0) (sym (c .before .is-served .ensures) ∙ c .if1 .taken))
+    omega (arith, served-main _ (a .image .now) w (a .trace .now) _ (r .write-parts .ensures .0 .0) (sym (c .before .is-served .ensures) ∙ c .if1 .taken))
 
 same-length : tie.Need-same-length
 same-length c = search needs
@@ -76,7 +76,7 @@ returns c =
     let w = writeArgsOf (a .main) (a .block) (a .offset) (a .bytes .now) in
     let e : length (a .session .now) ≡ sessionWords = search needs in
     write-stored (a .image .now) (a .session .now) e _ (lent-session (a .session .now) (l .layout-in .result) e (l .layout-in .ensures)) (a .trace .now) _ _ _ w
-    (r .write-parts .result) (c .before .before .code .ensures) refl (r .write-parts .ensures) (sym (c .before .is-served .ensures) ∙ c .if1 .taken)
+    (r .write-parts .result) (c .before .before .code .ensures) refl (r .write-parts .ensures .0) (sym (c .before .is-served .ensures) ∙ c .if1 .taken)
 
 same-length-2 : tie.Need-same-length-2
 same-length-2 c = search needs
@@ -90,7 +90,7 @@ returns-2 c =
     let w = writeArgsOf (a .main) (a .block) (a .offset) (a .bytes .now) in
     let e : length (a .session .now) ≡ sessionWords = search needs in
     write-kept (a .image .now) (a .session .now) e _ (lent-session (a .session .now) (l .layout-in .result) e (l .layout-in .ensures)) (a .trace .now) _ _ _ w
-    (r .write-parts .result) (c .before .before .code .ensures) refl (r .write-parts .ensures) (sym (c .before .is-served .ensures) ∙ c .if1 .left)
+    (r .write-parts .result) (c .before .before .code .ensures) refl (r .write-parts .ensures .0) (sym (c .before .is-served .ensures) ∙ c .if1 .left)
 
 pub crpm-write-spec : {M : Type 1} → statement M
 crpm-write-spec =
@@ -98,9 +98,9 @@ crpm-write-spec =
     (tie.spec
     layout-in-requires
     shared-slice-read-segments
-    sub-blocks
-    part-blocks-start
-    part-blocks-end
+    sub-dirty-blocks
+    part-dirty-blocks-start
+    part-dirty-blocks-end
     write-parts-requires
     code-requires
     is-served-requires

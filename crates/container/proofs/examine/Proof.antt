@@ -1,4 +1,4 @@
-use Prim.Native.Nat.{ℕ, _*_, _^_, _≤_}
+use Prim.Native.Nat.{ℕ, _+_, _*_, _/_, _^_, _≤_}
 use mathlib.Core.Path.{_≡_, ap, ap₂, sym, _∙_}
 use mathlib.Core.Bool.{_&&_}
 use native.Mathlib.Omega.{arith}
@@ -9,14 +9,14 @@ use Rattle.model.specs.Range.{allB}
 use Rattle.model.specs.Session.{bit, isDirty}
 use Rattle.model.specs.Container.{segState, backupToMain}
 use Rattle.container.specs.declared.Paired.{Paired}
-use Rattle.container.specs.Scan.{stateFits}
+use Rattle.container.specs.Scan.{layPairs, stateFits}
 use Rattle.container.proofs.PairLaws.{set-small}
 use Rattle.container.proofs.ValidLaws.{tested-valid, tested-paired}
 use Rattle.container.proofs.examine.Statement.{statement}
 use Rattle.container.proofs.examine.Tie as tie
 
-words-of-requires : tie.Need-words-of-requires
-words-of-requires c κs = search needs
+word-count-requires : tie.Need-word-count-requires
+word-count-requires c κs = search needs
 
 scan-pairs-requires : tie.Need-scan-pairs-requires
 scan-pairs-requires c κs = search needs
@@ -25,14 +25,14 @@ cast-pairs-ok : tie.Need-cast-pairs-ok
 cast-pairs-ok c =
     let b = c .before .before .before in
     let pr = backupToMain (b .args .image .now) in
-    let p = 8 * c .before .words-of .result in
+    let p = 8 * c .before .word-count .result in
     omega (arith, ap (λ (x : Paired). ones (x .set)) (c .scan-pairs .ensures), ones-le 64 _ (set-small pr p))
 
 within-requires : tie.Need-within-requires
 within-requires c κs = search needs
 
-words-of-requires-2 : tie.Need-words-of-requires-2
-words-of-requires-2 c κs = search needs
+word-count-requires-2 : tie.Need-word-count-requires-2
+word-count-requires-2 c κs = search needs
 
 states-fit-requires : tie.Need-states-fit-requires
 states-fit-requires c κs = search needs
@@ -52,11 +52,12 @@ returns c =
     let l = a .layout in
     let st = segState I (a .line) in
     let pr = backupToMain I in
-    let p = 8 * d .before .words-of .result in
-    let q = 8 * b .words-of2 .result in
+    let p = 8 * d .before .word-count .result in
+    let q = 8 * b .word-count2 .result in
     let e = d .scan-pairs .ensures in
-    let pairs : l .backups ≤ p = d .before .words-of .ensures .0 in
-    let states : l .mains ≤ q = b .words-of2 .ensures .0 in
+    let pairs : l .backups ≤ p = d .before .word-count .ensures .0 in
+    let count : d .before .word-count .result ≡ (l .backups + 7) / 8 = omega (arith, d .before .word-count .ensures) in
+    let states : l .mains ≤ q = b .word-count2 .ensures .0 in
     let valid =
     ap₂ _&&_
     (ap₂ _&&_
@@ -66,6 +67,7 @@ returns c =
     in
     record {
       valid = valid ∙ tested-valid l st pr p q pairs states (omega arith) (omega arith);
+      set = ap (λ (x : Paired). x .set) e ∙ ap (λ (n : ℕ). layPairs pr (8 * n) .set) count;
       paired = λ h i m. ap (λ (x : Paired). isDirty (x .set) i) e ∙ tested-paired l st pr p q pairs states (omega arith) (omega arith) (sym valid ∙ h) i m;
     }
 
@@ -73,11 +75,11 @@ pub examine-spec : {M : Type 1} → statement M
 examine-spec =
     tie.close
     (tie.spec
-    words-of-requires
+    word-count-requires
     scan-pairs-requires
     cast-pairs-ok
     within-requires
-    words-of-requires-2
+    word-count-requires-2
     states-fit-requires
     rest-is-requires
     rest-is-requires-2

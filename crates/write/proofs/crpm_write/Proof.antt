@@ -19,14 +19,14 @@ mul-next c =
     let r = c .before .before .before .before in
     let a = r .before .before .before .before .before .before .before .before .before .args in
     let w = writeArgsOf (a .main) (a .block) (a .offset) (a .bytes .now) in
-    omega (arith, served-main (a .t2) (a .image .now) w (a .trace .now) _ (r .write-parts .ensures .0) (sym (c .before .is-served .ensures) ∙ c .if1 .taken))
+    omega (arith, served-main (a .t2) (a .image .now) w (a .trace .now) _ (r .write-parts .ensures .0 .0) (sym (c .before .is-served .ensures) ∙ c .if1 .taken))
 
 element-write-next : tie.Need-element-write-next
 element-write-next c =
     let r = c .before .before .before .before in
     let a = r .before .before .before .before .before .before .before .before .before .args in
     let w = writeArgsOf (a .main) (a .block) (a .offset) (a .bytes .now) in
-    served-main (a .t2) (a .image .now) w (a .trace .now) _ (r .write-parts .ensures .0) (sym (c .before .is-served .ensures) ∙ c .if1 .taken)
+    served-main (a .t2) (a .image .now) w (a .trace .now) _ (r .write-parts .ensures .0 .0) (sym (c .before .is-served .ensures) ∙ c .if1 .taken)
 
 same-length : tie.Need-same-length
 same-length c = search needs
@@ -35,7 +35,7 @@ returns : tie.Need-returns
 returns c =
     let r = c .before .before .before .before in
     let a = r .before .before .before .before .before .before .before .before .before .args in
-    let g = r .write-parts .ensures in
+    let g = r .write-parts .ensures .0 in
     let z = sym (c .before .is-served .ensures) ∙ c .if1 .taken in
     (g .0, ap (λ (b : Bool). cond b (writtenSession (a .t2) (a .main) (r .write-parts .result)) (a .t2)) (sym z) ∙ g .1, g .2, g .3)
 
@@ -46,7 +46,7 @@ returns-2 : tie.Need-returns-2
 returns-2 c =
     let r = c .before .before .before .before in
     let a = r .before .before .before .before .before .before .before .before .before .args in
-    let g = r .write-parts .ensures in
+    let g = r .write-parts .ensures .0 in
     let z = sym (c .before .is-served .ensures) ∙ c .if1 .left in
     (g .0, ap (λ (b : Bool). cond b (writtenSession (a .t2) (a .main) (r .write-parts .result)) (a .t2)) (sym z) ∙ g .1, g .2, g .3)
 

@@ -1,4 +1,5 @@
 use mathlib.Core.Path.{refl, sym, _∙_}
+use mathlib.Core.Bool.{true≢false}
 use native.Mathlib.Omega.{arith}
 use borrow.Author.Tests.{not-true, not-false, eqb-true}
 use borrow.Author.Needs.{needs}
@@ -23,7 +24,10 @@ returns c =
     let a = b .before .before .before .before .before .before .before .args in
     let s = sessionOf (a .layout) (a .segments) (a .words .now) in
     let w = writeArgsOf (a .main) (a .block) (a .offset) (a .bytes .now) in
-    refused-early s (a .image .now) w (a .trace .now) _ _ (b .before .before .early-status .ensures (a .bytes .now) refl) (sym (b .before .is-served .ensures) ∙ not-true _ (b .if1 .taken)) (c .refused .ensures)
+    let r = c .refused .ensures in (
+      refused-early s (a .image .now) w (a .trace .now) _ _ (b .before .before .early-status .ensures (a .bytes .now) refl) (sym (b .before .is-served .ensures) ∙ not-true _ (b .if1 .taken)) (r .0, r .1),
+      λ z. (r .2, r .3),
+    )
 
 mul-word : tie.Need-mul-word
 mul-word c =
@@ -110,8 +114,11 @@ returns-2 c =
     let «is» = plan .ensures .0 (a .words .now) in
     let count = length-ops s (a .image .now) w (a .trace .now) (plan .result) (place .result) ok «is» (place .ensures) _ _ (l .before .before .copy-count .ensures .0 (a .image .now)) (l .before .span-words .ensures) in
     let e = l .late-status .ensures (ops s (a .image .now) w (a .trace .now) (plan .result) (place .result) ok «is» (place .ensures)) (a .trace .now) count refl in
-    refused-late s (a .image .now) w (a .trace .now) (plan .result) (place .result) ok «is» (place .ensures) _ _ e
-    (sym (c .before .before .is-served2 .ensures) ∙ not-true _ (c .before .if2 .taken)) (c .refused2 .ensures)
+    let r = c .refused2 .ensures in (
+      refused-late s (a .image .now) w (a .trace .now) (plan .result) (place .result) ok «is» (place .ensures) _ _ e
+          (sym (c .before .before .is-served2 .ensures) ∙ not-true _ (c .before .if2 .taken)) (r .0, r .1),
+      λ z. (r .2, r .3),
+    )
 
 put-write-requires : tie.Need-put-write-requires
 put-write-requires c κs =
@@ -163,9 +170,11 @@ returns-3 c =
     let «is» = plan .ensures .0 (a .words .now) in
     let count = length-ops s (a .image .now) w (a .trace .now) (plan .result) (place .result) ok «is» (place .ensures) _ _ (l .before .before .copy-count .ensures .0 (a .image .now)) (l .before .span-words .ensures) in
     let e = l .late-status .ensures (ops s (a .image .now) w (a .trace .now) (plan .result) (place .result) ok «is» (place .ensures)) (a .trace .now) count refl in
-    let z = sym e ∙ eqb-true _ _ (sym (c .before .before .before .before .before .before .before .is-served2 .ensures) ∙ not-false _ (c .before .before .before .before .before .before .if2 .left)) in
-    served-write s (a .image .now) w (a .trace .now) (plan .result) (place .result) ok «is» (place .ensures) z _ _ _ refl (c .before .set-segment .ensures)
-    (c .written-word .ensures (a .bytes .now) refl) (sym count) (c .before .before .before .before .put-write .ensures)
+    let z = sym e ∙ eqb-true _ _ (sym (c .before .before .before .before .before .before .before .is-served2 .ensures) ∙ not-false _ (c .before .before .before .before .before .before .if2 .left)) in (
+      served-write s (a .image .now) w (a .trace .now) (plan .result) (place .result) ok «is» (place .ensures) z _ _ _ refl (c .before .set-segment .ensures)
+          (c .written-word .ensures (a .bytes .now) refl) (sym count) (c .before .before .before .before .put-write .ensures),
+      λ z. absurd (true≢false z),
+    )
 
 pub write-parts-spec : {M : Type 1} → statement M
 write-parts-spec =
