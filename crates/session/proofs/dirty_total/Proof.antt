@@ -1,5 +1,5 @@
 use Prim.Native.Nat.{ℕ, _+_, _-_, _*_, _≤_}
-use mathlib.Core.Path.{_≡_, sym, ap, _∙_}
+use mathlib.Core.Path.{_≡_, refl, sym, ap, _∙_}
 use mathlib.Core.Bool.{cond}
 use native.Mathlib.Omega.{arith}
 use lib.Bits.{and-le-r}
@@ -10,7 +10,7 @@ use Rattle.model.specs.Range.{sumTo}
 use Rattle.model.specs.Session.{isDirty}
 use Rattle.model.specs.Counts.{dirtyTotal}
 use Rattle.model.proofs.Laws.Counts.{dirty-ones}
-use Rattle.model.proofs.Laws.Range.{sum-ext, sum-none}
+use Rattle.model.proofs.Laws.Range.{sum-ext}
 use Rattle.words.proofs.WalkLaws.{Walk, walk-start, walk-beyond, walk-member, walk-below, walk-turns}
 use Rattle.session.proofs.MarkedLaws.{marked-sum, sum-ends, sum-turns}
 use borrow.Author.Needs.{needs}
@@ -25,7 +25,8 @@ abbrev μ-loop : tie.MeasureT-loop
 μ-loop words marked sum₀ rest₀ sum rest = rest
 
 loop-holds : tie.Need-loop-holds Inv-loop μ-loop
-loop-holds c = (0, (walk-start (search needs) (search needs), (sum-none _, search needs)))
+unfolding sumTo
+loop-holds c = (0, (walk-start (search needs) (search needs), (refl, search needs)))
 
 cast-dirty-count : tie.Need-cast-dirty-count Inv-loop μ-loop
 cast-dirty-count c = omega (arith, trailing-le 64 (c .before .loop .rest))
