@@ -3,21 +3,21 @@
 -- first: a statement that permits more than the specification, or excludes a call, is refused here.
 use Prim.Native.Nat.{ℕ, _+_, _≤_}
 use mathlib.Core.Path.{_≡_, sym, ap, _∙_}
-use mathlib.Core.Logic.{_≢_, ⊎-elim}
+use mathlib.Core.Logic.{⊎-elim}
 use mathlib.Core.List.{List, [], _∷_}
 use native.Mathlib.Omega.{arith}
 use lib.ListN.{length, drop, length-drop}
 use lib.Seq.{length-take-le}
+use Rattle.model.specs.Outcome.{Lent}
 use Rattle.model.specs.declared.Layout.{Layout}
 use Rattle.model.specs.Words.{Image, Bytes}
 use Rattle.model.specs.Layout.{blockSize}
-use Rattle.model.specs.Ops.{Trace}
-use Rattle.model.specs.Open.{openStatus, openOutcome}
+use Rattle.model.specs.Open.{openOutcome}
 use Rattle.model.specs.Write.{WriteArgs}
 use Rattle.model.specs.Crash.{CrashImage}
 use Rattle.model.specs.Reference.{Page, pageAt, pageBlock}
 use Rattle.model.specs.History.{Call, callWrite, Device, State, playedOps, Permitted, AllPermitted}
-use Rattle.model.specs.CrashSafety.{ReadsBlock, between, during, Window, MayShow, CutOpenings, again}
+use Rattle.model.specs.CrashSafety.{ReadsBlock, between, during, Window, MayShow, Enough, CutOpenings, again}
 
 -- ---- the pages that may be shown
 
@@ -53,15 +53,15 @@ module _ (l : Layout) (I : Image) (i b : ℕ) where
 -- ---- openings that are cut
 
 -- what stands may be opened, this opening cut, and so any number of openings of what it leaves
-pub one-more-opening : (d : Device) (H J : Image) (t : Trace) (p : ℕ) → openStatus (d .session .layout) (d .image) t ≢ 11
-    → CrashImage (d .image) (playedOps (d .image) (openOutcome (d .session .layout) (d .image) t .ops) t p) H
+pub one-more-opening : (d : Device) (H J : Image) (t : Lent) (p : ℕ) → Enough (d .session .layout) (d .image) t
+    → CrashImage (d .image) (playedOps (d .image) (openOutcome (d .session .layout) (d .image) t .ops) (t .trace) p) H
     → CutOpenings CrashImage (d .session .layout) H J → CutOpenings CrashImage (d .session .layout) (d .image) J
 one-more-opening d H J t p long cut rest = let c = again t p long cut rest in c
 
 -- ---- the calls of a history
 
 -- every write of bytes is one of them, served or refused
-pub write-permitted : (w : WriteArgs) (t : Trace) → Bytes (w .bytes) → Permitted (callWrite w t)
+pub write-permitted : (w : WriteArgs) (t : Lent) → Bytes (w .bytes) → Permitted (callWrite w t)
 write-permitted w t small = small
 
 -- and a call is permitted by itself, whatever comes before it

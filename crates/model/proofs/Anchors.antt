@@ -16,8 +16,8 @@ use Rattle.model.specs.Layout.{lineSize, unpaired, ssMain, layoutOf, inR
 use Rattle.model.specs.Status.{firstError}
 use Rattle.model.specs.Container.{committedEpoch, activeLine, inactiveLine, isPaired, validMetadata, isFree, anyFree, newBackup, byState, headerOk}
 use Rattle.model.specs.Session.{bit, setBit, setBits, dirtyWord, dirtySegment, freshSession, zeroSession, withDirty, withCheckpoint}
-use Rattle.model.specs.Ops.{store, clwb, sfence, Trace, encode, replay, stores, clwbs, putBlock, persistCopy, copySegment, storeByte}
-use Rattle.model.specs.Outcome.{outcomeOf}
+use Rattle.model.specs.Ops.{store, clwb, sfence, encode, replay, stores, clwbs, putBlock, persistCopy, copySegment, storeByte}
+use Rattle.model.specs.Outcome.{Lent, outcomeOf}
 use Rattle.model.specs.Replay.{wellFormed, allWellFormed, replayCount, replayStatus}
 use Rattle.model.specs.Format.{container, formatted}
 use Rattle.model.specs.Open.{recoveryAction, actionOps, openStatus, openOutcome}
@@ -119,12 +119,12 @@ unfolding actionOps recoveryAction byState copySegment persistCopy putBlock stor
 backup-renewed I = refl
 
 -- refused, it answers a session of zeros
-pub refused-zeros : (I : Image) (t : Trace) → openOutcome (layoutOf 65 1 1) I t .session ≡ zeroSession
+pub refused-zeros : (I : Image) (t : Lent) → openOutcome (layoutOf 65 1 1) I t .session ≡ zeroSession
 unfolding openOutcome openStatus outcomeOf firstError sizesOk inRange freshSession zeroSession
 refused-zeros I t = refl
 
 -- which the next call is given
-pub zeros-count : (d : Device) (t : Trace) → deviceStep d (callOpen (layoutOf 65 1 1) t) .session ≡ zeroSession
+pub zeros-count : (d : Device) (t : Lent) → deviceStep d (callOpen (layoutOf 65 1 1) t) .session ≡ zeroSession
 unfolding deviceStep openOutcome openStatus outcomeOf firstError sizesOk inRange freshSession zeroSession
 zeros-count d t = refl
 
@@ -169,19 +169,19 @@ new-lowest = (refl, refl, refl)
 -- ---- spans
 
 -- two bytes at the last place of a block: the second is the first of the next block; the other bytes of their words stay
-pub over-the-end : spanOps (layoutOf 1 1 2) (replicate 1536 9) (writeArgsOf 0 0 255 (7 ∷ 8 ∷ []))
+pub over-the-end : spanOps (layoutOf 1 1 2) (replicate 1536 9) (writeArgsOf 0 0 0 255 (7 ∷ 8 ∷ []))
     ≡ store 760 0x0709090909090909 ∷ store 768 0x0909090909090908 ∷ []
 unfolding spanOps stores cat wordOf littleEndian overlay
 over-the-end = refl
 
 -- they leave no main segment of two blocks from block 0 on, and they do from block 1 on, where one byte does not
-pub segment-end : (spanBad (layoutOf 1 1 2) (writeArgsOf 0 0 255 (7 ∷ 8 ∷ [])) ≡ false) × (spanBad (layoutOf 1 1 2) (writeArgsOf 0 1 255 (7 ∷ 8 ∷ [])) ≡ true)
-    × (spanBad (layoutOf 1 1 2) (writeArgsOf 0 1 255 (7 ∷ [])) ≡ false)
+pub segment-end : (spanBad (layoutOf 1 1 2) (writeArgsOf 0 0 0 255 (7 ∷ 8 ∷ [])) ≡ false) × (spanBad (layoutOf 1 1 2) (writeArgsOf 0 0 1 255 (7 ∷ 8 ∷ [])) ≡ true)
+    × (spanBad (layoutOf 1 1 2) (writeArgsOf 0 0 1 255 (7 ∷ [])) ≡ false)
 unfolding spanBad
 segment-end = (refl, refl, refl)
 
 -- an offset of 256 is bad though there are more blocks, and so is a span without bytes
-pub offset-end : (spanBad (layoutOf 1 1 2) (writeArgsOf 0 0 256 (7 ∷ [])) ≡ true) × (spanBad (layoutOf 1 1 2) (writeArgsOf 0 0 0 []) ≡ true)
+pub offset-end : (spanBad (layoutOf 1 1 2) (writeArgsOf 0 0 0 256 (7 ∷ [])) ≡ true) × (spanBad (layoutOf 1 1 2) (writeArgsOf 0 0 0 0 []) ≡ true)
 unfolding spanBad
 offset-end = (refl, refl)
 

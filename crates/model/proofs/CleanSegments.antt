@@ -14,14 +14,14 @@ use Rattle.model.specs.Words.{Image, Bytes, byteAt}
 use Rattle.model.specs.Layout.{lineSize, metadataSize, segmentSize, mainAt}
 use Rattle.model.specs.Session.{dirtySegment, freshSession, zeroSession}
 use Rattle.model.specs.Status.{served}
-use Rattle.model.specs.Ops.{Ops, Trace, replay}
-use Rattle.model.specs.Outcome.{outcomeOf}
+use Rattle.model.specs.Ops.{Ops, replay}
+use Rattle.model.specs.Outcome.{Lent, outcomeOf}
 use Rattle.model.specs.Open.{openStatus}
 use Rattle.model.specs.Checkpoint.{checkpointOps, checkpointStatus, checkpointOutcome}
 use Rattle.model.specs.Crash.{CrashImage}
 use Rattle.model.specs.Reference.{Page, CallArgs, openArgs, writeArgs, checkpointArgs}
 use Rattle.model.specs.History.{Call, Device, State, answers, outcome, calledOps, deviceStep, step, run, openedImage, start, AllPermitted}
-use Rattle.model.specs.CrashSafety.{Recovers, Moment, between, during, EpochStored, CutOpenings}
+use Rattle.model.specs.CrashSafety.{Recovers, Moment, between, during, EpochStored, Enough, CutOpenings}
 use Rattle.model.specs.CleanSegments.{CleanSegment, CleanSettled, leanCheckpointOps, inClean, leaveOut, CleanFlushesNeedless, leanOf, leanOps, leanPlayed, LeanPermittedAt, leanPlayedAt, LeanMayShow, LeanSafety}
 use Rattle.model.proofs.Laws.CleanSegments.{leave-out-append, leave-out-replay, leave-out-part, leave-out-more, in-clean, clean-found, lean-shorter, lean-fewer}
 use Rattle.model.proofs.Laws.Ops.{replayed-image}
@@ -153,10 +153,10 @@ epoch-left out O h = (leaveOut out (h .0), leaveOut out (h .1), h .2, ap (leaveO
 
 module _ (s : State) (st : Stands s) where
   -- what a checkpoint plays, served or not
-  abbrev checkpointed : Trace → Ops
+  abbrev checkpointed : Lent → Ops
   checkpointed t = checkpointOutcome (s .device .session) (s .device .image) t .ops
 
-  checkpointed-off : (t : Trace) (ℓ : ℕ) → Off ℓ (C s st) → Off ℓ (checkpointed t)
+  checkpointed-off : (t : Lent) (ℓ : ℕ) → Off ℓ (C s st) → Off ℓ (checkpointed t)
   unfolding checkpointOutcome outcomeOf
   checkpointed-off t ℓ o = go (served (checkpointStatus (s .device .session) (s .device .image) t))
     where
@@ -169,11 +169,11 @@ module _ (s : State) (st : Stands s) where
       → CrashImage (s .device .durable) (s .device .played ++ outcome (s .device) c .ops ++ E) H
   crash-call c E H = go (c .args)
     where
-      go : (a : CallArgs) → let O : Ops = answers (s .device .session) (s .device .image) a (c .trace) .ops in
+      go : (a : CallArgs) → let O : Ops = answers (s .device .session) (s .device .image) a (c .lends) .ops in
           CrashImage (s .device .durable) (s .device .played ++ leanOf (s .device .session) a O ++ E) H → CrashImage (s .device .durable) (s .device .played ++ O ++ E) H
       go (openArgs l) = λ x. x
       go (writeArgs w) = λ x. x
-      go checkpointArgs = crash-lean s st (checkpointed (c .trace)) (checkpointed-off (c .trace)) E H .0
+      go checkpointArgs = crash-lean s st (checkpointed (c .lends)) (checkpointed-off (c .lends)) E H .0
 
   -- the first p operations of a call that has more are the first q of the call here, but for those flushes
   abbrev Cut : Call → ℕ → Type 0
@@ -186,17 +186,17 @@ module _ (s : State) (st : Stands s) where
   cut-call : (c : Call) (p : ℕ) → Cut c p
   cut-call c p = go (c .args)
     where
-      go : (a : CallArgs) → Cut (record { args = a; trace = c .trace }) p
+      go : (a : CallArgs) → Cut (record { args = a; lends = c .lends }) p
       go (openArgs l) = (p, (λ h. h), (λ h. h), λ H x. x)
       go (writeArgs w) = (p, (λ h. h), (λ h. h), λ H x. x)
       go checkpointArgs =
-          let O : Ops = checkpointed (c .trace) in
+          let O : Ops = checkpointed (c .lends) in
           let r = leave-out-part (inClean (s .device .session)) O p in (
             r .0,
             leave-out-more (inClean (s .device .session)) O p (r .0) (r .2),
             (λ h. subst EpochStored (sym (r .2)) (epoch-left (inClean (s .device .session)) (take (r .0) O) h)),
             λ H x. subst (λ (X : Ops). CrashImage (s .device .durable) X H) (append-nil _)
-                (crash-lean s st (take (r .0) O) (λ ℓ o i e. each-take _ (r .0) O (checkpointed-off (c .trace) ℓ o i e)) [] H .0
+                (crash-lean s st (take (r .0) O) (λ ℓ o i e. each-take _ (r .0) O (checkpointed-off (c .lends) ℓ o i e)) [] H .0
                 (subst (λ (X : Ops). CrashImage (s .device .durable) X H) (sym (append-nil _ ∙ ap (λ (X : Ops). s .device .played ++ X) (sym (r .2)))) x)),
           )
 
@@ -205,7 +205,7 @@ module _ (s : State) (st : Stands s) where
   unfolding step deviceStep
   called-image c =
       let O : Ops = outcome (s .device) c .ops in
-      replayed-image (s .device .image) O (c .trace) (length O) (whole-lines s st) (call-ok (s .device) c) ∙ ap (λ (X : Ops). replay X (s .device .image)) (take-length O)
+      replayed-image (s .device .image) O (c .lends .trace) (length O) (whole-lines s st) (call-ok (s .device) c) ∙ ap (λ (X : Ops). replay X (s .device .image)) (take-length O)
 
 -- and there
 lean-replay : (s : Session) (a : CallArgs) (O : Ops) (I : Image) → replay (leanOf s a O) I ≡ replay O I
@@ -240,13 +240,13 @@ run-image s (c ∷ cs) st permitted =
     ∙ run-image (step s c) cs (argument s st c (permitted .0) .stands) (permitted .1)
 
 -- demand 3 at a moment of a history, where a crash may leave the same there as here
-moment-safety : (l : Layout) (I : Image) (t : Trace) → Bytes I → openStatus l I t ≡ 0 → (cs : List Call) → AllPermitted cs
+moment-safety : (l : Layout) (I : Image) (t : Lent) → Bytes I → openStatus l I t ≡ 0 → (cs : List Call) → AllPermitted cs
     → let s : State = run (start l I t) cs in
     (O : Ops) → ((E : Ops) (H : Image) → CrashImage (openedImage l I t) (O ++ E) H → CrashImage (s .device .durable) (s .device .played ++ E) H)
     → (m : Moment) → LeanPermittedAt (s .device) m
     → (H : Image) → CrashImage (openedImage l I t) (leanPlayedAt O (s .device) m) H
     → (H′ : Image) → CutOpenings CrashImage (s .device .layout) H H′
-    → (t′ : Trace) → openStatus (s .device .layout) H′ t′ ≢ 11
+    → (t′ : Lent) → Enough (s .device .layout) H′ t′
     → (Q : Page) × LeanMayShow s m Q × Recovers (s .device .layout) H′ t′ Q × Bytes H′
 moment-safety l I t b h cs permitted O same between at H x H′ openings t′ ne =
     let s : State = run (start l I t) cs in

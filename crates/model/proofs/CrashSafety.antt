@@ -2,9 +2,10 @@
 -- stands keeps standing, and a crash at any moment leaves what recovers to a permitted page; openings keep that, cut or not.
 use mathlib.Core.Path.{_≡_, refl}
 use mathlib.Core.List.{List, [], _∷_}
+use Rattle.model.specs.Outcome.{Lent}
 use Rattle.model.specs.declared.Layout.{Layout}
 use Rattle.model.specs.Words.{Image, Bytes}
-use Rattle.model.specs.Ops.{Ops, Trace}
+use Rattle.model.specs.Ops.{Ops}
 use Rattle.model.specs.Open.{openStatus}
 use Rattle.model.specs.Crash.{CrashImage}
 use Rattle.model.specs.Reference.{CallArgs, openArgs, writeArgs, checkpointArgs}
@@ -21,17 +22,17 @@ use Rattle.model.proofs.Argument.Openings.{openings-keep, recovers, sta
 pub argument : (s : State) → Stands s → (c : Call) → Permitted c → Argument s c
 argument s st c = go (c .args)
   where
-    go : (a : CallArgs) → PermittedArgs a → Argument s (record { args = a; trace = c .trace })
-    go (openArgs k) h = open-argument s st k (c .trace)
-    go (writeArgs w) h = write-argument s st w (c .trace) h
-    go checkpointArgs h = checkpoint-argument s st (c .trace)
+    go : (a : CallArgs) → PermittedArgs a → Argument s (record { args = a; lends = c .lends })
+    go (openArgs k) h = open-argument s st k (c .lends)
+    go (writeArgs w) h = write-argument s st w (c .lends) h
+    go checkpointArgs h = checkpoint-argument s st (c .lends)
 
 pub run-stands : (s : State) (cs : List Call) → Stands s → AllPermitted cs → Stands (run s cs)
 unfolding run
 run-stands s [] st permitted = st
 run-stands s (c ∷ cs) st permitted = run-stands (step s c) cs (argument s st c (permitted .0) .stands) (permitted .1)
 
-pub history-stands : (l : Layout) (I : Image) (t : Trace) → Bytes I → openStatus l I t ≡ 0 → (cs : List Call) → AllPermitted cs → Stands (run (start l I t) cs)
+pub history-stands : (l : Layout) (I : Image) (t : Lent) → Bytes I → openStatus l I t ≡ 0 → (cs : List Call) → AllPermitted cs → Stands (run (start l I t) cs)
 history-stands l I t b h cs permitted = run-stands (start l I t) cs (start-stands l I t b h) permitted
 
 -- A CRASH at any moment

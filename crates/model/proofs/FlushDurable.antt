@@ -8,11 +8,12 @@ use native.Mathlib.Omega.{arith}
 use native.Mathlib.Decide.{decLe}
 use lib.ListN.{length, take}
 use lib.Seq.{ext-getD, take-length, take-append-le}
+use Rattle.model.specs.Outcome.{Lent, lent}
 use Rattle.model.specs.declared.Layout.{Layout}
 use Rattle.model.specs.Words.{Image, Bytes, byteAt}
 use Rattle.model.specs.Layout.{lineSize, SizesOk, imageSize}
 use Rattle.model.specs.Container.{activeLine}
-use Rattle.model.specs.Ops.{Ops, Trace, sfence, replay, clwbs}
+use Rattle.model.specs.Ops.{Ops, sfence, replay, clwbs}
 use Rattle.model.specs.Format.{formatted}
 use Rattle.model.specs.Open.{recoveryOps, openStatus, openOutcome}
 use Rattle.model.specs.Crash.{Stage, CrashImage}
@@ -40,7 +41,7 @@ format-puts : (l : Layout) → SizesOk l → Puts (formatStores l) 0 (8 * (image
 unfolding formatStores
 format-puts l h =
     puts-stores (imageSize l / 8) 0 _ (byteAt (formatted l))
-    (λ k b x y. byte-of-word (byteAt (formatted l)) (8 * k) b (formatted-starts l h [] .0) y ∙ ap (byteAt (formatted l)) (omega arith))
+    (λ k b x y. byte-of-word (byteAt (formatted l)) (8 * k) b (formatted-starts l h (lent [] []) .0) y ∙ ap (byteAt (formatted l)) (omega arith))
 
 pub format-by-stores : FormatByStores
 format-by-stores l I h =
@@ -106,7 +107,7 @@ unfolding run step deviceStep
 run-durable s [] = refl
 run-durable s (c ∷ cs) = run-durable (step s c) cs
 
-start-whole : (l : Layout) (I : Image) (t : Trace) → openStatus l I t ≡ 0 → (cs : List Call) → length (run (start l I t) cs .device .durable) % lineSize ≡ 0
+start-whole : (l : Layout) (I : Image) (t : Lent) → openStatus l I t ≡ 0 → (cs : List Call) → length (run (start l I t) cs .device .durable) % lineSize ≡ 0
 unfolding start
 start-whole l I t h cs =
     let O = recoveryOps l I (activeLine I) in
@@ -120,7 +121,7 @@ restart-safety l I t b h cs permitted m at t₁ ne₁ p H c H′ openings t′ n
     let W : Ops = playedAt (s .device) m in
     let J : Image = imageAt (s .device) m in
     let f = flush-durable (s .device .durable) W (start-whole l I t h cs) in
-    let E : Ops = playedOps J (openOutcome (s .device .layout) J t₁ .ops) t₁ p in
+    let E : Ops = playedOps J (openOutcome (s .device .layout) J t₁ .ops) (t₁ .trace) p in
     let g : CrashImage J E H = f .1 E H .0 (subst (λ (F : Ops). CrashImage (s .device .durable) (W ++ F ++ E) H) (flush-same J (s .device .durable) (length-replay W (s .device .durable))) c) in
     -- a crash may leave J, so an opening of J shows a page that is permitted, and what stands is bytes
     let y = crash-safety l I t b h cs permitted m at J (f .0) J none t₁ ne₁ in
@@ -146,7 +147,7 @@ module _ (l : Layout) (I : Image) (W : Ops) (f : Formats l I W) where
   flushed-settled ℓ h = flush-settles I ℓ whole h W
 
   -- a served opening, played whole
-  module _ (t : Trace) (h : openStatus l (formatted l) t ≡ 0) where
+  module _ (t : Lent) (h : openStatus l (formatted l) t ≡ 0) where
     abbrev O : Ops
     O = recoveryOps l (formatted l) (activeLine (formatted l))
 
@@ -181,6 +182,6 @@ format-starts l I W f t h cs m H =
 
 pub format-safety : FormatSafety
 format-safety l I W f t h p H c H′ openings t′ ne =
-    let d = format-durable l I W f (playedOps (formatted l) (openOutcome l (formatted l) t .ops) t p) H in
+    let d = format-durable l I W f (playedOps (formatted l) (openOutcome l (formatted l) t .ops) (t .trace) p) H in
     subst (λ (Q : Page). Recovers l H′ t′ Q × Bytes H′) (formatted-checkpoint l (sizes l I W f))
-    (opening-safety l (formatted l) t (formatted-starts l (sizes l I W f) t .0) h H′ (again t p (λ e. omega arith) (d .0 c) openings) t′ ne)
+    (opening-safety l (formatted l) t (formatted-starts l (sizes l I W f) t .0) h H′ (again t p ((λ e. omega arith), (λ e. omega arith)) (d .0 c) openings) t′ ne)

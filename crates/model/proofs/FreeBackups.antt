@@ -15,8 +15,7 @@ use Rattle.model.specs.Words.{Image}
 use Rattle.model.specs.Status.{served}
 use Rattle.model.specs.Container.{activeState, backupToMain, Valid}
 use Rattle.model.specs.Session.{dirtySegment}
-use Rattle.model.specs.Ops.{Trace}
-use Rattle.model.specs.Outcome.{outcomeOf}
+use Rattle.model.specs.Outcome.{Lent, outcomeOf}
 use Rattle.model.specs.Write.{WriteArgs, needsCopy, writeErrors, writeStatus, writeOutcome}
 use Rattle.model.specs.Checkpoint.{nextState}
 use Rattle.model.specs.Reference.{CallArgs, openArgs, writeArgs, checkpointArgs}
@@ -41,14 +40,14 @@ module _ (s : State) (st : Stands s) where
   abbrev there : Device
   there = s .device
 
-  valid : Valid (there .layout) (activeState (there .image)) (backupToMain (there .image))
+  pub valid : Valid (there .layout) (activeState (there .image)) (backupToMain (there .image))
   valid = subst (λ (J : Image). Valid (there .layout) (activeState J) (backupToMain J)) (sym (st .image)) (st .inv .recovers .holds .valid)
 
   in-use : inUse there ≡ inBackup there
   in-use = in-use-counted (there .layout) _ _ (st .inv .recovers .fit .sizes) valid .0
 
   -- a write that is refused with 9 has the session of the last served call, so the module's states tell
-  nine-full : (w : WriteArgs) (t : Trace) → outcome there (callWrite w t) .status ≡ 9 → inBackup there ≡ there .layout .backups
+  pub nine-full : (w : WriteArgs) (t : Lent) → outcome there (callWrite w t) .status ≡ 9 → inBackup there ≡ there .layout .backups
   unfolding writeOutcome outcomeOf
   nine-full w t h =
       let q = session-known s st (λ x. writeStatus x (there .image) w t) (zero-write (there .image) w t) (λ x. omega (arith, h, x)) in
@@ -90,14 +89,14 @@ module _ (s : State) (st : Stands s) (c : Call) (p : Permitted c) where
   write-inside : outcome d c .status ≡ 0 → (w : WriteArgs) → c .args ≡ writeArgs w → w .main < d .layout .mains
   unfolding writeOutcome outcomeOf writeStatus
   write-inside h w e =
-      let z : writeStatus (d .session) (d .image) w (c .trace) ≡ 0 =
-      subst (λ (a : CallArgs). answers (d .session) (d .image) a (c .trace) .status ≡ 0) e h in
+      let z : writeStatus (d .session) (d .image) w (c .lends) ≡ 0 =
+      subst (λ (a : CallArgs). answers (d .session) (d .image) a (c .lends) .status ≡ 0) e h in
       let q : d .session ≡ st .session =
-      session-known s st (λ x. writeStatus x (d .image) w (c .trace)) (zero-write (d .image) w (c .trace)) (λ x. omega arith) in
-      let m = leb-false (d .session .layout .mains) (w .main) (served-condition (writeErrors (d .session) (d .image) w (c .trace)) (omega arith) z 6) in
+      session-known s st (λ x. writeStatus x (d .image) w (c .lends)) (zero-write (d .image) w (c .lends)) (λ x. omega arith) in
+      let m = leb-false (d .session .layout .mains) (w .main) (served-condition (writeErrors (d .session) (d .image) w (c .lends)) (omega arith) z 6) in
       omega (arith, m, ap (λ (x : Session). x .layout .mains) q, ap (λ (x : Layout). x .mains) (st .sized))
 
-  copied-step : (isCheckpoint (c .args) && served (outcome d c .status)) ≡ false
+  pub copied-step : (isCheckpoint (c .args) && served (outcome d c .status)) ≡ false
       → inBackup (step s c .device) ≡ inBackup d + oneIf (isCopying (d .session) (d .image) (c .args) && served (outcome d c .status))
   unfolding step deviceStep
   copied-step e = go (served (outcome d c .status)) refl e (argument s st c p .states)
@@ -121,11 +120,11 @@ run-copied s (c ∷ cs) st permitted none =
 
 -- ---- after a served checkpoint
 
-module _ (s : State) (st : Stands s) (t : Trace) (h : outcome (s .device) (callCheckpoint t) .status ≡ 0) where
+module _ (s : State) (st : Stands s) (t : Lent) (h : outcome (s .device) (callCheckpoint t) .status ≡ 0) where
   abbrev after : State
   after = step s (callCheckpoint t)
 
-  stands-after : Stands after
+  pub stands-after : Stands after
   stands-after = argument s st (callCheckpoint t) tt .stands
 
   -- no main segment is in state 2
@@ -135,7 +134,7 @@ module _ (s : State) (st : Stands s) (t : Trace) (h : outcome (s .device) (callC
       argument s st (callCheckpoint t) tt .states i m ∙ rw (eq-eqb _ _ h) in
       omega (arith, two, e, next-most (activeState (s .device .image) i) (dirtySegment (s .device .session) i))
 
-  none-in-backup : inBackup (after .device) ≡ 0
+  pub none-in-backup : inBackup (after .device) ≡ 0
   unfolding step deviceStep
   none-in-backup = in-backup-none (s .device .layout) _ none-two
 

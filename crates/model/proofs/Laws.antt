@@ -9,6 +9,7 @@ pub mod Status
 pub mod Refusals
 -- metadata, session, operations, what a call answers
 pub mod Container
+pub mod Clients
 pub mod Session
 pub mod Ops
 pub mod Outcome

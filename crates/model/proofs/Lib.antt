@@ -9,4 +9,5 @@ pub mod Sisters
 pub mod FlushDurable
 pub mod States
 pub mod FreeBackups
+pub mod Shares
 pub mod CleanSegments

@@ -1,7 +1,7 @@
 -- The sisters of demand 3 (specs/CrashSafety.antt), proved: the reads follow the model, the same calls on the same board leave the same, a
 -- finished opening settles, openings alone are safe, the epoch counts the checkpoints.
 use Prim.Native.Nat.{ℕ, _+_}
-use mathlib.Core.Path.{_≡_, refl, sym, ap, _∙_, subst, subst₂}
+use mathlib.Core.Path.{_≡_, refl, sym, ap, ap₂, _∙_, subst, subst₂}
 use mathlib.Core.Logic.{_≢_, _⊎_, inl, inr, ⊎-elim}
 use mathlib.Core.Bool.{Bool, true, false, cond}
 use mathlib.Core.List.{List, [], _∷_, _++_}
@@ -11,14 +11,15 @@ use Rattle.model.specs.declared.Layout.{Layout}
 use Rattle.model.specs.declared.Session.{Session}
 use Rattle.model.specs.Words.{Image}
 use Rattle.model.specs.Status.{Errors, firstError, served}
-use Rattle.model.specs.Container.{committedEpoch, activeLine, checkpointBytes, containerErrors}
-use Rattle.model.specs.Session.{freshSession, zeroSession, withCheckpoint, contextErrors}
-use Rattle.model.specs.Ops.{Ops, Trace, traceShort, replay}
-use Rattle.model.specs.Outcome.{Outcome, outcomeOf}
+use Rattle.model.specs.Container.{committedEpoch, activeState, backupToMain, activeLine, freeBackups, checkpointBytes, containerErrors}
+use Rattle.model.specs.Session.{freshSession, zeroSession, withCheckpoint}
+use Rattle.model.specs.Ops.{Ops, Trace, traceErrors, traceShort, replay}
+use Rattle.model.specs.Clients.{Clients, clientsErrors, shareErrors, cleared}
+use Rattle.model.specs.Outcome.{Lent, lent, Outcome, outcomeOf}
 use Rattle.model.specs.Replay.{replayOutcome, replayedOps}
 use Rattle.model.specs.Open.{recoveryOps, openStatus, openOutcome}
-use Rattle.model.specs.Write.{copyPlan, writeOps, writeSession, backupErrors, earlyErrors, writeStatus, writeOutcome}
-use Rattle.model.specs.Checkpoint.{checkpointOps, epochErrors, checkpointStatus, checkpointOutcome}
+use Rattle.model.specs.Write.{copyPlan, copies, writeOps, writeSession, writeClients, backupErrors, earlyErrors, writeStatus, writeOutcome}
+use Rattle.model.specs.Checkpoint.{checkpointOps, lentErrors, epochErrors, checkpointStatus, checkpointOutcome}
 use Rattle.model.specs.Reference.{CallArgs, openArgs, writeArgs, checkpointArgs, modelStep}
 use Rattle.model.specs.Crash.{CrashImage}
 use Rattle.model.specs.History.{Call, Device, State, answers, outcome, reported, playedOps, replayedImage, deviceStep, step, run, openedImage, start, AllPermitted}
@@ -58,30 +59,40 @@ short-last (e ∷ es) a b x y = go (e .1) x y (short-last es a b)
     go true x y f = refl
     go false x y f = f x y
 
+-- a number that depends on records of clients, with equal records put in their place
+swapped : (f : Clients → ℕ) {R R′ : Clients} {n : ℕ} → R ≡ R′ → f R ≢ 11 → (f R′ ≢ 11 → f R′ ≡ n) → f R ≡ n
+swapped f e x g = ap f e ∙ g (subst (λ (R : Clients). f R ≢ 11) e x)
+
 -- a call looks at nothing of its trace but the length, and only to see whether it is too short
-module _ (s : Session) (I : Image) (t u : Trace) where
-  long-same : (a : CallArgs) → length t ≡ length u → answers s I a t ≡ answers s I a u
+module _ (s : Session) (I : Image) (t u : Lent) where
+  long-same : (a : CallArgs) → t .clients ≡ u .clients → length (t .trace) ≡ length (u .trace) → answers s I a t ≡ answers s I a u
   unfolding openOutcome openStatus writeOutcome writeStatus checkpointOutcome checkpointStatus traceShort
-  long-same (openArgs l) e = rw e
-  long-same (writeArgs w) e = rw e
-  long-same checkpointArgs e = rw e
+  long-same (openArgs l) c e = rw (c, e)
+  long-same (writeArgs w) c e = rw (c, e)
+  long-same checkpointArgs c e = rw (c, e)
 
-  enough-same : (a : CallArgs) → answers s I a t .status ≢ 11 → answers s I a u .status ≢ 11 → answers s I a t ≡ answers s I a u
+  enough-same : (a : CallArgs) → t .clients ≡ u .clients → answers s I a t .status ≢ 11 → answers s I a u .status ≢ 11 → answers s I a t ≡ answers s I a u
   unfolding openOutcome openStatus writeOutcome writeStatus checkpointOutcome checkpointStatus outcomeOf
-  enough-same (openArgs l) x y = ap (λ (e : ℕ). outcomeOf e zeroSession (freshSession l) (recoveryOps l I (activeLine I)))
-      (short-last (containerErrors l I) _ _ x y)
-  enough-same (writeArgs w) x y = ap (λ (e : ℕ). outcomeOf e s (writeSession s I w) (writeOps s I w))
-      (short-last (earlyErrors s I w ++ backupErrors (copyPlan s I (w .main))) _ _ x y)
-  enough-same checkpointArgs x y = ap (λ (e : ℕ). outcomeOf e s (withCheckpoint s) (checkpointOps s I))
-      (short-last (contextErrors s I ++ epochErrors I) _ _ x y)
+  enough-same (openArgs l) c x y =
+      ap₂ (λ (R : Clients) (e : ℕ). outcomeOf e zeroSession (freshSession l) R (cleared R) (recoveryOps l I (activeLine I))) c
+      (swapped (λ R. firstError (containerErrors l I ++ clientsErrors l R ++ traceErrors (recoveryOps l I (activeLine I)) (t .trace))) c x
+      (λ x′. short-last (containerErrors l I ++ clientsErrors l (u .clients)) _ _ x′ y))
+  enough-same (writeArgs w) c x y =
+      ap₂ (λ (R : Clients) (e : ℕ). outcomeOf e s (writeSession s I w) R (writeClients s I w R) (writeOps s I w)) c
+      (swapped (λ R. writeStatus s I w (lent R (t .trace))) c x
+      (λ x′. short-last (earlyErrors s I (u .clients) w ++ backupErrors (copyPlan s I (w .main)) ++ shareErrors (copies (copyPlan s I (w .main))) (u .clients) (w .client) (freeBackups (s .layout) (activeState I) (backupToMain I))) _ _ x′ y))
+  enough-same checkpointArgs c x y =
+      ap₂ (λ (R : Clients) (e : ℕ). outcomeOf e s (withCheckpoint s) R (cleared R) (checkpointOps s I)) c
+      (swapped (λ R. checkpointStatus s I (lent R (t .trace))) c x
+      (λ x′. short-last (lentErrors s I (u .clients) ++ epochErrors I) _ _ x′ y))
 
-  answers-same : (a : CallArgs) → (length t ≡ length u) ⊎ ((answers s I a t .status ≢ 11) × (answers s I a u .status ≢ 11)) → answers s I a t ≡ answers s I a u
-  answers-same a = ⊎-elim (long-same a) (λ x. enough-same a (x .0) (x .1))
+  answers-same : (a : CallArgs) → t .clients ≡ u .clients → (length (t .trace) ≡ length (u .trace)) ⊎ ((answers s I a t .status ≢ 11) × (answers s I a u .status ≢ 11)) → answers s I a t ≡ answers s I a u
+  answers-same a c = ⊎-elim (long-same a c) (λ x. enough-same a c (x .0) (x .1))
 
 outcomes-same : (d : Device) (b c : Call) → SameCall d b c → outcome d b ≡ outcome d c
-outcomes-same d b c (e, h) =
-    let at : outcome d b ≡ answers (d .session) (d .image) (c .args) (b .trace) = ap (λ (a : CallArgs). answers (d .session) (d .image) a (b .trace)) e in
-    at ∙ answers-same (d .session) (d .image) (b .trace) (c .trace) (c .args) (⊎-elim inl (λ x. inr (subst (λ (o : Outcome). o .status ≢ 11) at (x .0), x .1)) h)
+outcomes-same d b c (e, r, h) =
+    let at : outcome d b ≡ answers (d .session) (d .image) (c .args) (b .lends) = ap (λ (a : CallArgs). answers (d .session) (d .image) a (b .lends)) e in
+    at ∙ answers-same (d .session) (d .image) (b .lends) (c .lends) (c .args) r (⊎-elim inl (λ x. inr (subst (λ (o : Outcome). o .status ≢ 11) at (x .0), x .1)) h)
 
 -- and reports the same, whatever stood on the trace
 reported-same : (O : Ops) (t u : Trace) → reported O t ≡ reported O u
@@ -100,10 +111,10 @@ unfolding step deviceStep
 step-same s b c same =
     let d : Device = s .device in
     let o = outcomes-same d b c same in
-    let played = ap (λ (x : Outcome). playedOps (d .image) (x .ops) (b .trace) (length (x .ops))) o
-    ∙ played-same (d .image) (outcome d c .ops) (b .trace) (c .trace) (length (outcome d c .ops)) in
-    let image = ap (λ (x : Outcome). replayedImage (d .image) (x .ops) (b .trace) (length (x .ops))) o
-    ∙ image-same (d .image) (outcome d c .ops) (b .trace) (c .trace) (length (outcome d c .ops)) in
+    let played = ap (λ (x : Outcome). playedOps (d .image) (x .ops) (b .lends .trace) (length (x .ops))) o
+    ∙ played-same (d .image) (outcome d c .ops) (b .lends .trace) (c .lends .trace) (length (outcome d c .ops)) in
+    let image = ap (λ (x : Outcome). replayedImage (d .image) (x .ops) (b .lends .trace) (length (x .ops))) o
+    ∙ image-same (d .image) (outcome d c .ops) (b .lends .trace) (c .lends .trace) (length (outcome d c .ops)) in
     λ i. record {
       device = record { layout = d .layout; durable = d .durable; played = d .played ++ played i; image = image i; session = o i .session };
       model = modelStep (d .layout) (same .0 i) (served (o i .status)) (s .model);
@@ -116,20 +127,20 @@ run-same s [] (c ∷ cs) same = absurd same
 run-same s (b ∷ bs) [] same = absurd same
 run-same s (b ∷ bs) (c ∷ cs) same = run-same (step s b) bs cs (same .1) ∙ ap (λ (x : State). run x cs) (step-same s b c (same .0))
 
-opened-same : (l : Layout) (I : Image) (t u : Trace) → (length t ≡ length u) ⊎ ((openStatus l I t ≢ 11) × (openStatus l I u ≢ 11)) → openOutcome l I t ≡ openOutcome l I u
+opened-same : (l : Layout) (I : Image) (t u : Lent) → t .clients ≡ u .clients → (length (t .trace) ≡ length (u .trace)) ⊎ ((openStatus l I t ≢ 11) × (openStatus l I u ≢ 11)) → openOutcome l I t ≡ openOutcome l I u
 unfolding openOutcome outcomeOf
-opened-same l I t u h = answers-same zeroSession I t u (openArgs l) h
+opened-same l I t u r h = answers-same zeroSession I t u (openArgs l) r h
 
-start-same : (l : Layout) (I : Image) (t u : Trace) → openOutcome l I t ≡ openOutcome l I u → start l I t ≡ start l I u
+start-same : (l : Layout) (I : Image) (t u : Lent) → openOutcome l I t ≡ openOutcome l I u → start l I t ≡ start l I u
 unfolding start openedImage
-start-same l I t u e = rw (e, image-same I (openOutcome l I u .ops) t u (length (openOutcome l I u .ops))) refl
+start-same l I t u e = rw (e, image-same I (openOutcome l I u .ops) (t .trace) (u .trace) (length (openOutcome l I u .ops))) refl
 
 pub same-board : SameBoard
 same-board = record {
   calls = λ d b c same.
       let o = outcomes-same d b c same in
-      (o, ap (λ (x : Outcome). reported (x .ops) (b .trace)) o ∙ reported-same (outcome d c .ops) (b .trace) (c .trace));
-  histories = λ l I t u h bs cs same. run-same (start l I t) bs cs same ∙ ap (λ (s : State). run s cs) (start-same l I t u (opened-same l I t u h));
+      (o, ap (λ (x : Outcome). reported (x .ops) (b .lends .trace)) o ∙ reported-same (outcome d c .ops) (b .lends .trace) (c .lends .trace));
+  histories = λ l I t u r h bs cs same. run-same (start l I t) bs cs same ∙ ap (λ (s : State). run s cs) (start-same l I t u (opened-same l I t u r h));
 }
 
 -- ---- openings

@@ -16,8 +16,8 @@ use Rattle.model.specs.Layout.{layoutOf}
 use Rattle.model.specs.Status.{served}
 use Rattle.model.specs.Container.{activeState, activeLine, backupToMain, Valid, newBackup, byState, checkpointLocated}
 use Rattle.model.specs.Session.{dirtySegment, freshSession, zeroSession, withCheckpoint}
-use Rattle.model.specs.Ops.{Trace, replay}
-use Rattle.model.specs.Outcome.{outcomeOf}
+use Rattle.model.specs.Ops.{replay}
+use Rattle.model.specs.Outcome.{Lent, outcomeOf}
 use Rattle.model.specs.Open.{recoveryOps, openStatus, openOutcome}
 use Rattle.model.specs.Write.{WriteArgs, needsCopy, needsBackup, spanBlocks, writeSession, writeStatus, writeOutcome}
 use Rattle.model.specs.Checkpoint.{nextState, checkpointStatus, checkpointOutcome}
@@ -40,7 +40,7 @@ use Rattle.model.proofs.Argument.Openings.{opened-is, starting}
 use Rattle.model.proofs.CrashSafety.{argument, history-stands}
 
 -- the opening that a history starts with keeps the states
-pub opened-states : (l : Layout) (I : Image) (t : Trace) → Bytes I → openStatus l I t ≡ 0
+pub opened-states : (l : Layout) (I : Image) (t : Lent) → Bytes I → openStatus l I t ≡ 0
     → (i : ℕ) → i < l .mains → activeState (openedImage l I t) i ≡ activeState I i
 unfolding replay
 opened-states l I t b h i m =
@@ -66,7 +66,7 @@ pairs-follow = record {
   calls = λ l I t b h cs permitted c p j m. argument _ (history-stands l I t b h cs permitted) c p .pairs j m;
 }
 
-module _ (s : State) (st : Stands s) (w : WriteArgs) (t : Trace) (small : Bytes (w .bytes)) (h : outcome (s .device) (callWrite w t) .status ≡ 0)
+module _ (s : State) (st : Stands s) (w : WriteArgs) (t : Lent) (small : Bytes (w .bytes)) (h : outcome (s .device) (callWrite w t) .status ≡ 0)
     (needs : needsBackup (s .device .session) (s .device .image) (w .main) ≡ true) where
   abbrev d : Device
   d = s .device
@@ -116,7 +116,7 @@ empty-served s I (writeArgs w) i e d n = rw (ne-eqb i (w .main) (λ q. eqb-false
 empty-served s I checkpointArgs i e d n = ap₂ nextState e d ∙ next-clean
 
 -- a call that does not, or is refused, does not make it dirty
-not-dirtied : (s : Session) (I : Image) (a : CallArgs) (t : Trace) (i : ℕ) → dirtySegment s i ≡ false
+not-dirtied : (s : Session) (I : Image) (a : CallArgs) (t : Lent) (i : ℕ) → dirtySegment s i ≡ false
     → (isWriteTo i a && served (answers s I a t .status)) ≡ false → dirtySegment (answers s I a t .session) i ≡ false
 unfolding openOutcome writeOutcome checkpointOutcome outcomeOf
 not-dirtied s I (openArgs l) t i d n = go (served (openStatus l I t))
@@ -144,7 +144,7 @@ run-empty s (c ∷ cs) i st permitted m e none =
     run-empty (step s c) cs i (a .stands) (permitted .1) m
     (record {
       state = a .states i m ∙ go (served (outcome (s .device) c .status)) clear;
-      clean = not-dirtied (s .device .session) (s .device .image) (c .args) (c .trace) i (e .clean) clear;
+      clean = not-dirtied (s .device .session) (s .device .image) (c .args) (c .lends) i (e .clean) clear;
     })
     (omega (arith, none))
   where

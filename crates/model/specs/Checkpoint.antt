@@ -12,8 +12,9 @@ use Rattle.model.specs.Layout.{wordSize, blockSize, blockLines, lineWord
 use Rattle.model.specs.Status.{Errors, firstError}
 use Rattle.model.specs.Container.{activeState, committedEpoch, inactiveLine, byState}
 use Rattle.model.specs.Session.{isDirty, withCheckpoint, contextErrors}
-use Rattle.model.specs.Ops.{store, clwb, sfence, Ops, Trace, traceErrors, stores, clwbs, eachDirty}
-use Rattle.model.specs.Outcome.{Outcome, outcomeOf}
+use Rattle.model.specs.Ops.{store, clwb, sfence, Ops, traceErrors, stores, clwbs, eachDirty}
+use Rattle.model.specs.Clients.{Clients, clientsErrors, cleared}
+use Rattle.model.specs.Outcome.{Lent, Outcome, outcomeOf}
 
 -- every dirty block of every main segment, dirty or not, written back, upward, by the words of dirty blocks
 unfoldable pub flushDirty : Layout → List ℕ → Ops
@@ -46,11 +47,17 @@ checkpointOps s I =
 abbrev pub epochErrors : Image → Errors
 epochErrors I = (10, eqb (committedEpoch I) (2 ^ 64 - 1)) ∷ []
 
-abbrev pub checkpointErrors : Session → Image → Trace → Errors
-checkpointErrors s I t = contextErrors s I ++ epochErrors I ++ traceErrors (checkpointOps s I) t
+-- 1 to 5 and 13; 10 and 11
+abbrev pub lentErrors : Session → Image → Clients → Errors
+lentErrors s I R = contextErrors s I ++ clientsErrors (s .layout) R
 
-unfoldable pub checkpointStatus : Session → Image → Trace → ℕ
-checkpointStatus s I t = firstError (checkpointErrors s I t)
+abbrev pub checkpointErrors : Session → Image → Lent → Errors
+checkpointErrors s I k = lentErrors s I (k .clients) ++ epochErrors I ++ traceErrors (checkpointOps s I) (k .trace)
 
-unfoldable pub checkpointOutcome : Session → Image → Trace → Outcome
-checkpointOutcome s I t = outcomeOf (checkpointStatus s I t) s (withCheckpoint s) (checkpointOps s I)
+unfoldable pub checkpointStatus : Session → Image → Lent → ℕ
+checkpointStatus s I k = firstError (checkpointErrors s I k)
+
+-- served, it sets what the clients have taken to 0
+unfoldable pub checkpointOutcome : Session → Image → Lent → Outcome
+checkpointOutcome s I k =
+    outcomeOf (checkpointStatus s I k) s (withCheckpoint s) (k .clients) (cleared (k .clients)) (checkpointOps s I)

@@ -4,7 +4,7 @@
 -- does of the hardware.
 use Prim.Native.Nat.{ℕ, _+_, _*_, _≤_, _<_}
 use mathlib.Core.Path.{_≡_}
-use mathlib.Core.Logic.{_↔_, _≢_, _⊎_}
+use mathlib.Core.Logic.{_↔_, _⊎_}
 use mathlib.Core.Bool.{Bool, false, not, cond, _&&_}
 use mathlib.Core.List.{List, [], _∷_, _++_}
 use lib.Dec.{ltb, leb}
@@ -15,13 +15,14 @@ use Rattle.model.specs.Range.{cat, anyB, sumTo, oneIf}
 use Rattle.model.specs.Words.{Image, Bytes, byteAt}
 use Rattle.model.specs.Layout.{blockSize, blockLines, segmentSize, mainAt}
 use Rattle.model.specs.Session.{dirtyWord, dirtySegment, dirtyBlock}
-use Rattle.model.specs.Ops.{store, clwb, sfence, Ops, Trace, replay, clwbs, eachDirty}
+use Rattle.model.specs.Ops.{store, clwb, sfence, Ops, replay, clwbs, eachDirty}
+use Rattle.model.specs.Outcome.{Lent}
 use Rattle.model.specs.Open.{openStatus}
 use Rattle.model.specs.Checkpoint.{statesOps, epochOps, checkpointOps}
 use Rattle.model.specs.Crash.{CrashImage}
 use Rattle.model.specs.Reference.{Page, CallArgs, openArgs, writeArgs, checkpointArgs}
 use Rattle.model.specs.History.{Call, Device, State, outcome, step, run, openedImage, start, Permitted, AllPermitted}
-use Rattle.model.specs.CrashSafety.{Recovers, Moment, between, during, EpochStored, InEveryHistory, CutOpenings}
+use Rattle.model.specs.CrashSafety.{Recovers, Moment, between, during, EpochStored, InEveryHistory, Enough, CutOpenings}
 
 -- main segment i of a session was not written since the last checkpoint; the session of zeros, which a refused opening answers and which a
 -- write and a checkpoint refuse, has no main segment
@@ -130,12 +131,12 @@ LeanMayShow s (during c p) Q =
 -- any moment leaves what recovers to a permitted page
 abbrev pub LeanSafety : Type 0
 LeanSafety =
-    (l : Layout) (I : Image) (t : Trace) → Bytes I → openStatus l I t ≡ 0 → (cs : List Call) → AllPermitted cs
-    → let s : State = run (start l I t) cs in
-    let O : Ops = leanPlayed (start l I t) cs in
-    (replay O (openedImage l I t) ≡ s .device .image)
+    (l : Layout) (I : Image) (k : Lent) → Bytes I → openStatus l I k ≡ 0 → (cs : List Call) → AllPermitted cs
+    → let s : State = run (start l I k) cs in
+    let O : Ops = leanPlayed (start l I k) cs in
+    (replay O (openedImage l I k) ≡ s .device .image)
     × ((m : Moment) → LeanPermittedAt (s .device) m
-    → (H : Image) → CrashImage (openedImage l I t) (leanPlayedAt O (s .device) m) H
+    → (H : Image) → CrashImage (openedImage l I k) (leanPlayedAt O (s .device) m) H
     → (H′ : Image) → CutOpenings CrashImage (s .device .layout) H H′
-    → (t′ : Trace) → openStatus (s .device .layout) H′ t′ ≢ 11
-    → (Q : Page) × LeanMayShow s m Q × Recovers (s .device .layout) H′ t′ Q × Bytes H′)
+    → (k′ : Lent) → Enough (s .device .layout) H′ k′
+    → (Q : Page) × LeanMayShow s m Q × Recovers (s .device .layout) H′ k′ Q × Bytes H′)

@@ -11,7 +11,7 @@ use lib.ListN.{length, take, drop, replicate}
 use Rattle.model.specs.declared.Layout.{Layout}
 use Rattle.model.specs.declared.Located.{Located}
 use Rattle.model.specs.declared.Located.the-variants.{Nowhere, At}
-use Rattle.model.specs.Range.{cat, allB, anyB, firstB}
+use Rattle.model.specs.Range.{cat, allB, anyB, firstB, sumTo, oneIf}
 use Rattle.model.specs.Words.{Image, byteAt, wordAt}
 use Rattle.model.specs.Layout.{most, epochAt, mainsAt, backupsAt, blocksAt, pairsAt, unpaired, ssInitial, ssMain, ssBackup, stateLine, segmentSize, mainAt, backupAt, sizesOk, imageSize}
 use Rattle.model.specs.Status.{Errors}
@@ -87,6 +87,10 @@ isFree st pr j = eqb (pr j) unpaired || not (eqb (st (pr j)) ssBackup)
 
 unfoldable pub anyFree : Layout → (ℕ → ℕ) → (ℕ → ℕ) → Bool
 anyFree l st pr = anyB (l .backups) (isFree st pr)
+
+-- how many are free
+unfoldable pub freeBackups : Layout → (ℕ → ℕ) → (ℕ → ℕ) → ℕ
+freeBackups l st pr = sumTo (l .backups) (λ j. oneIf (isFree st pr j))
 
 -- the new backup segment, for a main segment that needs one (SPECIFICATION 3.4; the trade: a new spare): the lowest that is unpaired; if
 -- all are paired, the lowest whose main segment is in state 1; their number where there is none. NewBackup.antt says it in plain words

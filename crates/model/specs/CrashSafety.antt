@@ -9,7 +9,8 @@ use Rattle.model.specs.declared.Layout.{Layout}
 use Rattle.model.specs.Words.{Image, Bytes}
 use Rattle.model.specs.Layout.{blockSize, epochAt, ssInitial}
 use Rattle.model.specs.Container.{activeState, activeLine, checkpointBytes}
-use Rattle.model.specs.Ops.{Ops, Trace, store}
+use Rattle.model.specs.Ops.{Ops, store}
+use Rattle.model.specs.Outcome.{Lent}
 use Rattle.model.specs.Open.{openStatus, openOutcome}
 use Rattle.model.specs.Reads.{readStatus, workingBlock, checkpointBlock}
 use Rattle.model.specs.Crash.{CrashImage}
@@ -32,9 +33,9 @@ Reads l I W P = (i b : ℕ) → i < l .mains → b < l .blocks → ReadsBlock l 
 
 -- opening is served and, replayed whole, leaves an image of which both reads give the page Q; Q is also the page that a
 -- history which starts at this opening begins with (SPECIFICATION 8.8: an opening shows a page)
-pub record Recovers (l : Layout) (H : Image) (t : Trace) (Q : Page) : Type 0 where
-  pub accepted : openStatus l H t ≡ 0
-  pub shows : Reads l (openedImage l H t) Q Q
+pub record Recovers (l : Layout) (H : Image) (k : Lent) (Q : Page) : Type 0 where
+  pub accepted : openStatus l H k ≡ 0
+  pub shows : Reads l (openedImage l H k) Q Q
   pub begins : checkpointBytes l H (activeLine H) ≡ Q
 
 -- ---- the moment of the crash
@@ -69,23 +70,27 @@ abbrev pub MayShow : State → Moment → Page → Type 0
 MayShow s between Q = Q ≡ s .model .checkpoint
 MayShow s (during c p) Q = (Q ≡ s .model .checkpoint) ⊎ (Window (s .device) c p × (Q ≡ s .model .working))
 
--- P holds of the state of every history: it starts at any image that an opening serves, with any sizes and any trace, and
--- has any list of calls from there, refused ones included, with any arguments and traces
+-- P holds of the state of every history: it starts at any image that an opening serves, with any sizes, records of clients and trace, and
+-- has any list of calls from there, of all clients, refused ones included, with any arguments, records and traces
 abbrev pub InEveryHistory : (State → Type 0) → Type 0
 InEveryHistory P =
-    (l : Layout) (I : Image) (t : Trace) → Bytes I → openStatus l I t ≡ 0
-    → (cs : List Call) → AllPermitted cs → P (run (start l I t) cs)
+    (l : Layout) (I : Image) (k : Lent) → Bytes I → openStatus l I k ≡ 0
+    → (cs : List Call) → AllPermitted cs → P (run (start l I k) cs)
 
 -- ---- demand 3, for a relation R between what was durable, the operations played since and what a crash may leave
 
 abbrev pub CrashModel : Type 1
 CrashModel = Image → Ops → Image → Type 0
 
--- H becomes H′ through openings with the sizes l, each of them given what stands and any trace that 11 does not refuse,
--- and cut after any number of its operations
+-- an opening is lent a trace that 11 does not refuse, and records that 13 does not refuse
+abbrev pub Enough : Layout → Image → Lent → Type 0
+Enough l H k = (openStatus l H k ≢ 11) × (openStatus l H k ≢ 13)
+
+-- H becomes H′ through openings with the sizes l, each of them given what stands, any records and any trace that are not refused, and
+-- cut after any number of its operations
 pub data CutOpenings (R : CrashModel) (l : Layout) : Image → Image → Type 0 where
   none : {H : Image} → CutOpenings R l H H
-  again : {H H′ H″ : Image} (t : Trace) (p : ℕ) → openStatus l H t ≢ 11 → R H (playedOps H (openOutcome l H t .ops) t p) H′
+  again : {H H′ H″ : Image} (k : Lent) (p : ℕ) → Enough l H k → R H (playedOps H (openOutcome l H k .ops) (k .trace) p) H′
       → CutOpenings R l H′ H″ → CutOpenings R l H H″
 
 abbrev pub CrashSafetyFor : CrashModel → Type 0
@@ -96,10 +101,10 @@ CrashSafetyFor R = InEveryHistory (λ s.
     → (H : Image) → R (s .device .durable) (playedAt (s .device) m) H
     -- any number of openings that are cut themselves
     → (H′ : Image) → CutOpenings R (s .device .layout) H H′
-    -- any trace for the last opening that is long enough
-    → (t′ : Trace) → openStatus (s .device .layout) H′ t′ ≢ 11
+    -- any trace for the last opening that is long enough, and any records that 13 does not refuse
+    → (k : Lent) → Enough (s .device .layout) H′ k
     -- it is served, and shows one of the permitted pages, whole; what stands are bytes, so that another life can start there
-    → (Q : Page) × MayShow s m Q × Recovers (s .device .layout) H′ t′ Q × Bytes H′)
+    → (Q : Page) × MayShow s m Q × Recovers (s .device .layout) H′ k Q × Bytes H′)
 
 -- DEMAND 3 (SPECIFICATION 15.3). In the customer's words: "Opening with the same sizes and a long enough tape accepts what then
 -- stands, also after any number of such openings that were themselves cut in the same way, and the first that finishes shows

@@ -7,8 +7,8 @@ use Rattle.model.specs.declared.Layout.{Layout}
 use Rattle.model.specs.Range.{oneIf}
 use Rattle.model.specs.Words.{Image, Bytes}
 use Rattle.model.specs.Container.{committedEpoch}
-use Rattle.model.specs.Ops.{Trace}
 use Rattle.model.specs.Status.{served}
+use Rattle.model.specs.Outcome.{Lent}
 use Rattle.model.specs.Open.{openStatus}
 use Rattle.model.specs.Reference.{CallArgs, openArgs, writeArgs, checkpointArgs}
 use Rattle.model.specs.History.{Call, State, outcome, step, run, start, AllPermitted}
@@ -27,5 +27,5 @@ checkpoints s (c ∷ cs) = oneIf (isCheckpoint (c .args) && served (outcome (s .
 -- the epoch is the start's epoch and one more for each served checkpoint; nothing else changes it
 abbrev pub EpochCounts : Type 0
 EpochCounts =
-    (l : Layout) (I : Image) (t : Trace) → Bytes I → openStatus l I t ≡ 0 → (cs : List Call) → AllPermitted cs
-    → committedEpoch (run (start l I t) cs .device .image) ≡ committedEpoch I + checkpoints (start l I t) cs
+    (l : Layout) (I : Image) (k : Lent) → Bytes I → openStatus l I k ≡ 0 → (cs : List Call) → AllPermitted cs
+    → committedEpoch (run (start l I k) cs .device .image) ≡ committedEpoch I + checkpoints (start l I k) cs

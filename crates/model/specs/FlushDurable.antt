@@ -5,20 +5,21 @@
 -- proofs/FlushDurable.antt. Assumes what specs/Crash.antt does of the hardware.
 use Prim.Native.Nat.{ℕ, _*_, _/_, _%_}
 use mathlib.Core.Path.{_≡_}
-use mathlib.Core.Logic.{_↔_, _≢_}
+use mathlib.Core.Logic.{_↔_}
 use mathlib.Core.List.{List, [], _∷_, _++_}
 use lib.ListN.{length, replicate}
 use Rattle.model.specs.declared.Layout.{Layout}
 use Rattle.model.specs.Words.{Image, Bytes, wordAt}
 use Rattle.model.specs.Layout.{wordSize, lineSize, segmentSize, imageSize}
 use Rattle.model.specs.Container.{activeLine, checkpointBytes}
-use Rattle.model.specs.Ops.{Ops, Trace, sfence, replay, stores, clwbs}
+use Rattle.model.specs.Ops.{Ops, sfence, replay, stores, clwbs}
 use Rattle.model.specs.Format.{formatted, formatOutcome}
+use Rattle.model.specs.Outcome.{Lent}
 use Rattle.model.specs.Open.{openStatus, openOutcome}
 use Rattle.model.specs.Crash.{CrashImage}
 use Rattle.model.specs.Reference.{Page}
 use Rattle.model.specs.History.{Call, Device, State, playedOps, openedImage, start, run}
-use Rattle.model.specs.CrashSafety.{Recovers, Moment, PermittedAt, playedAt, MayShow, InEveryHistory, CutOpenings}
+use Rattle.model.specs.CrashSafety.{Recovers, Moment, PermittedAt, playedAt, MayShow, InEveryHistory, Enough, CutOpenings}
 
 -- every line of an image written back, upward, and a fence
 unfoldable pub flushAll : Image → Ops
@@ -50,12 +51,12 @@ abbrev pub RestartSafety : Type 0
 RestartSafety = InEveryHistory (λ s.
     (m : Moment) → PermittedAt (s .device) m
     → let J : Image = imageAt (s .device) m in
-    (t : Trace) → openStatus (s .device .layout) J t ≢ 11 → (p : ℕ) (H : Image)
-    → CrashImage (s .device .durable) (playedAt (s .device) m ++ flushAll J ++ playedOps J (openOutcome (s .device .layout) J t .ops) t p) H
+    (k : Lent) → Enough (s .device .layout) J k → (p : ℕ) (H : Image)
+    → CrashImage (s .device .durable) (playedAt (s .device) m ++ flushAll J ++ playedOps J (openOutcome (s .device .layout) J k .ops) (k .trace) p) H
     → (H′ : Image) → CutOpenings CrashImage (s .device .layout) H H′
-    → (t′ : Trace) → openStatus (s .device .layout) H′ t′ ≢ 11
+    → (k′ : Lent) → Enough (s .device .layout) H′ k′
     → let Q : Page = checkpointBytes (s .device .layout) J (activeLine J) in
-    MayShow s m Q × Recovers (s .device .layout) H′ t′ Q × Bytes H′)
+    MayShow s m Q × Recovers (s .device .layout) H′ k′ Q × Bytes H′)
 
 -- ---- a format
 
@@ -83,24 +84,24 @@ FormatDurable =
 -- an opening of it that finished leaves one crash image, the opened one
 abbrev pub FormatSettles : Type 0
 FormatSettles =
-    (l : Layout) (J : Image) (W : Ops) → Formats l J W → (t : Trace) → openStatus l (formatted l) t ≡ 0
-    → (H : Image) → CrashImage J (W ++ flushAll J ++ openOutcome l (formatted l) t .ops) H ↔ (H ≡ openedImage l (formatted l) t)
+    (l : Layout) (J : Image) (W : Ops) → Formats l J W → (k : Lent) → openStatus l (formatted l) k ≡ 0
+    → (H : Image) → CrashImage J (W ++ flushAll J ++ openOutcome l (formatted l) k .ops) H ↔ (H ≡ openedImage l (formatted l) k)
 
 -- so a history starts there with all durable: at any moment of it a crash may leave, counted from J on, what it may leave in
 -- the history, of which demand 3 speaks
 abbrev pub FormatStarts : Type 0
 FormatStarts =
-    (l : Layout) (J : Image) (W : Ops) → Formats l J W → (t : Trace) → openStatus l (formatted l) t ≡ 0
+    (l : Layout) (J : Image) (W : Ops) → Formats l J W → (k : Lent) → openStatus l (formatted l) k ≡ 0
     → (cs : List Call) (m : Moment) (H : Image)
-    → let s : State = run (start l (formatted l) t) cs in
-    CrashImage J (W ++ flushAll J ++ openOutcome l (formatted l) t .ops ++ playedAt (s .device) m) H
+    → let s : State = run (start l (formatted l) k) cs in
+    CrashImage J (W ++ flushAll J ++ openOutcome l (formatted l) k .ops ++ playedAt (s .device) m) H
     ↔ CrashImage (s .device .durable) (playedAt (s .device) m) H
 
 -- and power may fail in that first opening, after any number of its operations, and in any number of openings after it: the
 -- first that finishes shows zeros
 abbrev pub FormatSafety : Type 0
 FormatSafety =
-    (l : Layout) (J : Image) (W : Ops) → Formats l J W → (t : Trace) → openStatus l (formatted l) t ≡ 0
-    → (p : ℕ) (H : Image) → CrashImage J (W ++ flushAll J ++ playedOps (formatted l) (openOutcome l (formatted l) t .ops) t p) H
+    (l : Layout) (J : Image) (W : Ops) → Formats l J W → (k : Lent) → openStatus l (formatted l) k ≡ 0
+    → (p : ℕ) (H : Image) → CrashImage J (W ++ flushAll J ++ playedOps (formatted l) (openOutcome l (formatted l) k .ops) (k .trace) p) H
     → (H′ : Image) → CutOpenings CrashImage l H H′
-    → (t′ : Trace) → openStatus l H′ t′ ≢ 11 → Recovers l H′ t′ (replicate (segmentSize l * l .mains) 0) × Bytes H′
+    → (k′ : Lent) → Enough l H′ k′ → Recovers l H′ k′ (replicate (segmentSize l * l .mains) 0) × Bytes H′

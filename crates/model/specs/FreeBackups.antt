@@ -13,8 +13,8 @@ use Rattle.model.specs.Range.{sumTo, oneIf}
 use Rattle.model.specs.Words.{Image, Bytes}
 use Rattle.model.specs.Layout.{ssBackup, SizesOk}
 use Rattle.model.specs.Status.{firstError, served}
-use Rattle.model.specs.Container.{activeState, backupToMain, Valid, Free, isFree}
-use Rattle.model.specs.Ops.{Trace}
+use Rattle.model.specs.Container.{activeState, backupToMain, Valid, Free, isFree, freeBackups}
+use Rattle.model.specs.Outcome.{Lent}
 use Rattle.model.specs.Open.{openStatus}
 use Rattle.model.specs.Write.{WriteArgs, needsCopy, earlyErrors, writeStatus}
 use Rattle.model.specs.Reference.{CallArgs, openArgs, writeArgs, checkpointArgs}
@@ -28,10 +28,7 @@ use Rattle.model.specs.EpochCounts.{checkpoints}
 unfoldable pub mainsInBackup : Layout → (ℕ → ℕ) → ℕ
 mainsInBackup l st = sumTo (l .mains) (λ i. oneIf (eqb (st i) ssBackup))
 
--- how many backup segments are free, and how many are in use
-unfoldable pub freeBackups : Layout → (ℕ → ℕ) → (ℕ → ℕ) → ℕ
-freeBackups l st pr = sumTo (l .backups) (λ j. oneIf (isFree st pr j))
-
+-- how many backup segments are in use
 unfoldable pub backupsInUse : Layout → (ℕ → ℕ) → (ℕ → ℕ) → ℕ
 backupsInUse l st pr = sumTo (l .backups) (λ j. oneIf (not (isFree st pr j)))
 
@@ -41,13 +38,13 @@ InUseCounted =
     (l : Layout) (st pr : ℕ → ℕ) → SizesOk l → Valid l st pr
     → (backupsInUse l st pr ≡ mainsInBackup l st) × (freeBackups l st pr + mainsInBackup l st ≡ l .backups)
 
--- a write is refused with 9 exactly if no number from 1 to 8 applies, it must copy its main segment first, and as many main
+-- a write is refused with 9 exactly if no number that comes before applies, it must copy its main segment first, and as many main
 -- segments are in state 2 as there are backup segments: its own then has no backup segment either
 abbrev pub NineExactly : Type 0
 NineExactly =
-    (s : Session) (I : Image) (w : WriteArgs) (t : Trace)
-    → (writeStatus s I w t ≡ 9)
-    ↔ ((firstError (earlyErrors s I w) ≡ 0) × (needsCopy s I (w .main) ≡ true) × (mainsInBackup (s .layout) (activeState I) ≡ s .layout .backups))
+    (s : Session) (I : Image) (w : WriteArgs) (k : Lent)
+    → (writeStatus s I w k ≡ 9)
+    ↔ ((firstError (earlyErrors s I (k .clients) w) ≡ 0) × (needsCopy s I (w .main) ≡ true) × (mainsInBackup (s .layout) (activeState I) ≡ s .layout .backups))
 
 -- ---- a history
 
@@ -60,7 +57,7 @@ inUse d = backupsInUse (d .layout) (activeState (d .image)) (backupToMain (d .im
 
 -- no write is refused with 9 there
 abbrev pub NoNine : Device → Type 0
-NoNine d = (w : WriteArgs) (t : Trace) → outcome d (callWrite w t) .status ≢ 9
+NoNine d = (w : WriteArgs) (k : Lent) → outcome d (callWrite w k) .status ≢ 9
 
 -- after a served checkpoint no main segment is in state 2 and every backup segment is free, so no write is refused with 9
 abbrev pub Frees : Device → Type 0
@@ -68,12 +65,12 @@ Frees d = (inBackup d ≡ 0) × ((j : ℕ) → j < d .layout .backups → Free (
 
 abbrev pub CheckpointFrees : Type 0
 CheckpointFrees = InEveryHistory (λ s.
-    (t : Trace) → outcome (s .device) (callCheckpoint t) .status ≡ 0 → Frees (step s (callCheckpoint t) .device))
+    (k : Lent) → outcome (s .device) (callCheckpoint k) .status ≡ 0 → Frees (step s (callCheckpoint k) .device))
 
 -- 9 is given only where as many main segments are in state 2 as there are backup segments
 abbrev pub NineOnlyFull : Type 0
 NineOnlyFull = InEveryHistory (λ s.
-    (w : WriteArgs) (t : Trace) → outcome (s .device) (callWrite w t) .status ≡ 9 → inBackup (s .device) ≡ s .device .layout .backups)
+    (w : WriteArgs) (k : Lent) → outcome (s .device) (callWrite w k) .status ≡ 9 → inBackup (s .device) ≡ s .device .layout .backups)
 
 -- a call is a copying write: it must copy its main segment first
 abbrev pub isCopying : Session → Image → CallArgs → Bool
@@ -92,15 +89,15 @@ copyingWrites s (c ∷ cs) =
 -- checkpoint of any history, n being the copying writes served since
 abbrev pub SinceOpening : (Device → ℕ → Type 0) → Type 0
 SinceOpening P =
-    (l : Layout) (I : Image) (t : Trace) → Bytes I → openStatus l I t ≡ 0
-    → (cs : List Call) → AllPermitted cs → checkpoints (start l I t) cs ≡ 0
-    → P (run (start l I t) cs .device) (mainsInBackup l (activeState I) + copyingWrites (start l I t) cs)
+    (l : Layout) (I : Image) (k : Lent) → Bytes I → openStatus l I k ≡ 0
+    → (cs : List Call) → AllPermitted cs → checkpoints (start l I k) cs ≡ 0
+    → P (run (start l I k) cs .device) (mainsInBackup l (activeState I) + copyingWrites (start l I k) cs)
 
 abbrev pub SinceCheckpoint : (Device → ℕ → Type 0) → Type 0
 SinceCheckpoint P = InEveryHistory (λ s.
-    (t : Trace) → outcome (s .device) (callCheckpoint t) .status ≡ 0
-    → (cs : List Call) → AllPermitted cs → checkpoints (step s (callCheckpoint t)) cs ≡ 0
-    → P (run (step s (callCheckpoint t)) cs .device) (copyingWrites (step s (callCheckpoint t)) cs))
+    (k : Lent) → outcome (s .device) (callCheckpoint k) .status ≡ 0
+    → (cs : List Call) → AllPermitted cs → checkpoints (step s (callCheckpoint k)) cs ≡ 0
+    → P (run (step s (callCheckpoint k)) cs .device) (copyingWrites (step s (callCheckpoint k)) cs))
 
 -- n main segments are in state 2, and n backup segments in use: neither an opening nor a refused call changes that
 abbrev pub Counted : Device → ℕ → Type 0

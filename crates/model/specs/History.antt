@@ -10,26 +10,27 @@ use Rattle.model.specs.Words.{Image, Bytes}
 use Rattle.model.specs.Status.{served}
 use Rattle.model.specs.Container.{activeLine, checkpointBytes}
 use Rattle.model.specs.Ops.{opNumbers, Ops, Trace, written}
-use Rattle.model.specs.Outcome.{Outcome}
+use Rattle.model.specs.Outcome.{Lent, Outcome}
 use Rattle.model.specs.Replay.{replayOutcome, replayedOps}
 use Rattle.model.specs.Open.{openOutcome}
 use Rattle.model.specs.Write.{WriteArgs, writeOutcome}
 use Rattle.model.specs.Checkpoint.{checkpointOutcome}
 use Rattle.model.specs.Reference.{Model, CallArgs, openArgs, writeArgs, checkpointArgs, modelStep}
 
--- a call (the trade: openings, writes and saves): its arguments, which are all of it that the model is fed, and its trace
+-- a call (the trade: openings, writes and saves): its arguments, which are all of it that the model is fed, and what it is lent: any
+-- records of clients, and any trace
 pub record Call : Type 0 where
   pub args : CallArgs
-  pub trace : Trace
+  pub lends : Lent
 
-abbrev pub callOpen : Layout → Trace → Call
-callOpen l t = record { args = openArgs l; trace = t }
+abbrev pub callOpen : Layout → Lent → Call
+callOpen l k = record { args = openArgs l; lends = k }
 
-abbrev pub callWrite : WriteArgs → Trace → Call
-callWrite w t = record { args = writeArgs w; trace = t }
+abbrev pub callWrite : WriteArgs → Lent → Call
+callWrite w k = record { args = writeArgs w; lends = k }
 
-abbrev pub callCheckpoint : Trace → Call
-callCheckpoint t = record { args = checkpointArgs; trace = t }
+abbrev pub callCheckpoint : Lent → Call
+callCheckpoint k = record { args = checkpointArgs; lends = k }
 
 -- where a module stands in a history
 pub record Device : Type 0 where
@@ -48,14 +49,14 @@ pub record State : Type 0 where
   pub model : Model
 
 -- what a call answers on an image and a session
-abbrev pub answers : Session → Image → CallArgs → Trace → Outcome
-answers s I (openArgs l) t = openOutcome l I t
-answers s I (writeArgs w) t = writeOutcome s I w t
-answers s I checkpointArgs t = checkpointOutcome s I t
+abbrev pub answers : Session → Image → CallArgs → Lent → Outcome
+answers s I (openArgs l) k = openOutcome l I k
+answers s I (writeArgs w) k = writeOutcome s I w k
+answers s I checkpointArgs k = checkpointOutcome s I k
 
 -- and where a module stands
 abbrev pub outcome : Device → Call → Outcome
-outcome d c = answers (d .session) (d .image) (c .args) (c .trace)
+outcome d c = answers (d .session) (d .image) (c .args) (c .lends)
 
 -- the part of the trace that holds the reported operations O, which a call leaves on the trace t: it is `encode O` whatever t is
 -- (`reported-is`)
@@ -72,7 +73,7 @@ replayedImage I O t p = replayOutcome I (reported O t) p .image
 
 -- the operations of a call that are played where its replay is stopped after the first p
 abbrev pub calledOps : Device → Call → ℕ → Ops
-calledOps d c p = playedOps (d .image) (outcome d c .ops) (c .trace) p
+calledOps d c p = playedOps (d .image) (outcome d c .ops) (c .lends .trace) p
 
 -- the module after one call, replayed whole
 unfoldable pub deviceStep : Device → Call → Device
@@ -80,7 +81,7 @@ deviceStep d c = record {
   layout = d .layout;
   durable = d .durable;
   played = d .played ++ calledOps d c (length (outcome d c .ops));
-  image = replayedImage (d .image) (outcome d c .ops) (c .trace) (length (outcome d c .ops));
+  image = replayedImage (d .image) (outcome d c .ops) (c .lends .trace) (length (outcome d c .ops));
   session = outcome d c .session;
 }
 
@@ -97,18 +98,18 @@ run s [] = s
 run s (c ∷ cs) = run (step s c) cs
 
 -- the image that an opening leaves once its trace is replayed
-unfoldable pub openedImage : Layout → Image → Trace → Image
-openedImage l I t = replayedImage I (openOutcome l I t .ops) t (length (openOutcome l I t .ops))
+unfoldable pub openedImage : Layout → Image → Lent → Image
+openedImage l I k = replayedImage I (openOutcome l I k .ops) (k .trace) (length (openOutcome l I k .ops))
 
 -- a history starts at a finished opening, with all durable; both pages hold the checkpoint of the image handed to it
-unfoldable pub start : Layout → Image → Trace → State
-start l I t = record {
+unfoldable pub start : Layout → Image → Lent → State
+start l I k = record {
   device = record {
     layout = l;
-    durable = openedImage l I t;
+    durable = openedImage l I k;
     played = [];
-    image = openedImage l I t;
-    session = openOutcome l I t .session;
+    image = openedImage l I k;
+    session = openOutcome l I k .session;
   };
   model = record { working = checkpointBytes l I (activeLine I); checkpoint = checkpointBytes l I (activeLine I) };
 }

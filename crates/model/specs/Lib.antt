@@ -3,11 +3,12 @@
 pub mod Range
 pub mod Layout
 pub mod Words
--- numbers of refusals; metadata; session; operations and trace; what a call answers; replay
+-- numbers of refusals; metadata; session; operations and trace; records of clients; what a call answers; replay
 pub mod Status
 pub mod Container
 pub mod Session
 pub mod Ops
+pub mod Clients
 pub mod Outcome
 pub mod Replay
 -- the calls: format, opening, write, checkpoint, reads, same checkpoint
@@ -27,13 +28,14 @@ pub mod CrashSafety
 pub mod Sisters
 pub mod FlushDurable
 -- further statements: what no call reads, which backup segment a write takes, what it meets, the epoch, segment states and pairs, free
--- backup segments, main segments that are not dirty, lengths of a trace, the crash relation taken apart
+-- backup segments, what a share guarantees, main segments that are not dirty, lengths of a trace, the crash relation taken apart
 pub mod Unread
 pub mod NewBackup
 pub mod Span
 pub mod EpochCounts
 pub mod States
 pub mod FreeBackups
+pub mod Shares
 pub mod CleanSegments
 pub mod TraceLength
 pub mod CrashExact

@@ -12,7 +12,8 @@ use Rattle.model.specs.Words.{Image}
 use Rattle.model.specs.Layout.{unpaired, ssMain, mainAt, backupAt}
 use Rattle.model.specs.Container.{activeState, backupToMain, Valid, Free, newBackup}
 use Rattle.model.specs.Session.{dirtySegment}
-use Rattle.model.specs.Ops.{sfence, Trace, copySegment}
+use Rattle.model.specs.Ops.{sfence, copySegment}
+use Rattle.model.specs.Outcome.{Lent}
 use Rattle.model.specs.Write.{WriteArgs, pairOps, stateOps, spanOps, writeOps, writeStatus}
 
 -- j is the lowest number below n of which P holds
@@ -48,9 +49,9 @@ FreeWhereValid = (l : Layout) (st pr : ℕ → ℕ) → Valid l st pr → NewBac
 -- operations are the pair byte stored and written back, all blocks copied there, a fence, state 2, a fence, and the span
 abbrev pub WriteTakesNew : Type 0
 WriteTakesNew =
-    (s : Session) (I : Image) (w : WriteArgs) (t : Trace) → writeStatus s I w t ≡ 0
+    (s : Session) (I : Image) (w : WriteArgs) (k : Lent) → writeStatus s I w k ≡ 0
     → dirtySegment s (w .main) ≡ false → activeState I (w .main) ≡ ssMain
-    → ((k : ℕ) → k < s .layout .backups → backupToMain I k ≢ w .main)
+    → ((n : ℕ) → n < s .layout .backups → backupToMain I n ≢ w .main)
     → (j : ℕ) × TakenNew (s .layout) (activeState I) (backupToMain I) j × Free (s .layout) (activeState I) (backupToMain I) j
     × (writeOps s I w
     ≡ (pairOps I (w .main) j ++ copySegment (s .layout) I (mainAt (s .layout) (w .main)) (backupAt (s .layout) j)

@@ -11,8 +11,9 @@ use Rattle.model.specs.Layout.{mainAt, backupAt}
 use Rattle.model.specs.Status.{Errors, firstError}
 use Rattle.model.specs.Container.{activeLine, segState, backupToMain, isPaired, pairedBackup, byState, containerErrors}
 use Rattle.model.specs.Session.{freshSession, zeroSession}
-use Rattle.model.specs.Ops.{sfence, Ops, Trace, traceErrors, copySegment, zeroSegment}
-use Rattle.model.specs.Outcome.{Outcome, outcomeOf}
+use Rattle.model.specs.Ops.{sfence, Ops, traceErrors, copySegment, zeroSegment}
+use Rattle.model.specs.Clients.{clientsErrors, cleared}
+use Rattle.model.specs.Outcome.{Lent, Outcome, outcomeOf}
 
 -- the opening table, by state and whether the main segment is paired; the two cells that cannot be do nothing
 unfoldable pub recoveryAction : ℕ → Bool → Action
@@ -35,11 +36,13 @@ recoverSegment l I line i =
 unfoldable pub recoveryOps : Layout → Image → ℕ → Ops
 recoveryOps l I line = cat (l .mains) (recoverSegment l I line) ++ sfence ∷ []
 
-abbrev pub openErrors : Layout → Image → Trace → Errors
-openErrors l I t = containerErrors l I ++ traceErrors (recoveryOps l I (activeLine I)) t
+abbrev pub openErrors : Layout → Image → Lent → Errors
+openErrors l I k = containerErrors l I ++ clientsErrors l (k .clients) ++ traceErrors (recoveryOps l I (activeLine I)) (k .trace)
 
-unfoldable pub openStatus : Layout → Image → Trace → ℕ
-openStatus l I t = firstError (openErrors l I t)
+unfoldable pub openStatus : Layout → Image → Lent → ℕ
+openStatus l I k = firstError (openErrors l I k)
 
-unfoldable pub openOutcome : Layout → Image → Trace → Outcome
-openOutcome l I t = outcomeOf (openStatus l I t) zeroSession (freshSession l) (recoveryOps l I (activeLine I))
+-- served, it sets what the clients have taken to 0
+unfoldable pub openOutcome : Layout → Image → Lent → Outcome
+openOutcome l I k =
+    outcomeOf (openStatus l I k) zeroSession (freshSession l) (k .clients) (cleared (k .clients)) (recoveryOps l I (activeLine I))

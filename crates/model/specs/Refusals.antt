@@ -1,7 +1,7 @@
 -- Demand 1: a call is served, or refused with the number of the first of its conditions that holds (SPECIFICATION
 -- 14 and 15.1). What is said of any list of refusals, the numbers that each call's list has, and the statements. Proved in
 -- proofs/Laws/Refusals.antt. Assumes nothing.
-use Prim.Native.Nat.{ℕ, _≤_, _<_}
+use Prim.Native.Nat.{ℕ, _<_}
 use mathlib.Core.Path.{_≡_}
 use mathlib.Core.Logic.{_↔_, _≢_, _⊎_}
 use mathlib.Core.Bool.{true, false}
@@ -12,6 +12,7 @@ use Rattle.model.specs.Words.{Image}
 use Rattle.model.specs.Status.{Errors, firstError}
 use Rattle.model.specs.Container.{sizeErrors}
 use Rattle.model.specs.Ops.{Trace}
+use Rattle.model.specs.Outcome.{Lent}
 use Rattle.model.specs.Replay.{replayErrors}
 use Rattle.model.specs.Open.{openErrors}
 use Rattle.model.specs.Write.{WriteArgs, writeErrors}
@@ -53,10 +54,10 @@ numbers (e ∷ es) = e .0 ∷ numbers es
 -- the numbers of each call's list; a comparison judges the first image wholly before the second
 pub record Knows : Type 0 where
   pub format : (l : Layout) (I : Image) → numbers (sizeErrors l I) ≡ 1 ∷ 2 ∷ []
-  pub opening : (l : Layout) (I : Image) (t : Trace) → numbers (openErrors l I t) ≡ 1 ∷ 2 ∷ 3 ∷ 4 ∷ 11 ∷ []
-  pub write : (s : Session) (I : Image) (w : WriteArgs) (t : Trace)
-      → numbers (writeErrors s I w t) ≡ 1 ∷ 2 ∷ 3 ∷ 4 ∷ 5 ∷ 6 ∷ 7 ∷ 8 ∷ 9 ∷ 11 ∷ []
-  pub checkpoint : (s : Session) (I : Image) (t : Trace) → numbers (checkpointErrors s I t) ≡ 1 ∷ 2 ∷ 3 ∷ 4 ∷ 5 ∷ 10 ∷ 11 ∷ []
+  pub opening : (l : Layout) (I : Image) (k : Lent) → numbers (openErrors l I k) ≡ 1 ∷ 2 ∷ 3 ∷ 4 ∷ 13 ∷ 11 ∷ []
+  pub write : (s : Session) (I : Image) (w : WriteArgs) (k : Lent)
+      → numbers (writeErrors s I w k) ≡ 1 ∷ 2 ∷ 3 ∷ 4 ∷ 5 ∷ 13 ∷ 6 ∷ 7 ∷ 8 ∷ 9 ∷ 14 ∷ 15 ∷ 11 ∷ []
+  pub checkpoint : (s : Session) (I : Image) (k : Lent) → numbers (checkpointErrors s I k) ≡ 1 ∷ 2 ∷ 3 ∷ 4 ∷ 5 ∷ 13 ∷ 10 ∷ 11 ∷ []
   pub replay : (I : Image) (t : Trace) (n : ℕ) → numbers (replayErrors I t n) ≡ 2 ∷ 12 ∷ []
   pub read : (l : Layout) (I : Image) (i b : ℕ) → numbers (readErrors l I i b) ≡ 1 ∷ 2 ∷ 3 ∷ 4 ∷ 6 ∷ 7 ∷ []
   pub same : (l : Layout) (I J : Image) → numbers (sameErrors l I J) ≡ 1 ∷ 2 ∷ 3 ∷ 4 ∷ 1 ∷ 2 ∷ 3 ∷ 4 ∷ []
@@ -69,25 +70,3 @@ OneOf (m ∷ ms) n = (n ≡ m) ⊎ OneOf ms n
 -- the number that a list gives is 0 or stands in it
 abbrev pub NumberKnown : Type 0
 NumberKnown = (es : Errors) → OneOf (0 ∷ numbers es) (firstError es)
-
--- ---- a closing remark, on which nothing rests: today's lists ascend but that of `same`, which is one list twice, so that the
--- number given is the lowest that applies (SPECIFICATION 14.2)
-
--- the numbers are above k and ascend
-abbrev pub Ascending : ℕ → Errors → Type 0
-Ascending k [] = Unit {0}
-Ascending k (e ∷ es) = (k < e .0) × Ascending (e .0) es
-
--- n stands in the list with a condition that holds
-abbrev pub Applies : ℕ → Errors → Type 0
-Applies n [] = ⊥
-Applies n (e ∷ es) = ((e .0 ≡ n) × (e .1 ≡ true)) ⊎ Applies n es
-
-abbrev pub LowestGiven : Type 0
-LowestGiven = (k : ℕ) (es : Errors) → Ascending k es → (n : ℕ) → Applies n es → Applies (firstError es) es × (firstError es ≤ n)
-
-abbrev pub AllAscend : Type 0
-AllAscend =
-    (l : Layout) (s : Session) (I : Image) (w : WriteArgs) (i b n : ℕ) (t : Trace)
-    → Ascending 0 (sizeErrors l I) × Ascending 0 (openErrors l I t) × Ascending 0 (readErrors l I i b) × Ascending 0 (writeErrors s I w t)
-    × Ascending 0 (checkpointErrors s I t) × Ascending 0 (replayErrors I t n)

@@ -11,22 +11,22 @@ use Rattle.model.specs.declared.Layout.{Layout}
 use Rattle.model.specs.Words.{Image, Bytes}
 use Rattle.model.specs.Layout.{lineSize}
 use Rattle.model.specs.Container.{activeLine, checkpointBytes}
-use Rattle.model.specs.Ops.{Trace}
+use Rattle.model.specs.Outcome.{Lent}
 use Rattle.model.specs.Replay.{replayOutcome}
 use Rattle.model.specs.Open.{openStatus, openOutcome}
 use Rattle.model.specs.Crash.{CrashImage}
 use Rattle.model.specs.History.{Call, Device, State, outcome, reported, calledOps, step, run, openedImage, start}
-use Rattle.model.specs.CrashSafety.{Reads, Recovers, InEveryHistory, CutOpenings}
+use Rattle.model.specs.CrashSafety.{Reads, Recovers, InEveryHistory, Enough, CutOpenings}
 
 -- demand 2: after every call of a history the two reads give the two pages of the reference model
 abbrev pub ReadsFollowModel : Type 0
 ReadsFollowModel = InEveryHistory (λ s. Reads (s .device .layout) (s .device .image) (s .model .working) (s .model .checkpoint))
 
--- the same arguments, whatever stands on the two traces: these have the same length, or neither is too short
+-- the same arguments and records, whatever stands on the two traces: these have the same length, or neither is too short
 abbrev pub SameCall : Device → Call → Call → Type 0
 SameCall d b c =
-    (b .args ≡ c .args)
-    × ((length (b .trace) ≡ length (c .trace)) ⊎ ((outcome d b .status ≢ 11) × (outcome d c .status ≢ 11)))
+    (b .args ≡ c .args) × (b .lends .clients ≡ c .lends .clients)
+    × ((length (b .lends .trace) ≡ length (c .lends .trace)) ⊎ ((outcome d b .status ≢ 11) × (outcome d c .status ≢ 11)))
 
 -- call after call, from the state s on
 abbrev pub SameCalls : State → List Call → List Call → Type 0
@@ -39,30 +39,30 @@ SameCalls s (b ∷ bs) (c ∷ cs) = SameCall (s .device) b c × SameCalls (step 
 pub record SameBoard : Type 0 where
   -- wherever a module stands, the same call answers the same and reports the same part of the trace
   pub calls : (d : Device) (b c : Call) → SameCall d b c
-      → (outcome d b ≡ outcome d c) × (reported (outcome d b .ops) (b .trace) ≡ reported (outcome d c .ops) (c .trace))
+      → (outcome d b ≡ outcome d c) × (reported (outcome d b .ops) (b .lends .trace) ≡ reported (outcome d c .ops) (c .lends .trace))
   -- two histories that start with the same opening of the same image, and have the same calls, stand at the same place after them: image,
   -- session, all operations played, and model
-  pub histories : (l : Layout) (I : Image) (t u : Trace)
-      → (length t ≡ length u) ⊎ ((openStatus l I t ≢ 11) × (openStatus l I u ≢ 11))
-      → (bs cs : List Call) → SameCalls (start l I t) bs cs → run (start l I t) bs ≡ run (start l I u) cs
+  pub histories : (l : Layout) (I : Image) (k m : Lent)
+      → k .clients ≡ m .clients → (length (k .trace) ≡ length (m .trace)) ⊎ ((openStatus l I k ≢ 11) × (openStatus l I m ≢ 11))
+      → (bs cs : List Call) → SameCalls (start l I k) bs cs → run (start l I k) bs ≡ run (start l I m) cs
 
 -- every operation that a call writes is well formed, whatever the image and the session: replay serves the reported part
 -- and plays all of it, or the first p where it is stopped there; so it is for openings before, in and after a history
 abbrev pub ReplayServesAll : Type 0
 ReplayServesAll =
     (d : Device) (c : Call) → length (d .image) % lineSize ≡ 0 → (p : ℕ)
-    → (replayOutcome (d .image) (reported (outcome d c .ops) (c .trace)) p .status ≡ 0)
+    → (replayOutcome (d .image) (reported (outcome d c .ops) (c .lends .trace)) p .status ≡ 0)
     × (calledOps d c p ≡ take p (outcome d c .ops))
 
 -- of an image that was durable, a finished opening leaves one crash image only, so that what a history starts with is durable
 abbrev pub OpeningSettles : Type 0
 OpeningSettles =
-    (l : Layout) (I : Image) (t : Trace) → Bytes I → openStatus l I t ≡ 0
-    → CrashImage I (openOutcome l I t .ops) (openedImage l I t)
-    × ((H : Image) → CrashImage I (openOutcome l I t .ops) H → H ≡ openedImage l I t)
+    (l : Layout) (I : Image) (k : Lent) → Bytes I → openStatus l I k ≡ 0
+    → CrashImage I (openOutcome l I k .ops) (openedImage l I k)
+    × ((H : Image) → CrashImage I (openOutcome l I k .ops) H → H ≡ openedImage l I k)
 
 -- openings alone: any image that is accepted, cut in any number of openings, shows its checkpoint
 abbrev pub OpeningSafety : Type 0
 OpeningSafety =
-    (l : Layout) (I : Image) (t : Trace) → Bytes I → openStatus l I t ≡ 0 → (H : Image) → CutOpenings CrashImage l I H
-    → (t′ : Trace) → openStatus l H t′ ≢ 11 → Recovers l H t′ (checkpointBytes l I (activeLine I)) × Bytes H
+    (l : Layout) (I : Image) (k : Lent) → Bytes I → openStatus l I k ≡ 0 → (H : Image) → CutOpenings CrashImage l I H
+    → (m : Lent) → Enough l H m → Recovers l H m (checkpointBytes l I (activeLine I)) × Bytes H

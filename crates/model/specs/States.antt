@@ -14,7 +14,7 @@ use Rattle.model.specs.Layout.{most, ssInitial, ssBackup}
 use Rattle.model.specs.Status.{served}
 use Rattle.model.specs.Container.{activeState, backupToMain, newBackup}
 use Rattle.model.specs.Session.{dirtySegment}
-use Rattle.model.specs.Ops.{Trace}
+use Rattle.model.specs.Outcome.{Lent}
 use Rattle.model.specs.Open.{openStatus}
 use Rattle.model.specs.Write.{WriteArgs, needsCopy, needsBackup}
 use Rattle.model.specs.Checkpoint.{nextState}
@@ -37,8 +37,8 @@ stateAfter d c i = cond (served (outcome d c .status)) (servedState (d .session)
 
 -- the states of a history are these: the opening that it starts with keeps them, and each call makes them
 pub record StatesFollow : Type 0 where
-  pub opening : (l : Layout) (I : Image) (t : Trace) → Bytes I → openStatus l I t ≡ 0
-      → (i : ℕ) → i < l .mains → activeState (openedImage l I t) i ≡ activeState I i
+  pub opening : (l : Layout) (I : Image) (k : Lent) → Bytes I → openStatus l I k ≡ 0
+      → (i : ℕ) → i < l .mains → activeState (openedImage l I k) i ≡ activeState I i
   pub calls : InEveryHistory (λ s.
       (c : Call) → Permitted c → (i : ℕ) → i < s .device .layout .mains → activeState (step s c .device .image) i ≡ stateAfter (s .device) c i)
 
@@ -58,8 +58,8 @@ pairAfter d c j = cond (served (outcome d c .status)) (servedPair (d .session) (
 
 -- the pairs of a history are these
 pub record PairsFollow : Type 0 where
-  pub opening : (l : Layout) (I : Image) (t : Trace) → Bytes I → openStatus l I t ≡ 0
-      → (j : ℕ) → j < most → backupToMain (openedImage l I t) j ≡ backupToMain I j
+  pub opening : (l : Layout) (I : Image) (k : Lent) → Bytes I → openStatus l I k ≡ 0
+      → (j : ℕ) → j < most → backupToMain (openedImage l I k) j ≡ backupToMain I j
   pub calls : InEveryHistory (λ s.
       (c : Call) → Permitted c → (j : ℕ) → j < most → backupToMain (step s c .device .image) j ≡ pairAfter (s .device) c j)
 
@@ -68,10 +68,10 @@ pub record PairsFollow : Type 0 where
 abbrev pub TakenUnpaired : Type 0
 TakenUnpaired = InEveryHistory (λ s.
     let I : Image = s .device .image in
-    (w : WriteArgs) (t : Trace) → Bytes (w .bytes) → outcome (s .device) (callWrite w t) .status ≡ 0
+    (w : WriteArgs) (k : Lent) → Bytes (w .bytes) → outcome (s .device) (callWrite w k) .status ≡ 0
     → needsBackup (s .device .session) I (w .main) ≡ true
     → (j : ℕ) → TakenNew (s .device .layout) (activeState I) (backupToMain I) j → backupToMain I j < s .device .layout .mains
-    → (k : ℕ) → k < s .device .layout .backups → backupToMain (step s (callWrite w t) .device .image) k ≢ backupToMain I j)
+    → (n : ℕ) → n < s .device .layout .backups → backupToMain (step s (callWrite w k) .device .image) n ≢ backupToMain I j)
 
 -- ---- empty stays empty
 

@@ -4,7 +4,7 @@ use mathlib.Core.Bool.{Bool, cond}
 use mathlib.Core.List.{List, [], _∷_}
 use lib.Dec.{eqb}
 use Rattle.model.specs.declared.Status.{Status}
-use Rattle.model.specs.declared.Status.the-variants.{Served, BadSize, BadLength, Foreign, Invalid, BadSession, NoSuchMain, NoSuchBlock, BadSpan, NoFreeBackup, EpochLimit, TraceShort, TraceBad}
+use Rattle.model.specs.declared.Status.the-variants.{Served, BadSize, BadLength, Foreign, Invalid, BadSession, NoSuchMain, NoSuchBlock, BadSpan, NoFreeBackup, EpochLimit, TraceShort, TraceBad, BadClients, QuotaReached, BackupsReserved}
 
 -- the number of each status (SPECIFICATION 14.1)
 abbrev pub codeOf : Status → ℕ
@@ -21,6 +21,9 @@ codeOf NoFreeBackup = 9
 codeOf EpochLimit = 10
 codeOf TraceShort = 11
 codeOf TraceBad = 12
+codeOf BadClients = 13
+codeOf QuotaReached = 14
+codeOf BackupsReserved = 15
 
 -- a call's list of refusals: each number with the condition under which it applies
 abbrev pub Errors : Type 0

@@ -7,7 +7,8 @@ use Rattle.model.specs.declared.Layout.{Layout}
 use Rattle.model.specs.declared.Session.{Session}
 use Rattle.model.specs.Words.{Image}
 use Rattle.model.specs.Layout.{blockWords, blockLines, lineWords, blockOps}
-use Rattle.model.specs.Ops.{opNumbers, Trace}
+use Rattle.model.specs.Ops.{opNumbers}
+use Rattle.model.specs.Outcome.{Lent}
 use Rattle.model.specs.Open.{openStatus}
 use Rattle.model.specs.Write.{WriteArgs, writeStatus}
 use Rattle.model.specs.Checkpoint.{checkpointStatus}
@@ -35,12 +36,12 @@ abbrev pub mostCheckpointOps : Layout → ℕ
 mostCheckpointOps l = blockLines * l .blocks * l .mains + (fenceOps + lineOps + fenceOps + wordOps + fenceOps)
 
 abbrev pub TraceSuffices : Type 0
-TraceSuffices = (l : Layout) (I : Image) (t : Trace) → opNumbers * mostOpenOps l ≤ length t → openStatus l I t ≢ 11
+TraceSuffices = (l : Layout) (I : Image) (k : Lent) → opNumbers * mostOpenOps l ≤ length (k .trace) → openStatus l I k ≢ 11
 
 abbrev pub WriteTraceSuffices : Type 0
 WriteTraceSuffices =
-    (s : Session) (I : Image) (w : WriteArgs) (t : Trace) → opNumbers * mostWriteOps (s .layout) ≤ length t → writeStatus s I w t ≢ 11
+    (s : Session) (I : Image) (w : WriteArgs) (k : Lent) → opNumbers * mostWriteOps (s .layout) ≤ length (k .trace) → writeStatus s I w k ≢ 11
 
 abbrev pub CheckpointTraceSuffices : Type 0
 CheckpointTraceSuffices =
-    (s : Session) (I : Image) (t : Trace) → opNumbers * mostCheckpointOps (s .layout) ≤ length t → checkpointStatus s I t ≢ 11
+    (s : Session) (I : Image) (k : Lent) → opNumbers * mostCheckpointOps (s .layout) ≤ length (k .trace) → checkpointStatus s I k ≢ 11

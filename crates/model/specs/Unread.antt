@@ -8,7 +8,7 @@ use Rattle.model.specs.declared.Session.{Session}
 use Rattle.model.specs.Words.{Image, byteAt}
 use Rattle.model.specs.Layout.{wordSize, lineSize, metadataSize, epochAt, mainsAt, headerEnd, statesAt, pairsEnd}
 use Rattle.model.specs.Container.{inactiveLine, checkpointBytes}
-use Rattle.model.specs.Ops.{Trace}
+use Rattle.model.specs.Outcome.{Lent}
 use Rattle.model.specs.Open.{openOutcome}
 use Rattle.model.specs.Write.{WriteArgs, writeOutcome}
 use Rattle.model.specs.Checkpoint.{checkpointOutcome}
@@ -28,9 +28,9 @@ pub record AgreeNamed (I J : Image) : Type 0 where
 
 -- what every call answers on two such images
 pub record SameAnswers (I J : Image) : Type 0 where
-  pub opening : (l : Layout) (t : Trace) → openOutcome l I t ≡ openOutcome l J t
-  pub write : (s : Session) (w : WriteArgs) (t : Trace) → writeOutcome s I w t ≡ writeOutcome s J w t
-  pub checkpoint : (s : Session) (t : Trace) → checkpointOutcome s I t ≡ checkpointOutcome s J t
+  pub opening : (l : Layout) (k : Lent) → openOutcome l I k ≡ openOutcome l J k
+  pub write : (s : Session) (w : WriteArgs) (k : Lent) → writeOutcome s I w k ≡ writeOutcome s J w k
+  pub checkpoint : (s : Session) (k : Lent) → checkpointOutcome s I k ≡ checkpointOutcome s J k
   -- the reads: their number, the parts that they find, and the bytes there
   pub read : (l : Layout) (i b : ℕ) → readStatus l I i b ≡ readStatus l J i b
   pub workingFound : (l : Layout) (i b : ℕ) → workingPart l I i b ≡ workingPart l J i b

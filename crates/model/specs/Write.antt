@@ -11,21 +11,23 @@ use Rattle.model.specs.declared.Plan.the-variants.{NoCopy, OwnBackup, Ne
 use Rattle.model.specs.Words.{Image, byteAt, wordOf, overlay}
 use Rattle.model.specs.Layout.{wordSize, blockSize, pairsAt, ssMain, ssBackup, mainAt, backupAt}
 use Rattle.model.specs.Status.{Errors, firstError}
-use Rattle.model.specs.Container.{activeState, activeLine, backupToMain, isPaired, pairedBackup, anyFree, newBackup, mainErrors, blockErrors}
+use Rattle.model.specs.Container.{activeState, activeLine, backupToMain, isPaired, pairedBackup, anyFree, freeBackups, newBackup, mainErrors, blockErrors}
 use Rattle.model.specs.Session.{dirtySegment, dirtyWord, withDirty, contextErrors}
 use Rattle.model.specs.Ops.{clwb, sfence, Ops, Trace, traceErrors, stores, persistCopy, copySegment, eachDirty, wordPlace, storeByte}
-use Rattle.model.specs.Outcome.{Outcome, outcomeOf}
+use Rattle.model.specs.Clients.{Clients, charged, clientErrors, shareErrors}
+use Rattle.model.specs.Outcome.{Lent, Outcome, outcomeOf}
 
--- what a write is given: main segment, block, offset in the block, and the bytes (the trade: level, frame, offset, bytes), which
--- may run on through the following blocks of the main segment
+-- what a write is given: the number of its client, main segment, block, offset in the block, and the bytes (the trade: console, level,
+-- frame, offset, bytes), which may run on through the following blocks of the main segment
 pub record WriteArgs : Type 0 where
+  pub client : ℕ
   pub main : ℕ
   pub block : ℕ
   pub offset : ℕ
   pub bytes : List ℕ
 
-abbrev pub writeArgsOf : ℕ → ℕ → ℕ → List ℕ → WriteArgs
-writeArgsOf main block offset bytes = record { main = main; block = block; offset = offset; bytes = bytes }
+abbrev pub writeArgsOf : ℕ → ℕ → ℕ → ℕ → List ℕ → WriteArgs
+writeArgsOf client main block offset bytes = record { client = client; main = main; block = block; offset = offset; bytes = bytes }
 
 -- the segment must be copied first: it is not dirty, and its state is 1 (SPECIFICATION 10.3)
 unfoldable pub needsCopy : Session → Image → ℕ → Bool
@@ -110,6 +112,10 @@ unfoldable pub writeSession : Session → Image → WriteArgs → Session
 writeSession s I w =
     withDirty s (w .main) (w .block) (spanBlocks w) (cond (needsCopy s I (w .main)) 0 (dirtyWord s (w .main)))
 
+-- the records of all clients afterwards: a copy is charged to the client that made the write (SPECIFICATION 10.10)
+unfoldable pub writeClients : Session → Image → WriteArgs → Clients → Clients
+writeClients s I w R = cond (needsCopy s I (w .main)) (charged R (w .client)) R
+
 -- ---- refusals and outcome
 
 -- an empty span, one whose offset is not in its block, or one that leaves its main segment (SPECIFICATION 10.9)
@@ -124,19 +130,25 @@ spanErrors l w = (8, spanBad l w) ∷ []
 abbrev pub backupErrors : Plan → Errors
 backupErrors p = (9, noneFree p) ∷ []
 
--- 1 to 8, which do not depend on the plan of the copy; 9 and 11, by the plan and the operations
-abbrev pub earlyErrors : Session → Image → WriteArgs → Errors
-earlyErrors s I w =
-    contextErrors s I ++ mainErrors (s .layout) (w .main) ++ blockErrors (s .layout) (w .block) ++ spanErrors (s .layout) w
+-- 1 to 5, 13, and 6 to 8, which do not depend on the plan of the copy; 9, 14, 15 and 11, by the plan, the free backup segments and the
+-- operations
+abbrev pub earlyErrors : Session → Image → Clients → WriteArgs → Errors
+earlyErrors s I R w =
+    contextErrors s I ++ clientErrors (s .layout) R (w .client)
+    ++ mainErrors (s .layout) (w .main) ++ blockErrors (s .layout) (w .block) ++ spanErrors (s .layout) w
 
-abbrev pub lateErrors : Plan → Ops → Trace → Errors
-lateErrors p O t = backupErrors p ++ traceErrors O t
+abbrev pub lateErrors : Plan → Clients → ℕ → ℕ → Ops → Trace → Errors
+lateErrors p R client free O t = backupErrors p ++ shareErrors (copies p) R client free ++ traceErrors O t
 
-abbrev pub writeErrors : Session → Image → WriteArgs → Trace → Errors
-writeErrors s I w t = earlyErrors s I w ++ lateErrors (copyPlan s I (w .main)) (writeOps s I w) t
+abbrev pub writeErrors : Session → Image → WriteArgs → Lent → Errors
+writeErrors s I w k =
+    earlyErrors s I (k .clients) w
+    ++ lateErrors (copyPlan s I (w .main)) (k .clients) (w .client) (freeBackups (s .layout) (activeState I) (backupToMain I))
+    (writeOps s I w) (k .trace)
 
-unfoldable pub writeStatus : Session → Image → WriteArgs → Trace → ℕ
-writeStatus s I w t = firstError (writeErrors s I w t)
+unfoldable pub writeStatus : Session → Image → WriteArgs → Lent → ℕ
+writeStatus s I w k = firstError (writeErrors s I w k)
 
-unfoldable pub writeOutcome : Session → Image → WriteArgs → Trace → Outcome
-writeOutcome s I w t = outcomeOf (writeStatus s I w t) s (writeSession s I w) (writeOps s I w)
+unfoldable pub writeOutcome : Session → Image → WriteArgs → Lent → Outcome
+writeOutcome s I w k =
+    outcomeOf (writeStatus s I w k) s (writeSession s I w) (k .clients) (writeClients s I w (k .clients)) (writeOps s I w)

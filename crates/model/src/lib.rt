@@ -1,5 +1,5 @@
-// The types that every contract speaks of: the sizes of a container, the volatile session, the status of a call and the
-// action of recovery, with the constructors of layout and session. What they mean is said in specs/.
+// The types that every contract speaks of: the sizes of a container, the volatile session, the record of a client, the status of a call
+// and the action of recovery, with the constructors of layout and session. What they mean is said in specs/.
 ghost use mathlib.Core.Path.{_≡_};
 ghost use Rattle.model.specs.Layout.{layoutOf};
 ghost use Rattle.model.specs.Session.{freshSession};
@@ -92,6 +92,17 @@ impl Session {
     }
 }
 
+// What a client may take of the backup segments (the trade: a console's share, limit and taken spares; SPECIFICATION 5.7). The records
+// of all clients are lent together.
+pub struct Client {
+    // Backup segments that the others leave to it.
+    pub reserved: u64,
+    // The most that it may take.
+    pub quota: u64,
+    // Those that it has taken since the last checkpoint or opening.
+    pub used: u64,
+}
+
 // How a call ends (SPECIFICATION 14).
 pub enum Status {
     Served,
@@ -107,6 +118,9 @@ pub enum Status {
     EpochLimit,
     TraceShort,
     TraceBad,
+    BadClients,
+    QuotaReached,
+    BackupsReserved,
 }
 
 impl Status {
@@ -128,6 +142,9 @@ impl Status {
             Status::EpochLimit => 10,
             Status::TraceShort => 11,
             Status::TraceBad => 12,
+            Status::BadClients => 13,
+            Status::QuotaReached => 14,
+            Status::BackupsReserved => 15,
         }
     }
 

@@ -6,13 +6,14 @@ use mathlib.Core.Bool.{Bool, true}
 use native.Mathlib.Omega.{arith}
 use borrow.Author.Tests.{eqb-false}
 use lib.ListN.{length}
+use Rattle.model.specs.Clients.{cleared}
+use Rattle.model.specs.Outcome.{Lent}
 use Rattle.model.specs.declared.Session.{Session}
 use Rattle.model.specs.Range.{oneIf}
 use Rattle.model.specs.Words.{Image, byteAt, Bytes}
 use Rattle.model.specs.Status.{served}
 use Rattle.model.specs.Container.{committedEpoch, activeState, backupToMain}
 use Rattle.model.specs.Session.{dirtySegment, withCheckpoint}
-use Rattle.model.specs.Ops.{Trace}
 use Rattle.model.specs.Checkpoint.{nextState, checkpointOps, checkpointErrors, checkpointStatus, checkpointOutcome}
 use Rattle.model.specs.Reference.{Model, modelStep, checkpointArgs}
 use Rattle.model.specs.declared.Layout.{Layout}
@@ -37,13 +38,13 @@ unfolding withCheckpoint
 checkpoint-sized s = (refl, refl)
 
 -- its epoch is not the last
-epoch-fits : (s : Session) (I : Image) (t : Trace) → Bytes I → checkpointStatus s I t ≡ 0 → suc (committedEpoch I) < 2 ^ 64
+epoch-fits : (s : Session) (I : Image) (t : Lent) → Bytes I → checkpointStatus s I t ≡ 0 → suc (committedEpoch I) < 2 ^ 64
 unfolding checkpointStatus
 epoch-fits s I t b h =
     let ne : committedEpoch I ≢ 2 ^ 64 - 1 = eqb-false _ _ (served-condition (checkpointErrors s I t) (omega arith) h 10) in
     omega (arith, ne, word-lt (byteAt I) 0 b)
 
-module _ (s : State) (st : Stands s) (t : Trace) where
+module _ (s : State) (st : Stands s) (t : Lent) where
   abbrev d : Device
   d = s .device
 
@@ -54,7 +55,7 @@ module _ (s : State) (st : Stands s) (t : Trace) where
   σ = st .session
 
   abbrev c : Call
-  c = record { args = checkpointArgs; trace = t }
+  c = record { args = checkpointArgs; lends = t }
 
   appends : checkpointStatus (d .session) (d .image) t ≡ 0 → Answered (outcome d c) true (withCheckpoint (d .session)) (checkpointOps (d .session) (d .image)) → Appends s c
   appends h a =
@@ -85,7 +86,7 @@ module _ (s : State) (st : Stands s) (t : Trace) where
             (checkpoint-crash (d .played) (d .durable) σ _ _ (st .bytes) inv p H fits x);
       }
 
-  pub checkpoint-argument : Argument s (record { args = checkpointArgs; trace = t })
+  pub checkpoint-argument : Argument s (record { args = checkpointArgs; lends = t })
   unfolding checkpointOutcome modelStep
   checkpoint-argument =
-      by-status s st c (checkpoint-outcome-ok (d .session) (d .image) t) (checkpointStatus (d .session) (d .image) t) (d .session) (withCheckpoint (d .session)) (checkpointOps (d .session) (d .image)) refl (inl refl) refl appends
+      by-status s st c (checkpoint-outcome-ok (d .session) (d .image) t) (checkpointStatus (d .session) (d .image) t) (d .session) (withCheckpoint (d .session)) (t .clients) (cleared (t .clients)) (checkpointOps (d .session) (d .image)) refl (inl refl) refl appends

@@ -4,11 +4,13 @@ use mathlib.Core.Logic.{inl, inr}
 use mathlib.Core.Bool.{Bool, true}
 use native.Mathlib.Omega.{arith}
 use lib.ListN.{length}
+use Rattle.model.specs.Clients.{cleared}
+use Rattle.model.specs.Outcome.{Lent}
 use Rattle.model.specs.declared.Layout.{Layout}
 use Rattle.model.specs.Words.{Image}
 use Rattle.model.specs.Container.{activeLine, activeState, backupToMain, HeaderOk}
 use Rattle.model.specs.Session.{freshSession, zeroSession}
-use Rattle.model.specs.Ops.{Ops, Trace}
+use Rattle.model.specs.Ops.{Ops}
 use Rattle.model.specs.Open.{recoveryOps, openStatus, openOutcome}
 use Rattle.model.specs.Reference.{Model, modelStep, openArgs}
 use Rattle.model.specs.History.{Call, Device, State, outcome}
@@ -22,7 +24,7 @@ use Rattle.model.proofs.Argument.View.{low-epoch, low-states, low-pairs
 use Rattle.model.proofs.Argument.Stands.{imageOf, checkpointOf, workingOf, Stands, Argument, Appends, inv-at, by-status}
 
 -- an image that an opening serves
-pub accepted : (l : Layout) (I : Image) (t : Trace) → openStatus l I t ≡ 0 → ContainerOk l I
+pub accepted : (l : Layout) (I : Image) (t : Lent) → openStatus l I t ≡ 0 → ContainerOk l I
 unfolding openStatus
 accepted l I t h = container-then l I _ h .0
 
@@ -38,7 +40,7 @@ fresh-sized l = (refl, refl)
 layout-path : (k l : Layout) → k .mains ≡ l .mains → k .backups ≡ l .backups → k .blocks ≡ l .blocks → k ≡ l
 layout-path k l p q r = λ i. record { mains = p i; backups = q i; blocks = r i }
 
-module _ (s : State) (st : Stands s) (k : Layout) (t : Trace) where
+module _ (s : State) (st : Stands s) (k : Layout) (t : Lent) where
   abbrev d : Device
   d = s .device
 
@@ -46,17 +48,20 @@ module _ (s : State) (st : Stands s) (k : Layout) (t : Trace) where
   I = imageOf (s .device)
 
   abbrev c : Call
-  c = record { args = openArgs k; trace = t }
+  c = record { args = openArgs k; lends = t }
 
   abbrev E : Ops
   E = recoveryOps k I (activeLine I)
 
-  -- the sizes of an opening that is served are the history's
-  sizes-fixed : openStatus k (d .image) t ≡ 0 → k ≡ d .layout
-  sizes-fixed h =
-      let a = accepted k (d .image) t h .header in
+  -- the sizes that the image carries are the history's
+  pub header-fixed : HeaderOk k (d .image) → k ≡ d .layout
+  header-fixed a =
       let b = subst (λ (J : Image). HeaderOk (d .layout) J) (sym (st .image)) (st .inv .recovers .fit .header) in
       layout-path k (d .layout) (sym (a .0) ∙ b .0) (sym (a .1) ∙ b .1) (sym (a .2) ∙ b .2)
+
+  -- so are those of an opening that is served
+  sizes-fixed : openStatus k (d .image) t ≡ 0 → k ≡ d .layout
+  sizes-fixed h = header-fixed (accepted k (d .image) t h .header)
 
   appends : openStatus k (d .image) t ≡ 0 → Answered (outcome d c) true (freshSession k) (recoveryOps k (d .image) (activeLine (d .image))) → Appends s c
   appends h a =
@@ -84,6 +89,6 @@ module _ (s : State) (st : Stands s) (k : Layout) (t : Trace) where
         crash = λ p H x. inl (reopen-crash k (d .played) (d .durable) (st .session) _ _ (st .bytes) inv p H x);
       }
 
-  pub open-argument : Argument s (record { args = openArgs k; trace = t })
+  pub open-argument : Argument s (record { args = openArgs k; lends = t })
   unfolding openOutcome modelStep
-  open-argument = by-status s st c (open-ok k (d .image) t) (openStatus k (d .image) t) zeroSession (freshSession k) (recoveryOps k (d .image) (activeLine (d .image))) refl (inr refl) refl appends
+  open-argument = by-status s st c (open-ok k (d .image) t) (openStatus k (d .image) t) zeroSession (freshSession k) (t .clients) (cleared (t .clients)) (recoveryOps k (d .image) (activeLine (d .image))) refl (inr refl) refl appends

@@ -2,24 +2,26 @@
 -- one finishes and shows the page.
 use Prim.Native.Nat.{ℕ, _%_}
 use mathlib.Core.Path.{_≡_, refl, sym, ap, _∙_, subst}
-use mathlib.Core.Logic.{_≢_, inl}
+use mathlib.Core.Logic.{inl}
 use mathlib.Core.Bool.{Bool, true, false}
-use mathlib.Core.List.{[]}
+use mathlib.Core.List.{[], _++_}
 use native.Mathlib.Omega.{arith}
 use lib.ListN.{length, take}
 use lib.Seq.{take-length}
+use Rattle.model.specs.Clients.{clientsBad, clientsErrors, cleared}
+use Rattle.model.specs.Outcome.{Lent}
 use Rattle.model.specs.declared.Layout.{Layout}
 use Rattle.model.specs.Words.{Image, Bytes}
 use Rattle.model.specs.Layout.{lineSize}
-use Rattle.model.specs.Status.{firstError}
+use Rattle.model.specs.Status.{Errors, firstError}
 use Rattle.model.specs.Container.{activeLine, checkpointBytes}
 use Rattle.model.specs.Session.{freshSession, zeroSession}
-use Rattle.model.specs.Ops.{Ops, Trace, traceShort, traceErrors, replay}
+use Rattle.model.specs.Ops.{Ops, traceShort, traceErrors, replay}
 use Rattle.model.specs.Open.{recoveryOps, openStatus, openOutcome}
 use Rattle.model.specs.Crash.{CrashImage}
 use Rattle.model.specs.Reference.{Page}
 use Rattle.model.specs.History.{playedOps, openedImage, start}
-use Rattle.model.specs.CrashSafety.{Reads, Recovers, CutOpenings, none, again}
+use Rattle.model.specs.CrashSafety.{Reads, Recovers, Enough, CutOpenings, none, again}
 use Rattle.model.proofs.Laws.Container.{container-passes}
 use Rattle.model.proofs.Laws.Layout.{image-lines}
 use Rattle.model.proofs.Laws.Same.{length-checkpoint}
@@ -35,37 +37,42 @@ use Rattle.model.proofs.Laws.Outcome.{Answered, outcome-served}
 use Rattle.model.proofs.Argument.Stands.{Stands}
 use Rattle.model.proofs.Argument.OpenCall.{accepted, fresh-sized}
 
--- a recoverable image is accepted, with any trace that 11 does not refuse
-accepts : (l : Layout) (H : Image) (P : Contents) (t : Trace) → Recoverable l H P → openStatus l H t ≢ 11 → openStatus l H t ≡ 0
+-- a recoverable image is accepted, with any records that 13 does not refuse and any trace that 11 does not
+accepts : (l : Layout) (H : Image) (P : Contents) (t : Lent) → Recoverable l H P → Enough l H t → openStatus l H t ≡ 0
 unfolding openStatus firstError
-accepts l H P t r h = go (traceShort O t) refl
+accepts l H P t r h = go (clientsBad l (t .clients)) (traceShort O (t .trace)) refl refl
   where
     O : Ops
     O = recoveryOps l H (activeLine H)
 
-    passes : openStatus l H t ≡ firstError (traceErrors O t)
-    passes = container-passes l H (traceErrors O t) (container-of l H P r)
+    later : Errors
+    later = clientsErrors l (t .clients) ++ traceErrors O (t .trace)
 
-    go : (b : Bool) → traceShort O t ≡ b → openStatus l H t ≡ 0
-    go true e = absurd (h (passes ∙ rw e))
-    go false e = passes ∙ rw e
+    passes : openStatus l H t ≡ firstError later
+    passes = container-passes l H later (container-of l H P r)
+
+    go : (c b : Bool) → clientsBad l (t .clients) ≡ c → traceShort O (t .trace) ≡ b → openStatus l H t ≡ 0
+    go true true x e = absurd (h .1 (passes ∙ rw x))
+    go true false x e = absurd (h .1 (passes ∙ rw x))
+    go false true x e = absurd (h .0 (passes ∙ rw (x, e)))
+    go false false x e = passes ∙ rw (x, e)
 
 -- ---- what a served opening plays and leaves
 
-pub open-served : (l : Layout) (I : Image) (t : Trace) → openStatus l I t ≡ 0 → Answered (openOutcome l I t) true (freshSession l) (recoveryOps l I (activeLine I))
+pub open-served : (l : Layout) (I : Image) (t : Lent) → openStatus l I t ≡ 0 → Answered (openOutcome l I t) true (freshSession l) (recoveryOps l I (activeLine I))
 unfolding openOutcome
-open-served l I t h = outcome-served (openStatus l I t) zeroSession (freshSession l) (recoveryOps l I (activeLine I)) h
+open-served l I t h = outcome-served (openStatus l I t) zeroSession (freshSession l) (t .clients) (cleared (t .clients)) (recoveryOps l I (activeLine I)) h
 
-module _ (l : Layout) (I : Image) (t : Trace) (h : openStatus l I t ≡ 0) where
+module _ (l : Layout) (I : Image) (t : Lent) (h : openStatus l I t ≡ 0) where
   whole-lines : length I % lineSize ≡ 0
   whole-lines = omega (arith, accepted l I t h .long, image-lines l)
 
-  open-played : (p : ℕ) → playedOps I (openOutcome l I t .ops) t p ≡ take p (recoveryOps l I (activeLine I))
-  open-played p = played-ops I (openOutcome l I t .ops) t p whole-lines (open-ok l I t) ∙ ap (take p) (open-served l I t h .ops)
+  open-played : (p : ℕ) → playedOps I (openOutcome l I t .ops) (t .trace) p ≡ take p (recoveryOps l I (activeLine I))
+  open-played p = played-ops I (openOutcome l I t .ops) (t .trace) p whole-lines (open-ok l I t) ∙ ap (take p) (open-served l I t h .ops)
 
   pub opened-is : openedImage l I t ≡ replay (recoveryOps l I (activeLine I)) I
   unfolding openedImage
-  opened-is = replayed-image I (openOutcome l I t .ops) t (length (openOutcome l I t .ops)) whole-lines (open-ok l I t)
+  opened-is = replayed-image I (openOutcome l I t .ops) (t .trace) (length (openOutcome l I t .ops)) whole-lines (open-ok l I t)
       ∙ ap (λ (X : Ops). replay X I) (take-length (openOutcome l I t .ops) ∙ open-served l I t h .ops)
 
 -- openings that are cut keep what stands recoverable
@@ -75,7 +82,7 @@ openings-keep {l} P r (again {H = H} {H′ = H₁} t p ne c rest) =
     openings-keep P (open-crash l H P r p H₁ (subst (λ (X : Ops). CrashImage H X H₁) (open-played l H t (accepts l H P t r ne) p) c)) rest
 
 -- the one that finishes shows the page
-pub recovers : (l : Layout) (H : Image) (t : Trace) (Q : Page) → Whole l Q → Recoverable l H (contentsOf l Q) → openStatus l H t ≢ 11 → Recovers l H t Q
+pub recovers : (l : Layout) (H : Image) (t : Lent) (Q : Page) → Whole l Q → Recoverable l H (contentsOf l Q) → Enough l H t → Recovers l H t Q
 recovers l H t Q whole r ne =
     let h : openStatus l H t ≡ 0 = accepts l H (contentsOf l Q) t r ne in
     let inv = opened-durable l H (contentsOf l Q) r in
@@ -87,7 +94,7 @@ recovers l H t Q whole r ne =
 
 -- ---- the start of a history
 
-module _ (l : Layout) (I : Image) (t : Trace) (b : Bytes I) (h : openStatus l I t ≡ 0) where
+module _ (l : Layout) (I : Image) (t : Lent) (b : Bytes I) (h : openStatus l I t ≡ 0) where
   abbrev P : Page
   P = checkpointBytes l I (activeLine I)
 

@@ -20,6 +20,7 @@ use Rattle.model.specs.Status.{served}
 use Rattle.model.specs.Container.{committedEpoch, activeState, backupToMain}
 use Rattle.model.specs.Session.{zeroSession}
 use Rattle.model.specs.Ops.{Ops, replay}
+use Rattle.model.specs.Clients.{Clients}
 use Rattle.model.specs.Outcome.{outcomeOf}
 use Rattle.model.specs.Crash.{CrashImage}
 use Rattle.model.specs.Reference.{Page, Model, modelStep, checkpointArgs}
@@ -137,7 +138,7 @@ module _ (s : State) (st : Stands s) where
   module _ (c : Call) (ok : AllOk (length (s .device .image) / lineSize) (outcome (s .device) c .ops)) where
     -- what is played of its trace is the first part of its operations
     pub called : (p : ℕ) → calledOps (s .device) c p ≡ take p (outcome (s .device) c .ops)
-    called p = played-ops (d .image) (outcome d c .ops) (c .trace) p whole-lines ok
+    called p = played-ops (d .image) (outcome d c .ops) (c .lends .trace) p whole-lines ok
 
     pub called-all : calledOps (s .device) c (length (outcome (s .device) c .ops)) ≡ outcome (s .device) c .ops
     called-all = called (length (outcome d c .ops)) ∙ take-length (outcome d c .ops)
@@ -149,7 +150,7 @@ module _ (s : State) (st : Stands s) where
         let m : Model = modelStep l (c .args) (served (outcome d c .status)) (s .model) in
         record {
           bytes = st .bytes;
-          image = replayed-image (d .image) (outcome d c .ops) (c .trace) (length (outcome d c .ops)) whole-lines ok
+          image = replayed-image (d .image) (outcome d c .ops) (c .lends .trace) (length (outcome d c .ops)) whole-lines ok
               ∙ ap₂ replay (take-length (outcome d c .ops)) (st .image) ∙ sym (replay-append (d .played) (outcome d c .ops) (d .durable))
               ∙ ap (λ (X : Ops). replay (d .played ++ X) (d .durable)) (sym called-all);
           session = n .session;
@@ -234,11 +235,11 @@ module _ (s : State) (st : Stands s) where
         none p H x = subst (λ (X : Ops). CrashImage (d .durable) (d .played ++ X) H) (take-all p [] (omega arith)) x
 
     -- A CALL by its status: refused, all is said; served, it has to say what it appends
-    pub by-status : (e : ℕ) (kept next : Session) (O : Ops) → outcome (s .device) c ≡ outcomeOf e kept next O
+    pub by-status : (e : ℕ) (kept next : Session) (R R′ : Clients) (O : Ops) → outcome (s .device) c ≡ outcomeOf e kept next R R′ O
         → (kept ≡ s .device .session) ⊎ (kept ≡ zeroSession) → modelStep (s .device .layout) (c .args) false (s .model) ≡ s .model
         → (e ≡ 0 → Answered (outcome (s .device) c) true next O → Appends s c) → Argument s c
-    by-status e kept next O is keeps same serves = appended (go (ℕ-discrete e 0))
+    by-status e kept next R R′ O is keeps same serves = appended (go (ℕ-discrete e 0))
       where
         go : Dec (e ≡ 0) → Appends s c
-        go (yes h) = serves h (rw is (outcome-served e kept next O h))
-        go (no h) = refused kept (rw is (outcome-refused e kept next O h)) keeps same
+        go (yes h) = serves h (rw is (outcome-served e kept next R R′ O h))
+        go (no h) = refused kept (rw is (outcome-refused e kept next R R′ O h)) keeps same

@@ -10,10 +10,11 @@ use lib.Dec.{eqb}
 use borrow.Author.Tests.{leb-false, eq-eqb, ne-eqb}
 use lib.ListN.{length, take, length-set}
 use lib.Seq.{set-set, getD-set-same}
+use Rattle.model.specs.Outcome.{Lent}
 use Rattle.model.specs.declared.Session.{Session}
 use Rattle.model.specs.Words.{Image, byteAt, Bytes, overlay}
 use Rattle.model.specs.Container.{activeState, backupToMain, isPaired, pairedBackup, Free}
-use Rattle.model.specs.Ops.{sfence, Ops, Trace, replay}
+use Rattle.model.specs.Ops.{sfence, Ops, replay}
 use Rattle.model.specs.Write.{WriteArgs, needsCopy, needsBackup, copyPlan, copies, backupOps, copyOnWriteOps, spanAt, spanBlocks, spanOps, writeOps, writeSession, writeErrors, writeStatus}
 use Rattle.model.specs.declared.Layout.{Layout}
 use Rattle.model.specs.declared.Plan.{Plan}
@@ -47,7 +48,7 @@ unfolding withDirty
 copied-session s i b c h = rw (getD-set-same (s .«dirty_blocks») i 0 0 h, set-set (s .«dirty_blocks») i 0 (setBits 0 b c))
 
 -- the span of a served write
-pub span-ok : (s : Session) (I : Image) (w : WriteArgs) (t : Trace) → Bytes (w .bytes) → writeStatus s I w t ≡ 0 → SpanOk (s .layout) w
+pub span-ok : (s : Session) (I : Image) (w : WriteArgs) (t : Lent) → Bytes (w .bytes) → writeStatus s I w t ≡ 0 → SpanOk (s .layout) w
 unfolding writeStatus
 span-ok s I w t small h =
     let r = served-condition (writeErrors s I w t) (omega arith) h in

@@ -7,14 +7,14 @@ use native.Mathlib.Omega.{arith}
 use lib.Dec.{eqb}
 use lib.ListN.{length, length-set}
 use lib.Seq.{sets, length-sets}
+use Rattle.model.specs.Outcome.{Lent}
 use Rattle.model.specs.declared.Layout.{Layout}
 use Rattle.model.specs.declared.Session.{Session}
 use Rattle.model.specs.Words.{Image, byteAt, Bytes, overlay}
 use Rattle.model.specs.Layout.{ssBackup, segmentSize, mainAt}
 use Rattle.model.specs.Container.{activeState, backupToMain}
 use Rattle.model.specs.Session.{withDirty}
-use Rattle.model.specs.Ops.{Trace}
-use Rattle.model.specs.Write.{WriteArgs, needsCopy, needsBackup, spanAt, writeOps, writeSession, writeStatus, writeOutcome}
+use Rattle.model.specs.Write.{WriteArgs, needsCopy, needsBackup, spanAt, writeOps, writeSession, writeClients, writeStatus, writeOutcome}
 use Rattle.model.specs.Reference.{Page, Model, modelStep, writeArgs, pageAt}
 use Rattle.model.specs.History.{Call, Device, State, outcome}
 use Rattle.model.proofs.Laws.Open.{zero-write}
@@ -39,7 +39,7 @@ write-sized : (s : Session) (I : Image) (w : WriteArgs) → (writeSession s I w 
 unfolding writeSession withDirty
 write-sized s I w = (refl, length-set (s .«dirty_blocks») (w .main) _)
 
-module _ (s : State) (st : Stands s) (w : WriteArgs) (t : Trace) (small : Bytes (w .bytes)) where
+module _ (s : State) (st : Stands s) (w : WriteArgs) (t : Lent) (small : Bytes (w .bytes)) where
   abbrev d : Device
   d = s .device
 
@@ -53,7 +53,7 @@ module _ (s : State) (st : Stands s) (w : WriteArgs) (t : Trace) (small : Bytes 
   σ = st .session
 
   abbrev c : Call
-  c = record { args = writeArgs w; trace = t }
+  c = record { args = writeArgs w; lends = t }
 
   abbrev page : Page
   page = sets (s .model .working) (pageAt l (w .main) (w .block) + w .offset) (w .bytes)
@@ -102,7 +102,7 @@ module _ (s : State) (st : Stands s) (w : WriteArgs) (t : Trace) (small : Bytes 
         crash = λ p H x. inl (write-crash (d .played) (d .durable) σ _ _ (st .bytes) inv w ok (st .wide) free p H x);
       }
 
-  pub write-argument : Argument s (record { args = writeArgs w; trace = t })
+  pub write-argument : Argument s (record { args = writeArgs w; lends = t })
   unfolding writeOutcome modelStep
   write-argument =
-      by-status s st c (write-outcome-ok (d .session) (d .image) w t) (writeStatus (d .session) (d .image) w t) (d .session) (writeSession (d .session) (d .image) w) (writeOps (d .session) (d .image) w) refl (inl refl) refl appends
+      by-status s st c (write-outcome-ok (d .session) (d .image) w t) (writeStatus (d .session) (d .image) w t) (d .session) (writeSession (d .session) (d .image) w) (t .clients) (writeClients (d .session) (d .image) w (t .clients)) (writeOps (d .session) (d .image) w) refl (inl refl) refl appends

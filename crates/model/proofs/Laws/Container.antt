@@ -2,7 +2,7 @@
 use Prim.Native.Nat.{ℕ, _<_}
 use mathlib.Core.Path.{_≡_, refl, sym, ap, _∙_}
 use mathlib.Core.Logic.{_↔_, _≢_, _⊎_, inl, inr, ⊎-elim}
-use mathlib.Core.Bool.{Bool, true, false, not, _||_, true≢false, and-eq-true-iff}
+use mathlib.Core.Bool.{Bool, true, false, not, _||_, and-eq-true-iff}
 use mathlib.Core.List.{_++_}
 use native.Mathlib.Omega.{arith}
 use lib.Dec.{ltb, eqb}
@@ -15,7 +15,7 @@ use Rattle.model.specs.Layout.{most, unpaired, ssInitial, ssBackup, InRa
 use Rattle.model.specs.Status.{Errors, firstError}
 use Rattle.model.specs.Container.{activeLine, segState, backupToMain, Valid, isPaired, validMetadata, pairedBackup, Free, isFree, anyFree, HeaderOk, headerOk, containerErrors}
 use Rattle.model.specs.Refusals.{NoneHolds}
-use Rattle.model.proofs.Laws.Range.{or-left, or-right, or-else, all-at, all-from, any-at, any-none, first-some}
+use Rattle.model.proofs.Laws.Range.{or-left, or-right, or-else, all-at, all-from, any-at, any-none, first-some, or-none}
 use Rattle.model.proofs.Laws.Status.{after-none, served-parts, served-condition}
 
 -- ---- sizes and header
@@ -68,11 +68,6 @@ module _ (l : Layout) (pr : ℕ → ℕ) (i : ℕ) where
 or-test : (a b : Bool) → (a ≡ false → b ≡ true) → (a || b) ≡ true
 or-test true b f = refl
 or-test false b f = f refl
-
--- neither holds
-or-none : (a b : Bool) → (a || b) ≡ false → (a ≡ false) × (b ≡ false)
-or-none true b h = absurd (true≢false h)
-or-none false b h = (refl, h)
 
 pub valid-means : (l : Layout) (st pr : ℕ → ℕ) → validMetadata l st pr ≡ true → Valid l st pr
 unfolding validMetadata

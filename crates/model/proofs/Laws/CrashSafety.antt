@@ -8,8 +8,7 @@ use Rattle.model.specs.declared.Layout.{Layout}
 use Rattle.model.specs.declared.Session.{Session}
 use Rattle.model.specs.Words.{Image}
 use Rattle.model.specs.Container.{activeState, backupToMain, Free, anyFree}
-use Rattle.model.specs.Ops.{Trace}
-use Rattle.model.specs.Outcome.{outcomeOf}
+use Rattle.model.specs.Outcome.{Lent, outcomeOf}
 use Rattle.model.specs.Write.{WriteArgs, needsBackup, writeErrors, writeStatus}
 use Rattle.model.specs.Checkpoint.{checkpointStatus, checkpointOutcome}
 use Rattle.model.specs.Reads.{readErrors, readStatus}
@@ -27,7 +26,7 @@ use Rattle.model.proofs.Laws.Counts.Checkpoint.{window-is}
 -- ---- the pages that a checkpoint may show
 
 -- a served checkpoint with m dirty blocks: the old one until operation 4 * m + 12 is played, the new one once it is played whole
-module _ (s : State) (t : Trace) (p : ℕ) (Q : Page) (h : checkpointStatus (s .device .session) (s .device .image) t ≡ 0) where
+module _ (s : State) (t : Lent) (p : ℕ) (Q : Page) (h : checkpointStatus (s .device .session) (s .device .image) t ≡ 0) where
   abbrev m : ℕ
   m = dirtyTotal (s .device .session .layout) (s .device .session .«dirty_blocks»)
 
@@ -51,7 +50,7 @@ module _ (l : Layout) (I : Image) (i b : ℕ) where
   read-seven h = leb-true _ _ (given-condition 7 (readErrors l I i b) (omega arith) h)
 
 -- a write: 9 only if it needs a new backup segment and none is free by the active line
-module _ (s : Session) (I : Image) (w : WriteArgs) (t : Trace) (h : writeStatus s I w t ≡ 9) where
+module _ (s : Session) (I : Image) (w : WriteArgs) (t : Lent) (h : writeStatus s I w t ≡ 9) where
   nine : (needsBackup s I (w .main) && not (anyFree (s .layout) (activeState I) (backupToMain I))) ≡ true
   unfolding writeStatus
   nine = sym (plan-none-free s I (w .main)) ∙ given-condition 9 (writeErrors s I w t) (omega arith) h

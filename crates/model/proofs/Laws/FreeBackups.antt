@@ -3,8 +3,7 @@
 use Prim.Native.Nat.{ℕ, suc, _<_}
 use mathlib.Core.Path.{_≡_, refl, sym, ap, _∙_}
 use mathlib.Core.Logic.{_≢_, inr, ⊎-elim}
-use mathlib.Core.Bool.{Bool, true, false, not, _&&_, true≢false, false≢true, and-false, Bool·not-not}
-use mathlib.Core.List.{_++_}
+use mathlib.Core.Bool.{Bool, true, false, not, _&&_, true≢false, and-false, Bool·not-not}
 use native.Mathlib.Omega.{arith}
 use native.Mathlib.Decide.{ℕ-discrete}
 use lib.Dec.{eqb}
@@ -15,11 +14,12 @@ use Rattle.model.specs.Range.{sumTo, oneIf}
 use Rattle.model.specs.Words.{Image}
 use Rattle.model.specs.Layout.{unpaired, ssBackup, SizesOk}
 use Rattle.model.specs.Status.{firstError}
-use Rattle.model.specs.Container.{activeState, backupToMain, Valid, isPaired, pairedBackup, isFree, anyFree}
-use Rattle.model.specs.Write.{WriteArgs, needsCopy, needsBackup, copyPlan, noneFree, writeOps, earlyErrors, lateErrors, writeStatus}
-use Rattle.model.specs.FreeBackups.{mainsInBackup, freeBackups, backupsInUse, InUseCounted, NineExactly}
+use Rattle.model.specs.Container.{activeState, backupToMain, Valid, isPaired, pairedBackup, isFree, anyFree, freeBackups}
+use Rattle.model.specs.Clients.{Clients}
+use Rattle.model.specs.Write.{WriteArgs, needsCopy, needsBackup, copyPlan, noneFree, earlyErrors, writeErrors, writeStatus}
+use Rattle.model.specs.FreeBackups.{mainsInBackup, backupsInUse, InUseCounted, NineExactly}
 use Rattle.model.proofs.Laws.Range.{both, and-left, and-right, sum-zero, sum-ext, sum-swap, sum-change, sum-single, sum-split, any-counted}
-use Rattle.model.proofs.Laws.Status.{first-holds, given-condition, after-served, before-refused}
+use Rattle.model.proofs.Laws.Status.{first-holds, given-condition, given-later, after-served}
 use Rattle.model.proofs.Laws.Container.{ContainerOk, container-then, any-free, paired-at}
 use Rattle.model.proofs.Laws.Write.{copy-needed, plan-none-free}
 
@@ -91,7 +91,7 @@ in-use-counted l st pr sizes v = let c = counted l st pr sizes v in (c, omega (a
 
 -- ---- refusal 9
 
-module _ (s : Session) (I : Image) (w : WriteArgs) (early : firstError (earlyErrors s I w) ≡ 0) where
+module _ (s : Session) (I : Image) (R : Clients) (w : WriteArgs) (early : firstError (earlyErrors s I R w) ≡ 0) where
   abbrev l : Layout
   l = s .layout
 
@@ -134,19 +134,15 @@ pub nine-exactly : NineExactly
 unfolding writeStatus
 nine-exactly s I w t = (given, gives)
   where
-    given : firstError (earlyErrors s I w ++ lateErrors (copyPlan s I (w .main)) (writeOps s I w) t) ≡ 9
-        → (firstError (earlyErrors s I w) ≡ 0) × (needsCopy s I (w .main) ≡ true) × (mainsInBackup (s .layout) (activeState I) ≡ s .layout .backups)
-    given h = go (ℕ-discrete (firstError (earlyErrors s I w)) 0)
-      where
-        go : Dec (firstError (earlyErrors s I w) ≡ 0)
-            → (firstError (earlyErrors s I w) ≡ 0) × (needsCopy s I (w .main) ≡ true) × (mainsInBackup (s .layout) (activeState I) ≡ s .layout .backups)
-        go (yes z) =
-            let both : (needsCopy s I (w .main) && eqb (mainsInBackup (s .layout) (activeState I)) (s .layout .backups)) ≡ true =
-            sym (needs-free s I w z) ∙ given-condition 9 _ (omega arith) h in
-            (z, and-left _ _ both, eqb-true _ _ (and-right (needsCopy s I (w .main)) _ both))
-        go (no n) = absurd (false≢true (given-condition 9 (earlyErrors s I w) (omega arith) (sym (before-refused (earlyErrors s I w) _ n) ∙ h)))
+    given : firstError (writeErrors s I w t) ≡ 9
+        → (firstError (earlyErrors s I (t .clients) w) ≡ 0) × (needsCopy s I (w .main) ≡ true) × (mainsInBackup (s .layout) (activeState I) ≡ s .layout .backups)
+    given h =
+        let z = given-later 9 (earlyErrors s I (t .clients) w) _ (omega arith) refl h in
+        let both : (needsCopy s I (w .main) && eqb (mainsInBackup (s .layout) (activeState I)) (s .layout .backups)) ≡ true =
+        sym (needs-free s I (t .clients) w z) ∙ given-condition 9 _ (omega arith) h in
+        (z, and-left _ _ both, eqb-true _ _ (and-right (needsCopy s I (w .main)) _ both))
 
-    gives : (firstError (earlyErrors s I w) ≡ 0) × (needsCopy s I (w .main) ≡ true) × (mainsInBackup (s .layout) (activeState I) ≡ s .layout .backups)
-        → firstError (earlyErrors s I w ++ lateErrors (copyPlan s I (w .main)) (writeOps s I w) t) ≡ 9
-    gives (z, c, f) = after-served (earlyErrors s I w) _ (omega arith) z
-        ∙ sym (first-holds 9 _ _ (needs-free s I w z ∙ both c (eq-eqb _ _ f)))
+    gives : (firstError (earlyErrors s I (t .clients) w) ≡ 0) × (needsCopy s I (w .main) ≡ true) × (mainsInBackup (s .layout) (activeState I) ≡ s .layout .backups)
+        → firstError (writeErrors s I w t) ≡ 9
+    gives (z, c, f) = after-served (earlyErrors s I (t .clients) w) _ (omega arith) z
+        ∙ sym (first-holds 9 _ _ (needs-free s I (t .clients) w z ∙ both c (eq-eqb _ _ f)))

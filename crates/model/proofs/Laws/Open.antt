@@ -7,20 +7,19 @@ use Rattle.model.specs.Words.{Image}
 use Rattle.model.specs.Layout.{inRange, sizesOk}
 use Rattle.model.specs.Status.{firstError}
 use Rattle.model.specs.Session.{freshSession, zeroSession}
-use Rattle.model.specs.Ops.{Trace}
-use Rattle.model.specs.Outcome.{outcomeOf}
+use Rattle.model.specs.Outcome.{Lent, outcomeOf}
 use Rattle.model.specs.Open.{openStatus, openOutcome}
 use Rattle.model.specs.Write.{WriteArgs, writeStatus}
 use Rattle.model.specs.Checkpoint.{checkpointStatus}
 
-pub refused-session : (l : Layout) (I : Image) (t : Trace) → openStatus l I t ≢ 0 → openOutcome l I t .session ≡ zeroSession
+pub refused-session : (l : Layout) (I : Image) (t : Lent) → openStatus l I t ≢ 0 → openOutcome l I t .session ≡ zeroSession
 unfolding openOutcome outcomeOf
 refused-session l I t h = rw (ne-eqb _ _ h)
 
-pub zero-write : (I : Image) (w : WriteArgs) (t : Trace) → writeStatus zeroSession I w t ≡ 1
+pub zero-write : (I : Image) (w : WriteArgs) (t : Lent) → writeStatus zeroSession I w t ≡ 1
 unfolding writeStatus zeroSession freshSession firstError sizesOk inRange
 zero-write I w t = refl
 
-pub zero-checkpoint : (I : Image) (t : Trace) → checkpointStatus zeroSession I t ≡ 1
+pub zero-checkpoint : (I : Image) (t : Lent) → checkpointStatus zeroSession I t ≡ 1
 unfolding checkpointStatus zeroSession freshSession firstError sizesOk inRange
 zero-checkpoint I t = refl

@@ -39,6 +39,11 @@ pub or-else : (a b : Bool) → (a || b) ≡ true → a ≡ false → b ≡ true
 or-else true b e f = cc
 or-else false b e f = e
 
+-- neither holds
+pub or-none : (a b : Bool) → (a || b) ≡ false → (a ≡ false) × (b ≡ false)
+or-none true b h = absurd (true≢false h)
+or-none false b h = (refl, h)
+
 -- two tests are the same if each follows from the other
 pub same-test : (a b : Bool) → (a ≡ true → b ≡ true) → (b ≡ true → a ≡ true) → a ≡ b
 same-test true b f g = sym (f refl)

@@ -1,13 +1,12 @@
--- Demand 1 (specs/Refusals.antt), proved: the number that is given is that of the first condition that holds, a call knows the
--- numbers of its list and gives no other, and today it gives the lowest that applies.
-use Prim.Native.Nat.{ℕ, _≤_, _<_}
+-- Demand 1 (specs/Refusals.antt), proved: the number that is given is that of the first condition that holds, and a call knows
+-- the numbers of its list and gives no other.
+use Prim.Native.Nat.{ℕ}
 use mathlib.Core.Path.{_≡_, refl, sym, ap, _∙_}
-use mathlib.Core.Logic.{_⊎_, inl, inr, ⊎-elim}
-use mathlib.Core.Bool.{Bool, true, false, cond, false≢true}
+use mathlib.Core.Logic.{inl, inr, ⊎-elim}
+use mathlib.Core.Bool.{Bool, true, false, cond}
 use mathlib.Core.List.{[], _∷_}
-use native.Mathlib.Omega.{arith}
 use Rattle.model.specs.Status.{Errors, firstError}
-use Rattle.model.specs.Refusals.{First, GivenFirst, ServedExactly, numbers, Knows, OneOf, NumberKnown, Ascending, Applies, LowestGiven, AllAscend}
+use Rattle.model.specs.Refusals.{First, GivenFirst, ServedExactly, numbers, Knows, OneOf, NumberKnown}
 use Rattle.model.proofs.Laws.Status.{none-served, served-none, after-none}
 
 pub given-first : GivenFirst
@@ -47,22 +46,3 @@ number-known (e ∷ es) = go (e .1) (number-known es)
     go : (b : Bool) → OneOf (0 ∷ numbers es) (firstError es) → OneOf (0 ∷ e .0 ∷ numbers es) (cond b (e .0) (firstError es))
     go true ih = inr (inl refl)
     go false ih = ⊎-elim inl (λ x. inr (inr x)) ih
-
--- ---- the closing remark
-
-pub lowest-given : LowestGiven
-unfolding firstError
-lowest-given k [] a n p = absurd p
-lowest-given k (e ∷ es) a n p = go (e .1) p (lowest-given (e .0) es (a .1) n)
-  where
-    above : (m : ℕ) (fs : Errors) → Ascending m fs → Applies n fs → m < n
-    above m [] b q = absurd q
-    above m (f ∷ fs) b q = ⊎-elim (λ x. omega (arith, b .0, x .0)) (λ x. omega (arith, b .0, above (f .0) fs (b .1) x)) q
-
-    go : (b : Bool) → ((e .0 ≡ n) × (b ≡ true)) ⊎ Applies n es → (Applies n es → Applies (firstError es) es × (firstError es ≤ n))
-        → Applies (cond b (e .0) (firstError es)) ((e .0, b) ∷ es) × (cond b (e .0) (firstError es) ≤ n)
-    go true p ih = (inl (refl, refl), ⊎-elim (λ x. omega (arith, x .0)) (λ x. omega (arith, above (e .0) es (a .1) x)) p)
-    go false p ih = ⊎-elim (λ x. absurd (false≢true (x .1))) (λ x. (inr (ih x .0), ih x .1)) p
-
-pub all-ascend : AllAscend
-all-ascend l s I w i b n t = (omega arith, omega arith, omega arith, omega arith, omega arith, omega arith)

@@ -13,8 +13,8 @@ use Rattle.model.specs.Words.{Image}
 use Rattle.model.specs.Layout.{lineSize}
 use Rattle.model.specs.Status.{served}
 use Rattle.model.specs.Container.{activeLine}
-use Rattle.model.specs.Ops.{Ops, Trace}
-use Rattle.model.specs.Outcome.{outcomeOf}
+use Rattle.model.specs.Ops.{Ops}
+use Rattle.model.specs.Outcome.{Lent, outcomeOf}
 use Rattle.model.specs.Open.{recoveryOps, openStatus, openOutcome}
 use Rattle.model.specs.Write.{WriteArgs, writeOps, writeErrors, writeStatus, writeOutcome}
 use Rattle.model.specs.Checkpoint.{checkpointOps, checkpointStatus, checkpointOutcome}
@@ -33,13 +33,13 @@ use Rattle.model.proofs.Laws.Replay.WellFormed.{recovery-ok, write-ok, 
 served-ok : (size e : ℕ) (O : Ops) → (e ≡ 0 → AllOk size O) → AllOk size (cond (served e) O [])
 served-ok size e O h = all-when (OpOk size) (served e) O (λ q. h (eqb-true e 0 q))
 
-pub open-ok : (l : Layout) (I : Image) (t : Trace) → AllOk (length I / lineSize) (openOutcome l I t .ops)
+pub open-ok : (l : Layout) (I : Image) (t : Lent) → AllOk (length I / lineSize) (openOutcome l I t .ops)
 unfolding openOutcome outcomeOf openStatus
 open-ok l I t =
     served-ok (length I / lineSize) (openStatus l I t) (recoveryOps l I (activeLine I))
     (λ h. subst (λ (n : ℕ). AllOk (n / lineSize) (recoveryOps l I (activeLine I))) (sym (container-then l I _ h .0 .long)) (recovery-ok l I (activeLine I)))
 
-pub write-outcome-ok : (s : Session) (I : Image) (w : WriteArgs) (t : Trace) → AllOk (length I / lineSize) (writeOutcome s I w t .ops)
+pub write-outcome-ok : (s : Session) (I : Image) (w : WriteArgs) (t : Lent) → AllOk (length I / lineSize) (writeOutcome s I w t .ops)
 unfolding writeOutcome outcomeOf writeStatus
 write-outcome-ok s I w t = served-ok (length I / lineSize) (writeStatus s I w t) (writeOps s I w) go
   where
@@ -52,7 +52,7 @@ write-outcome-ok s I w t = served-ok (length I / lineSize) (writeStatus s I w t)
         (write-ok s I w (c .0 .sizes .0 .1) (c .0 .sizes .1 .1) (leb-false _ _ (r 6)) (leb-false _ _ (r 7)) (g .0)
         (g .2) (λ e. new-free (s .layout) _ _ (c .0 .valid) e .0))
 
-pub checkpoint-outcome-ok : (s : Session) (I : Image) (t : Trace) → AllOk (length I / lineSize) (checkpointOutcome s I t .ops)
+pub checkpoint-outcome-ok : (s : Session) (I : Image) (t : Lent) → AllOk (length I / lineSize) (checkpointOutcome s I t .ops)
 unfolding checkpointOutcome outcomeOf checkpointStatus
 checkpoint-outcome-ok s I t =
     served-ok (length I / lineSize) (checkpointStatus s I t) (checkpointOps s I)
@@ -63,10 +63,10 @@ checkpoint-outcome-ok s I t =
 pub call-ok : (d : Device) (c : Call) → AllOk (length (d .image) / lineSize) (outcome d c .ops)
 call-ok d c = go (c .args)
   where
-    go : (a : CallArgs) → AllOk (length (d .image) / lineSize) (answers (d .session) (d .image) a (c .trace) .ops)
-    go (openArgs l) = open-ok l (d .image) (c .trace)
-    go (writeArgs w) = write-outcome-ok (d .session) (d .image) w (c .trace)
-    go checkpointArgs = checkpoint-outcome-ok (d .session) (d .image) (c .trace)
+    go : (a : CallArgs) → AllOk (length (d .image) / lineSize) (answers (d .session) (d .image) a (c .lends) .ops)
+    go (openArgs l) = open-ok l (d .image) (c .lends)
+    go (writeArgs w) = write-outcome-ok (d .session) (d .image) w (c .lends)
+    go checkpointArgs = checkpoint-outcome-ok (d .session) (d .image) (c .lends)
 
 pub replay-serves-all : ReplayServesAll
 replay-serves-all d c whole p = (replay-serves _ _ _ p whole (call-ok d c), played-ops _ _ _ p whole (call-ok d c))

@@ -4,7 +4,7 @@
 use Prim.Native.Nat.{ℕ, suc}
 use mathlib.Core.Path.{_≡_, refl, sym, _∙_}
 use mathlib.Core.Logic.{_≢_}
-use mathlib.Core.Bool.{Bool, true, false, cond, _||_}
+use mathlib.Core.Bool.{Bool, true, false, cond, _||_, true≢false}
 use mathlib.Core.List.{[], _∷_, _++_}
 use native.Mathlib.Omega.{arith}
 use native.Mathlib.Decide.{ℕ-discrete}
@@ -134,6 +134,15 @@ given-condition n (e ∷ es) k h = go (e .1) h (given-condition n es k)
         → cond (eqb (e .0) n) (condition n es || b) (condition n es) ≡ true
     go true h ih = rw (eq-eqb (e .0) n h) (or-right (condition n es) refl)
     go false h ih = both (eqb (e .0) n) (ih h)
+
+-- a number that the first part of a list does not have, or has with a condition that fails, is given by the second part, and the first
+-- lets the call through
+pub given-later : (n : ℕ) (es fs : Errors) → n ≢ 0 → condition n es ≡ false → firstError (es ++ fs) ≡ n → firstError es ≡ 0
+given-later n es fs k c h =
+    elim (ℕ-discrete (firstError es) 0) [
+      | yes z ↦ z
+      | no m ↦ absurd (true≢false (sym (given-condition n es k (sym (before-refused es fs m) ∙ h)) ∙ c))
+    ]
 
 pub given-earlier : (n : ℕ) (es : Errors) → n ≢ 0 → firstError es ≡ n → (m : ℕ) → condition m (earlier n es) ≡ false
 unfolding firstError

@@ -36,7 +36,7 @@ long-enough O t h e = true≢false (sym e ∙ le-ltb (length t) (3 * length O) h
 pub trace-suffices : TraceSuffices
 unfolding openStatus
 trace-suffices l I t h e =
-    long-enough (recoveryOps l I (activeLine I)) t (omega (arith, recovery-most l I (activeLine I))) (given-condition 11 (openErrors l I t) (omega arith) e)
+    long-enough (recoveryOps l I (activeLine I)) (t .trace) (omega (arith, recovery-most l I (activeLine I))) (given-condition 11 (openErrors l I t) (omega arith) e)
 
 -- ---- write
 
@@ -61,7 +61,7 @@ write-most s I w h = omega (arith, span-most (s .layout) w h, length-write s I w
 pub write-trace-suffices : WriteTraceSuffices
 unfolding writeStatus
 write-trace-suffices s I w t h e =
-    long-enough (writeOps s I w) t (omega (arith, write-most s I w (given-earlier 11 (writeErrors s I w t) (omega arith) e 8)))
+    long-enough (writeOps s I w) (t .trace) (omega (arith, write-most s I w (given-earlier 11 (writeErrors s I w t) (omega arith) e 8)))
     (given-condition 11 (writeErrors s I w t) (omega arith) e)
 
 -- ---- checkpoint
@@ -73,5 +73,5 @@ total-most l words = sum-most (l .mains) (l .blocks) _ (λ i h. dirty-most (getD
 pub checkpoint-trace-suffices : CheckpointTraceSuffices
 unfolding checkpointStatus
 checkpoint-trace-suffices s I t h e =
-    long-enough (checkpointOps s I) t (omega (arith, length-checkpoint-ops s I, total-most (s .layout) (s .«dirty_blocks»)))
+    long-enough (checkpointOps s I) (t .trace) (omega (arith, length-checkpoint-ops s I, total-most (s .layout) (s .«dirty_blocks»)))
     (given-condition 11 (checkpointErrors s I t) (omega arith) e)

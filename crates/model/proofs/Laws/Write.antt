@@ -7,12 +7,13 @@ use native.Mathlib.Omega.{arith}
 use borrow.Author.Tests.{leb-false, ltb-false, eqb-false, eqb-true, not-true, not-false}
 use lib.ListN.{length}
 use lib.Dec.{leb, eqb}
+use Rattle.model.specs.Outcome.{Lent}
 use Rattle.model.specs.declared.Session.{Session}
+use Rattle.model.specs.declared.Plan.{Plan}
 use Rattle.model.specs.declared.Plan.the-variants.{NoCopy, OwnBackup, NewBackup, NoneFree}
 use Rattle.model.specs.Words.{Image}
 use Rattle.model.specs.Container.{activeState, backupToMain, isPaired, pairedBackup, anyFree, newBackup}
-use Rattle.model.specs.Ops.{Trace}
-use Rattle.model.specs.Write.{WriteArgs, needsCopy, needsBackup, copyPlan, noneFree, writeErrors, writeStatus, spanBad}
+use Rattle.model.specs.Write.{WriteArgs, needsCopy, needsBackup, copyPlan, copies, noneFree, writeErrors, writeStatus, spanBad}
 use Rattle.model.specs.declared.Layout.{Layout}
 use Rattle.model.specs.Layout.{blockSize}
 use Rattle.model.specs.Session.{dirtySegment}
@@ -72,8 +73,22 @@ plan-none-free s I i = go (needsCopy s I i) (isPaired (s .layout) (backupToMain 
     go true false true = refl
     go true false false = refl
 
+-- where it does not, the segment is copied exactly if it must be
+pub plan-copies : (s : Session) (I : Image) (i : ℕ) → noneFree (copyPlan s I i) ≡ false → copies (copyPlan s I i) ≡ needsCopy s I i
+unfolding copyPlan
+plan-copies s I i h = go (needsCopy s I i) (isPaired (s .layout) (backupToMain I) i) (someFree s I) h
+  where
+    planBy : Bool → Bool → Bool → Plan
+    planBy a b c = cond a (cond b (OwnBackup (pairedBackup (s .layout) (backupToMain I) i)) (cond c (NewBackup (newOf s I)) NoneFree)) NoCopy
+
+    go : (a b c : Bool) → noneFree (planBy a b c) ≡ false → copies (planBy a b c) ≡ a
+    go false b c h = refl
+    go true true c h = refl
+    go true false true h = refl
+    go true false false h = absurd (true≢false h)
+
 -- so a served write that needs a new one finds one free
-pub served-free : (s : Session) (I : Image) (w : WriteArgs) (t : Trace) → writeStatus s I w t ≡ 0 → needsBackup s I (w .main) ≡ true → someFree s I ≡ true
+pub served-free : (s : Session) (I : Image) (w : WriteArgs) (t : Lent) → writeStatus s I w t ≡ 0 → needsBackup s I (w .main) ≡ true → someFree s I ≡ true
 unfolding writeStatus
 served-free s I w t h n =
     let none : (needsBackup s I (w .main) && not (someFree s I)) ≡ false =

@@ -12,8 +12,8 @@ use Rattle.model.specs.Words.{Image, wordOf}
 use Rattle.model.specs.Layout.{wordSize, lineSize, blockLines, lineWords, epochAt}
 use Rattle.model.specs.Container.{committedEpoch, activeState, inactiveLine}
 use Rattle.model.specs.Session.{isDirty, dirtyWord}
-use Rattle.model.specs.Ops.{Op, store, clwb, sfence, Ops, Trace, stores, clwbs}
-use Rattle.model.specs.Outcome.{outcomeOf}
+use Rattle.model.specs.Ops.{Op, store, clwb, sfence, Ops, stores, clwbs}
+use Rattle.model.specs.Outcome.{Lent, outcomeOf}
 use Rattle.model.specs.Checkpoint.{flushDirty, nextStates, statesOps, checkpointOps, checkpointStatus, checkpointOutcome}
 use Rattle.model.specs.History.{callCheckpoint, Device, calledOps}
 use Rattle.model.specs.Counts.{dirtyTotal}
@@ -93,7 +93,7 @@ module _ (s : Session) (I : Image) where
           omega arith
 
 -- the window of a served checkpoint: its first 4 * m + 12 or 4 * m + 13 operations are played, for m dirty blocks
-pub window-is : (d : Device) (t : Trace) (p : ℕ) → checkpointStatus (d .session) (d .image) t ≡ 0
+pub window-is : (d : Device) (t : Lent) (p : ℕ) → checkpointStatus (d .session) (d .image) t ≡ 0
     → Window d (callCheckpoint t) p ↔ ((4 * dirtyTotal (d .session .layout) (d .session .«dirty_blocks») + 12 ≤ p) × (p < 4 * dirtyTotal (d .session .layout) (d .session .«dirty_blocks») + 14))
 unfolding checkpointStatus checkpointOutcome outcomeOf
 window-is d t p h = (
@@ -111,4 +111,4 @@ window-is d t p h = (
     whole = omega (arith, image-lines (d .session .layout), container-then (d .session .layout) (d .image) _ h .0 .long)
 
     called : calledOps d (callCheckpoint t) p ≡ take p (checkpointOps (d .session) (d .image))
-    called = played-ops (d .image) _ t p whole (checkpoint-outcome-ok (d .session) (d .image) t) ∙ ap (take p) ops
+    called = played-ops (d .image) _ (t .trace) p whole (checkpoint-outcome-ok (d .session) (d .image) t) ∙ ap (take p) ops

@@ -5,12 +5,13 @@ use mathlib.Core.Bool.{not}
 use mathlib.Core.List.{[], _∷_, _++_}
 use native.Mathlib.Omega.{arith}
 use lib.Dec.{eqb}
+use Rattle.model.specs.Outcome.{Lent}
 use Rattle.model.specs.declared.Session.{Session}
 use Rattle.model.specs.Words.{Image, wordOf}
 use Rattle.model.specs.Layout.{wordSize, lineWords, epochAt, stateLine}
 use Rattle.model.specs.Container.{activeState, inactiveLine}
 use Rattle.model.specs.Session.{isDirty}
-use Rattle.model.specs.Ops.{store, clwb, sfence, Ops, Trace, traceShort, stores}
+use Rattle.model.specs.Ops.{store, clwb, sfence, Ops, traceShort, stores}
 use Rattle.model.specs.Checkpoint.{flushDirty, nextState, nextStates, statesOps, epochOps, checkpointOps, checkpointStatus, checkpointOutcome}
 use Rattle.model.specs.Unread.{AgreeNamed}
 use Rattle.model.proofs.Laws.Words.{word-cong}
@@ -28,13 +29,14 @@ module _ {I J : Image} (same : AgreeNamed I J) where
       ∙ ap (λ (e : ℕ). stores lineWords (stateLine (suc e)) (λ k. wordOf (nextStates segments (activeState J)) (wordSize * k)) ++ clwb (stateLine (suc e)) ∷ []) (epoch-same same))
       (ap (λ (e : ℕ). store epochAt (suc e) ∷ clwb epochAt ∷ []) (epoch-same same))
 
-  pub checkpoint-status-unread : (s : Session) (t : Trace) → checkpointStatus s I t ≡ checkpointStatus s J t
+  pub checkpoint-status-unread : (s : Session) (t : Lent) → checkpointStatus s I t ≡ checkpointStatus s J t
   unfolding checkpointStatus
   checkpoint-status-unread s t = errors-same same (s .layout) _ _ (λ sizes v.
       error-ext 5 _ _ _ _ (ap not (session-same same s sizes)) (λ a.
+      error-ext 13 _ _ _ _ refl (λ d.
       error-ext 10 _ _ _ _ (ap (λ (e : ℕ). eqb e (2 ^ 64 - 1)) (epoch-same same)) (λ b.
-      error-ext 11 _ _ _ _ (ap (λ (O : Ops). traceShort O t) (checkpoint-ops-same s)) (λ c. refl))))
+      error-ext 11 _ _ _ _ (ap (λ (O : Ops). traceShort O (t .trace)) (checkpoint-ops-same s)) (λ c. refl)))))
 
-  pub checkpoint-unread : (s : Session) (t : Trace) → checkpointOutcome s I t ≡ checkpointOutcome s J t
+  pub checkpoint-unread : (s : Session) (t : Lent) → checkpointOutcome s I t ≡ checkpointOutcome s J t
   unfolding checkpointOutcome
-  checkpoint-unread s t = outcome-same _ _ s (checkpoint-status-unread s t) (λ z. refl) (λ z. checkpoint-ops-same s)
+  checkpoint-unread s t = outcome-same _ _ s _ (checkpoint-status-unread s t) (λ z. refl) (λ z. refl) (λ z. checkpoint-ops-same s)

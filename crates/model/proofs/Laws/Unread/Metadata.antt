@@ -14,13 +14,13 @@ use Rattle.model.specs.declared.Layout.{Layout}
 use Rattle.model.specs.declared.Session.{Session}
 use Rattle.model.specs.Words.{Image, byteAt, wordAt}
 use Rattle.model.specs.Layout.{wordSize, lineSize, metadataSize, most, epochAt, mainsAt, backupsAt, blocksAt, pairsAt, unpaired, ssInitial, ssMain, ssBackup, SizesOk, imageSize, stateLine}
-use Rattle.model.specs.Range.{anyB}
+use Rattle.model.specs.Range.{anyB, oneIf}
 use Rattle.model.specs.Status.{Errors, firstError}
-use Rattle.model.specs.Container.{committedEpoch, activeLine, segState, backupToMain, Valid, isPaired, validMetadata, pairedBackup, isFree, anyFree, newBackup, headerOk, containerErrors}
+use Rattle.model.specs.Container.{committedEpoch, activeLine, segState, backupToMain, Valid, isPaired, validMetadata, pairedBackup, isFree, anyFree, freeBackups, newBackup, headerOk, containerErrors}
 use Rattle.model.specs.Session.{dirtySegment, validSession}
 use Rattle.model.specs.Ops.{store, stores}
 use Rattle.model.specs.Unread.{AgreeNamed}
-use Rattle.model.proofs.Laws.Range.{cat-ext, all-ext, any-none, any-ext, first-ext}
+use Rattle.model.proofs.Laws.Range.{cat-ext, all-ext, any-none, any-ext, first-ext, sum-ext}
 use Rattle.model.proofs.Laws.Words.{word-cong}
 use Rattle.model.proofs.Laws.Container.{sizes-ok, valid-means}
 use Rattle.model.proofs.Laws.Layout.{state-line-is, state-line-low, state-line-high, state-line-next}
@@ -118,6 +118,11 @@ module _ {I J : Image} (same : AgreeNamed I J) where
         → anyFree l (segState I (activeLine I)) (backupToMain I) ≡ anyFree l (segState J (activeLine J)) (backupToMain J)
     unfolding anyFree
     any-free-same v = any-ext (l .backups) _ _ (free-same v)
+
+    pub count-free-same : Valid l (segState I (activeLine I)) (backupToMain I)
+        → freeBackups l (segState I (activeLine I)) (backupToMain I) ≡ freeBackups l (segState J (activeLine J)) (backupToMain J)
+    unfolding freeBackups
+    count-free-same v = sum-ext (l .backups) _ _ (λ j h. ap oneIf (free-same v j h))
 
     -- where all are paired, each pair is a main segment
     pub new-same : Valid l (segState I (activeLine I)) (backupToMain I)

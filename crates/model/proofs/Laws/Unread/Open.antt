@@ -3,6 +3,8 @@ use Prim.Native.Nat.{ℕ, _+_, _*_, _≤_}
 use mathlib.Core.Path.{_≡_, refl, ap, ap₂, _∙_}
 use mathlib.Core.List.{[], _∷_, _++_}
 use native.Mathlib.Omega.{arith}
+use Rattle.model.specs.Outcome.{Lent}
+use Rattle.model.specs.Clients.{clientsErrors}
 use Rattle.model.specs.declared.Layout.{Layout}
 use Rattle.model.specs.declared.Action.{Action}
 use Rattle.model.specs.declared.Action.the-variants.{Nothing, ZeroMain, CopyToBackup, CopyToMain}
@@ -11,7 +13,7 @@ use Rattle.model.specs.Layout.{wordSize, blockSize, metadataSize, blockL
 use Rattle.model.specs.Status.{firstError}
 use Rattle.model.specs.Container.{activeLine}
 use Rattle.model.specs.Session.{zeroSession}
-use Rattle.model.specs.Ops.{sfence, Ops, Trace, traceErrors, clwbs, putBlock, persistCopy, copySegment}
+use Rattle.model.specs.Ops.{sfence, Ops, traceErrors, clwbs, putBlock, persistCopy, copySegment}
 use Rattle.model.specs.Open.{recoveryAction, actionOps, recoverSegment, recoveryOps, openStatus, openOutcome}
 use Rattle.model.specs.Unread.{AgreeNamed}
 use Rattle.model.proofs.Laws.Range.{cat-ext}
@@ -42,10 +44,10 @@ module _ {I J : Image} (same : AgreeNamed I J) where
       ∙ ap₂ (λ (j : ℕ) (a : Action). actionOps l J i j a) (backup-same same l sizes i)
       (ap₂ recoveryAction (state-same same i (omega arith)) (paired-same same l sizes i))))
 
-  pub open-status-unread : (l : Layout) (t : Trace) → openStatus l I t ≡ openStatus l J t
+  pub open-status-unread : (l : Layout) (t : Lent) → openStatus l I t ≡ openStatus l J t
   unfolding openStatus
-  open-status-unread l t = errors-same same l _ _ (λ sizes v. ap (λ (O : Ops). firstError (traceErrors O t)) (recovery-same l sizes))
+  open-status-unread l t = errors-same same l _ _ (λ sizes v. ap (λ (O : Ops). firstError (clientsErrors l (t .clients) ++ traceErrors O (t .trace))) (recovery-same l sizes))
 
-  pub open-unread : (l : Layout) (t : Trace) → openOutcome l I t ≡ openOutcome l J t
+  pub open-unread : (l : Layout) (t : Lent) → openOutcome l I t ≡ openOutcome l J t
   unfolding openOutcome openStatus
-  open-unread l t = outcome-same _ _ zeroSession (open-status-unread l t) (λ z. refl) (λ z. recovery-same l (container-then l I _ z .0 .sizes))
+  open-unread l t = outcome-same _ _ zeroSession _ (open-status-unread l t) (λ z. refl) (λ z. refl) (λ z. recovery-same l (container-then l I _ z .0 .sizes))

@@ -6,6 +6,8 @@ use mathlib.Core.List.{[], _∷_, _++_}
 use native.Mathlib.Omega.{arith}
 use borrow.Author.Tests.{leb-false}
 use lib.Dec.{eqb}
+use Rattle.model.specs.Outcome.{Lent}
+use Rattle.model.specs.Clients.{quotaReached, allReserved, charged}
 use Rattle.model.specs.declared.Layout.{Layout}
 use Rattle.model.specs.declared.Session.{Session}
 use Rattle.model.specs.declared.Plan.{Plan}
@@ -14,8 +16,8 @@ use Rattle.model.specs.Words.{Image, byteAt, wordOf, overlay}
 use Rattle.model.specs.Layout.{most, pairsAt, ssMain, ssBackup, SizesOk, stateLine}
 use Rattle.model.specs.Container.{committedEpoch, activeLine, segState, backupToMain, Valid, isPaired, pairedBackup}
 use Rattle.model.specs.Session.{isDirty, dirtySegment, dirtyWord, withDirty}
-use Rattle.model.specs.Ops.{store, clwb, sfence, Ops, Trace, traceShort, wordPlace}
-use Rattle.model.specs.Write.{WriteArgs, needsCopy, copyPlan, copies, noneFree, pairOps, copyDirty, backupOps, stateOps, copyOnWriteOps, spanAt, spanBlocks, spanOps, writeOps, writeSession, writeErrors, writeStatus, writeOutcome}
+use Rattle.model.specs.Ops.{store, clwb, sfence, Ops, traceShort, wordPlace}
+use Rattle.model.specs.Write.{WriteArgs, needsCopy, copyPlan, copies, noneFree, pairOps, copyDirty, backupOps, stateOps, copyOnWriteOps, spanAt, spanBlocks, spanOps, writeOps, writeSession, writeClients, writeErrors, writeStatus, writeOutcome}
 use Rattle.model.specs.Unread.{AgreeNamed}
 use Rattle.model.proofs.Laws.Range.{cat-ext}
 use Rattle.model.proofs.Laws.Words.{word-cong, overlay-cong}
@@ -25,7 +27,7 @@ use Rattle.model.proofs.Laws.Layout.{state-line-whole}
 use Rattle.model.proofs.Laws.Write.{newOf, someFree}
 use Rattle.model.proofs.Laws.NewBackup.{new-free}
 use Rattle.model.proofs.Laws.Outcome.{outcome-same}
-use Rattle.model.proofs.Laws.Unread.Metadata.{cond-cong, stores-ext, error-ext, epoch-same, active-byte, pair-byte, segment-byte, state-same, session-same, errors-same, paired-same, backup-same, any-free-same, new-same}
+use Rattle.model.proofs.Laws.Unread.Metadata.{cond-cong, stores-ext, error-ext, epoch-same, active-byte, pair-byte, segment-byte, state-same, session-same, errors-same, paired-same, backup-same, any-free-same, count-free-same, new-same}
 use Rattle.model.proofs.Laws.Unread.Open.{copy-same, copy-segment-same}
 
 module _ {I J : Image} (same : AgreeNamed I J) where
@@ -96,20 +98,24 @@ module _ {I J : Image} (same : AgreeNamed I J) where
       ∙ ap (copyOnWriteOps (s .layout) J (dirtyWord s (w .main)) (w .main)) (plan-same s (w .main) sizes v (omega arith)))
       (span-same (s .layout) w)
 
-  pub write-status-unread : (s : Session) (w : WriteArgs) (t : Trace) → writeStatus s I w t ≡ writeStatus s J w t
+  pub write-status-unread : (s : Session) (w : WriteArgs) (t : Lent) → writeStatus s I w t ≡ writeStatus s J w t
   unfolding writeStatus
   write-status-unread s w t = errors-same same (s .layout) _ _ (λ sizes v.
       error-ext 5 _ _ _ _ (ap not (session-same same s sizes)) (λ a.
+      error-ext 13 _ _ _ _ refl (λ x.
       error-ext 6 _ _ _ _ refl (λ b. let m : w .main < s .layout .mains = leb-false _ _ b in
       error-ext 7 _ _ _ _ refl (λ c.
       error-ext 8 _ _ _ _ refl (λ d.
       error-ext 9 _ _ _ _ (ap (λ (p : Plan). noneFree p) (plan-same s (w .main) sizes v (omega arith))) (λ e.
-      error-ext 11 _ _ _ _ (ap (λ (O : Ops). traceShort O t) (write-ops-same s w sizes v m)) (λ f. refl)))))))
+      error-ext 14 _ _ _ _ (ap (λ (p : Plan). cond (copies p) (quotaReached (t .clients) (w .client)) false) (plan-same s (w .main) sizes v (omega arith))) (λ y.
+      error-ext 15 _ _ _ _ (ap₂ (λ (p : Plan) (free : ℕ). cond (copies p) (allReserved (t .clients) (w .client) free) false) (plan-same s (w .main) sizes v (omega arith)) (count-free-same same (s .layout) sizes v)) (λ z.
+      error-ext 11 _ _ _ _ (ap (λ (O : Ops). traceShort O (t .trace)) (write-ops-same s w sizes v m)) (λ f. refl))))))))))
 
-  pub write-unread : (s : Session) (w : WriteArgs) (t : Trace) → writeOutcome s I w t ≡ writeOutcome s J w t
-  unfolding writeOutcome writeSession writeStatus
-  write-unread s w t = outcome-same _ _ s (write-status-unread s w t)
+  pub write-unread : (s : Session) (w : WriteArgs) (t : Lent) → writeOutcome s I w t ≡ writeOutcome s J w t
+  unfolding writeOutcome writeSession writeClients writeStatus
+  write-unread s w t = outcome-same _ _ s _ (write-status-unread s w t)
       (λ z. ap (λ (b : Bool). withDirty s (w .main) (w .block) (spanBlocks w) (cond b 0 (dirtyWord s (w .main)))) (needs-copy-same s (w .main) (omega (arith, ok z .sizes, below z))))
+      (λ z. ap (λ (b : Bool). cond b (charged (t .clients) (w .client)) (t .clients)) (needs-copy-same s (w .main) (omega (arith, ok z .sizes, below z))))
       (λ z. write-ops-same s w (ok z .sizes) (ok z .valid) (below z))
     where
       ok : writeStatus s I w t ≡ 0 → ContainerOk (s .layout) I

@@ -9,7 +9,8 @@ pub code-spec : {M : Type 1} → statement M
 code-spec =
     tie.close (tie.spec
     (λ c. search needs) (λ c. search needs) (λ c. search needs) (λ c. search needs) (λ c. search needs) (λ c. search needs) (λ c. search needs)
-    (λ c. search needs) (λ c. search needs) (λ c. search needs) (λ c. search needs) (λ c. search needs) (λ c. search needs)
+    (λ c. search needs) (λ c. search needs) (λ c. search needs) (λ c. search needs) (λ c. search needs) (λ c. search needs) (λ c. search needs)
+    (λ c. search needs) (λ c. search needs)
     (λ c. sym (ap codeOf (c .enum-told .given .1)))
     (λ c. sym (ap codeOf (c .enum-told2 .given .1)))
     (λ c. sym (ap codeOf (c .enum-told3 .given .1)))
@@ -22,4 +23,7 @@ code-spec =
     (λ c. sym (ap codeOf (c .enum-told10 .given .1)))
     (λ c. sym (ap codeOf (c .enum-told11 .given .1)))
     (λ c. sym (ap codeOf (c .enum-told12 .given .1)))
-    (λ c. sym (ap codeOf (c .enum-told13 .given .1))))
+    (λ c. sym (ap codeOf (c .enum-told13 .given .1)))
+    (λ c. sym (ap codeOf (c .enum-told14 .given .1)))
+    (λ c. sym (ap codeOf (c .enum-told15 .given .1)))
+    (λ c. sym (ap codeOf (c .enum-told16 .given .1))))
