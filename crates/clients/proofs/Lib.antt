@@ -1,0 +1,3 @@
+pub mod RunLaws
+pub mod WordsLaws
+pub mod Shared
