@@ -8,7 +8,8 @@ ghost use lib.Dec.{eqb};
 ghost use lib.ListN.{length};
 ghost use Rattle.model.specs.Range.{firstB};
 ghost use Rattle.model.specs.Layout.{wordSize, lineSize, most, statesAt, oddStatesAt, pairsEnd, ssMain, stateLine, SizesOk};
-ghost use Rattle.model.specs.Container.{committedEpoch, activeLine, inactiveLine, activeState, segState, backupToMain, Valid, pairedBackup, newBackup, checkpointLocated};
+ghost use Rattle.model.specs.Container.{committedEpoch, activeLine, inactiveLine, activeState, segState, backupToMain, Valid, pairedBackup, freeBackups, newBackup, checkpointLocated};
+ghost use Rattle.model.specs.FreeBackups.{mainsInBackup};
 ghost use Rattle.metadata.specs.Find.{foundBelow};
 
 // The pair byte of an unpaired backup segment, as a search asks for it.
@@ -119,6 +120,29 @@ pub fn find_new_backup(image: &[u8], layout: Layout) -> Found
         Found::Missing => find_unused_backup(image, layout, line_at(image, ACTIVE)),
         Found::Backup(backup) => Found::Backup(backup),
     }
+}
+
+// How many main segments are in state 2 on a line of states.
+fn count_in_backup(image: &[u8], layout: Layout, line: usize) -> u64
+    requires { ⌜ (layout .mains ≤ most) × (line + lineSize ≤ length (now image)) ⌝ }
+    ensures { λ r. ⌜ r ≡ mainsInBackup layout (segState (now (image .entry)) line) ⌝ }
+{
+    let mains = layout.mains as usize;
+    let mut sum = 0;
+    let mut i = 0;
+    while i < mains {
+        sum += (image[line + i] == Layout::SS_BACKUP) as u64;
+        i += 1;
+    }
+    sum
+}
+
+// How many backup segments are free by the active line of states: all but those of the main segments in state 2.
+pub fn free_backups(image: &[u8], layout: Layout) -> u64
+    requires { ⌜ SizesOk layout × (pairsEnd ≤ length (now image)) × Valid layout (activeState (now image)) (backupToMain (now image)) ⌝ }
+    ensures { λ r. ⌜ r ≡ freeBackups layout (activeState (now (image .entry))) (backupToMain (now (image .entry))) ⌝ }
+{
+    layout.backups - count_in_backup(image, layout, active_at(image))
 }
 
 // Where the checkpoint of a main segment stands, by a line of states and pairs that are valid: a segment in state 2 has a

@@ -10,9 +10,9 @@ use Rattle.model.specs.Ops.{Op, store, Ops, wordPlace}
 use Rattle.model.specs.Write.{WriteArgs, writeArgsOf}
 use Rattle.span.specs.declared.Span.{Span}
 
--- what a write is given
-abbrev pub argsOf : Span → List ℕ → WriteArgs
-argsOf s bytes = writeArgsOf (s .main) (s .block) (s .offset) bytes
+-- what a write by a client is given
+abbrev pub argsOf : ℕ → Span → List ℕ → WriteArgs
+argsOf client s bytes = writeArgsOf client (s .main) (s .block) (s .offset) bytes
 
 -- the word at a place of an image, stored with bytes laid over it
 abbrev pub overlaidStore : Image → ℕ → List ℕ → ℕ → Op

@@ -53,7 +53,7 @@ fn overlaid_word(image: &[u8], at: usize, bytes: &[u8], place: usize) -> u64
 // Whether a span is empty, has an offset that is not in its block, or leaves its main segment (refusal 8).
 pub fn span_bad(layout: Layout, span: Span) -> bool
     requires { ⌜ (span .block < layout .blocks) × (layout .blocks ≤ most) ⌝ }
-    ensures { λ r. ⌜ ((bytes : List ℕ) → length bytes ≡ span .len → r ≡ spanBad layout (argsOf span bytes)) ⌝ }
+    ensures { λ r. ⌜ ((client : ℕ) (bytes : List ℕ) → length bytes ≡ span .len → r ≡ spanBad layout (argsOf client span bytes)) ⌝ }
 {
     if span.len == 0 {
         return true;

@@ -13,12 +13,12 @@ use Rattle.span.proofs.span_bad.Tie as tie
 
 returns : tie.Need-returns
 unfolding spanBad
-returns c = λ bytes x. rw (eq-eqb (length bytes) 0 (x ∙ c .if1 .taken)) refl
+returns c = λ client bytes x. rw (eq-eqb (length bytes) 0 (x ∙ c .if1 .taken)) refl
 
 returns-2 : tie.Need-returns-2
 unfolding spanBad
 returns-2 c =
-    λ bytes x. let s = c .before .before .before .before .args .span in
+    λ client bytes x. let s = c .before .before .before .before .args .span in
     sym (or-left _ (or-right (eqb (length bytes) 0) (le-leb blockSize (s .offset) (omega arith))))
 
 sub-result : tie.Need-sub-result
@@ -33,7 +33,7 @@ sub-result-2 c = omega arith
 returns-3 : tie.Need-returns-3
 unfolding spanBad
 returns-3 c =
-    λ bytes x. let b = c .before .before .before .before .before .before .before in
+    λ client bytes x. let b = c .before .before .before .before .before .before .before in
     let s = b .args .span in
     let l = b .args .layout in
     rw (x, ne-eqb (s .len) 0 (c .before .before .before .before .before .if1 .left), lt-leb blockSize (s .offset) (omega arith))
