@@ -1,27 +1,30 @@
 // Checkpoint (SPECIFICATION 11; the trade: save): the dirty blocks are written back, the next states are stored on the
 // inactive line, and then the epoch is raised. Every function `put_..` writes its operations from number n on and answers the
 // number of the next one.
+use clients::Run;
 use model::Answer;
 use model::Layout;
 use model::Session;
 use model::Status;
 ghost use mathlib.Core.Path.{_≡_};
+ghost use mathlib.Core.Bool.{true};
 ghost use mathlib.Core.Logic.{_≢_};
 ghost use mathlib.Core.List.{_++_};
 ghost use Prim.Native.Nat.{ℕ, _+_, _*_, _^_, _≤_, _<_};
 ghost use lib.ListN.{length, getD};
 ghost use Rattle.model.specs.Words.{Image, wordOf};
 ghost use Rattle.model.specs.Layout.{wordSize, lineSize, lineWords, most, metadataSize};
-ghost use Rattle.model.specs.Status.{codeOf, firstError};
+ghost use Rattle.model.specs.Status.{codeOf, firstError, served};
 ghost use Rattle.model.specs.Container.{committedEpoch, segState};
-ghost use Rattle.model.specs.Session.{contextErrors};
-ghost use Rattle.model.specs.Outcome.{Gives};
-ghost use Rattle.model.specs.Checkpoint.{flushDirty, nextStates, statesOps, epochOps, checkpointOps, checkpointOutcome, epochErrors};
+ghost use Rattle.model.specs.Clients.{Clients, clientsErrors};
+ghost use Rattle.model.specs.Outcome.{lent, Gives};
+ghost use Rattle.model.specs.Checkpoint.{flushDirty, nextStates, statesOps, epochOps, checkpointOps, epochErrors, lentErrors, checkpointOutcome};
 ghost use Rattle.trace.specs.Emit.{Fits, Emitted};
 ghost use Rattle.session.specs.Parts.{sessionOf};
 ghost use Rattle.session.specs.Marked.{markedSegments};
+ghost use Rattle.clients.specs.Run.{loaded, clearedFrom};
 ghost use Rattle.checkpoint.specs.Advance.{lastEpoch, Advancing};
-ghost use Rattle.checkpoint.specs.Checkpointed.{checkpointedAnswer};
+ghost use Rattle.checkpoint.specs.Checkpointed.{checkpointedAnswer, checkpointedClients};
 
 // Sizes as indexes count them.
 const WORD_SIZE: usize = Layout::WORD_SIZE as usize;
@@ -144,15 +147,25 @@ fn put_checkpoint(
 
 // ---- the call
 
-// The first refusal of a checkpoint that applies, whatever the trace: a bad image or session, or an epoch that cannot be
-// raised.
-fn checkpoint_status(image: &[u8], layout: Layout, segments: u64, words: &[u64]) -> Status
+// The first refusal of a checkpoint that applies, whatever the trace: a bad image or session, bad records, or an epoch that cannot be
+// raised. `judged` is what refusal 13 says of the records.
+fn checkpoint_status(
+    image: &[u8],
+    layout: Layout,
+    segments: u64,
+    words: &[u64],
+    judged: Status,
+) -> Status
     requires { ⌜ most ≤ length (now words) ⌝ }
-    ensures { λ r. ⌜ codeOf r ≡ firstError (contextErrors (sessionOf layout segments (now (words .entry))) (now (image .entry)) ++ epochErrors (now (image .entry))) ⌝ }
+    ensures { λ r. ⌜ ((R : Clients) → codeOf judged ≡ firstError (clientsErrors layout R) → codeOf r ≡ firstError (lentErrors (sessionOf layout segments (now (words .entry))) (now (image .entry)) R ++ epochErrors (now (image .entry)))) ⌝ }
+    ensures { λ r. ⌜ (served (codeOf r) ≡ true → Advancing layout (now (image .entry)) (now (words .entry))) ⌝ }
 {
     let context = session::context_status(image, layout, segments, words);
     if !context.is_served() {
         return context;
+    }
+    if !judged.is_served() {
+        return judged;
     }
     if words::word_at(image, EPOCH_AT) == LAST_EPOCH {
         return Status::EpochLimit;
@@ -161,25 +174,27 @@ fn checkpoint_status(image: &[u8], layout: Layout, segments: u64, words: &[u64])
 }
 
 // What a checkpoint on the parts of a session answers: how it ended, and how many operations stand on the trace. Served, it leaves
-// no dirty segment, and the words of dirty blocks stay; refused, the session stays whole.
+// no dirty segment and no client that has taken any, and the words of dirty blocks stay; refused, session and records stay whole.
 pub struct Checkpointed {
     pub status: Status,
     pub ops: u64,
 }
 
 // A checkpoint with the session lent by its parts (the trade: save): all that was written becomes the checkpoint, in one step that
-// no crash divides.
+// no crash divides. `judged` is what refusal 13 says of the records, which the caller judges (clients::clients_status), and clears
+// where the call is served.
 pub fn checkpoint_parts(
     image: &[u8],
     layout: Layout,
     segments: u64,
     words: &[u64],
+    judged: Status,
     trace: &mut [u64],
 ) -> Checkpointed
     requires { ⌜ most ≤ length (now words) ⌝ }
-    ensures { λ r. ⌜ Gives (checkpointOutcome (sessionOf layout segments (now (words .entry))) (now (image .entry)) (now (trace .entry))) (now (trace .entry)) (checkpointedAnswer (sessionOf layout segments (now (words .entry))) r) (now (trace .exit)) ⌝ }
+    ensures { λ r. ⌜ ((R : Clients) → codeOf judged ≡ firstError (clientsErrors layout R) → Gives (checkpointOutcome (sessionOf layout segments (now (words .entry))) (now (image .entry)) (lent R (now (trace .entry)))) (now (trace .entry)) (checkpointedAnswer (sessionOf layout segments (now (words .entry))) r) (now (trace .exit)) (checkpointedClients R r)) ⌝ }
 {
-    let status = checkpoint_status(image, layout, segments, words);
+    let status = checkpoint_status(image, layout, segments, words, judged);
     if !status.is_served() {
         return Checkpointed {
             status: status,
@@ -202,22 +217,35 @@ pub fn checkpoint_parts(
     }
 }
 
-// Checkpoint, with the session by value: the answer has the session afterwards.
-pub fn crpm_checkpoint(image: &[u8], session: Session, trace: &mut [u64]) -> Answer
-    ensures { λ r. ⌜ Gives (checkpointOutcome session (now (image .entry)) (now (trace .entry))) (now (trace .entry)) r (now (trace .exit)) ⌝ }
+// What a checkpoint on a session and a run as values answers: the answer, and the record from which on the run is to be cleared: past
+// its end where the call was refused.
+pub struct CheckpointRun {
+    pub answer: Answer,
+    pub from: usize,
+}
+
+// Checkpoint, with session and run as values: the answer has the session afterwards.
+pub fn checkpoint_run(image: &[u8], session: Session, run: Run, trace: &mut [u64]) -> CheckpointRun
+    ensures { λ r. ⌜ ((R : Clients) → run ≡ loaded R → Gives (checkpointOutcome session (now (image .entry)) (lent R (now (trace .entry)))) (now (trace .entry)) (r .answer) (now (trace .exit)) (clearedFrom (r .from) R)) ⌝ }
 {
     let layout = session.layout;
     let segments = session.dirty_segments;
     let words = &session.dirty_blocks;
-    let done = checkpoint_parts(image, layout, segments, words, trace);
+    let judged = clients::clients_status(run, layout);
+    let done = checkpoint_parts(image, layout, segments, words, judged, trace);
     let status = done.status;
     let mut next = session;
+    let mut from = run.count;
     if status.is_served() {
         next = session::with_checkpoint(session);
+        from = 0;
     }
-    Answer {
-        status: status,
-        session: next,
-        ops: done.ops,
+    CheckpointRun {
+        answer: Answer {
+            status: status,
+            session: next,
+            ops: done.ops,
+        },
+        from: from,
     }
 }

@@ -1,24 +1,29 @@
 -- Laws of recovery and of an opening: a bound of the number of operations, what the pass over states and pairs gives, and the
 -- refusals by the tests that the code makes.
 use Prim.Native.Nat.{ℕ, _+_, _*_, _≤_}
-use mathlib.Core.Path.{_≡_, sym, ap, subst, _∙_}
-use mathlib.Core.Bool.{Bool, true, false, not}
+use mathlib.Core.Path.{_≡_, refl, sym, ap, subst, _∙_}
+use mathlib.Core.Bool.{Bool, true, false, not, cond}
+use mathlib.Core.List.{_++_}
 use native.Mathlib.Omega.{arith}
 use native.Mathlib.Nat.{mul-le-mul}
 use lib.ListN.{length}
 use borrow.Author.Tests.{not-false}
 use Rattle.model.specs.declared.Layout.{Layout}
+use Rattle.model.specs.declared.Status.{Status}
+use Rattle.model.specs.declared.Status.the-variants.{Served}
 use Rattle.model.specs.declared.Answer.{Answer}
 use Rattle.model.specs.Words.{Image}
 use Rattle.model.specs.Layout.{blockOps, most, SizesOk, imageSize}
-use Rattle.model.specs.Status.{firstError, served}
+use Rattle.model.specs.Status.{codeOf, firstError, served}
 use Rattle.model.specs.Container.{activeLine, segState, backupToMain, validMetadata, layoutErrors, validErrors}
-use Rattle.model.specs.Ops.{Trace}
+use Rattle.model.specs.Ops.{Ops, Trace, traceErrors}
 use Rattle.model.specs.Open.{recoveryOps, openStatus, openOutcome}
 use Rattle.model.specs.Session.{freshSession, zeroSession}
-use Rattle.model.specs.Outcome.{Outcome, outcomeOf, Gives}
+use Rattle.model.specs.Clients.{Clients, clientsErrors, cleared}
+use Rattle.model.specs.Outcome.{Lent, lent, Outcome, outcomeOf, Gives}
 use Rattle.model.proofs.Laws.Container.{valid-means}
 use Rattle.model.proofs.Laws.Status.{first-holds, first-fails, first-of-none, stage-refused, stage-passed}
+use Rattle.trace.proofs.CallLaws.{gives-refused}
 use Rattle.container.specs.declared.Examined.{Examined}
 use Rattle.container.specs.Scan.{ExaminedBy}
 use Rattle.open.specs.Recovery.{ValidBy, PairedSet, recoveryErrors, recoveryOutcome}
@@ -41,26 +46,46 @@ recovers-by l I line r s e k x h = (
 
 -- recovery by a line of states, by the test of validity
 module _ (l : Layout) (I : Image) (line : ℕ) (v : Bool) (e : v ≡ validMetadata l (segState I line) (backupToMain I)) where
-  pub recovery-invalid : (t : Trace) → not v ≡ true → 4 ≡ firstError (recoveryErrors l I line t)
-  recovery-invalid t h = first-holds 4 _ _ (ap not (sym e) ∙ h)
+  pub recovery-invalid : (k : Lent) → not v ≡ true → 4 ≡ firstError (recoveryErrors l I line k)
+  recovery-invalid k h = first-holds 4 _ _ (ap not (sym e) ∙ h)
 
-  pub recovery-valid : not v ≡ false → 0 ≡ firstError (validErrors l I line)
-  recovery-valid h = first-fails 4 _ _ _ (ap not (sym e) ∙ h) first-of-none
+  -- and by what refusal 13 says of the records: refused, or judged by the trace
+  module _ (R : Clients) (t : Trace) (h : not v ≡ false) (n : ℕ) (x : n ≡ firstError (clientsErrors l R)) where
+    passed : firstError (recoveryErrors l I line (lent R t)) ≡ firstError (clientsErrors l R ++ traceErrors (recoveryOps l I line) t)
+    passed = stage-passed 0 (validErrors l I line) _ (omega arith) (first-fails 4 _ _ _ (ap not (sym e) ∙ h) first-of-none) refl
+
+    pub recovery-judged : served n ≡ false → n ≡ firstError (recoveryErrors l I line (lent R t))
+    recovery-judged r = stage-refused n (clientsErrors l R) (traceErrors (recoveryOps l I line) t) x r ∙ sym passed
+
+    pub recovery-left : served n ≡ true → firstError (recoveryErrors l I line (lent R t)) ≡ firstError (traceErrors (recoveryOps l I line) t)
+    recovery-left z = passed ∙ stage-passed n (clientsErrors l R) (traceErrors (recoveryOps l I line) t) (omega arith) x z
+
+-- what an answer leaves of the records: refused, with whatever refusals and operations; served
+abbrev left : Clients → Answer → Clients
+left R a = cond (served (codeOf (a .status))) (cleared R) R
+
+pub refused-gives : (e : ℕ) (l : Layout) (R : Clients) (O : Ops) (t : Trace) (a : Answer) {k : Status} → (a .status ≡ k) × (a .session ≡ zeroSession) × (a .ops ≡ 0) → codeOf k ≡ e
+    → served (codeOf k) ≡ false → Gives (outcomeOf e zeroSession (freshSession l) R (cleared R) O) t a t (left R a)
+refused-gives e l R O t a h p n =
+    rw (ap (λ (s : Status). served (codeOf s)) (h .0) ∙ n) (gives-refused e zeroSession (freshSession l) R (cleared R) O t a h p n refl)
+
+pub served-gives : (o : Outcome) (R : Clients) (t : Trace) (a : Answer) (after : Trace) → a .status ≡ Served → Gives o t a after (cleared R) → Gives o t a after (left R a)
+served-gives o R t a after h g = rw (ap (λ (s : Status). served (codeOf s)) h) g
 
 -- an opening, by refusals 1 to 3
-module _ (l : Layout) (I : Image) (t : Trace) (n : ℕ) (e : n ≡ firstError (layoutErrors l I)) where
-  pub open-refused : served n ≡ false → n ≡ openStatus l I t
+module _ (l : Layout) (I : Image) (k : Lent) (n : ℕ) (e : n ≡ firstError (layoutErrors l I)) where
+  pub open-refused : served n ≡ false → n ≡ openStatus l I k
   unfolding openStatus
-  open-refused h = stage-refused n (layoutErrors l I) (recoveryErrors l I (activeLine I) t) e h
+  open-refused h = stage-refused n (layoutErrors l I) (recoveryErrors l I (activeLine I) k) e h
 
   -- where they do not apply, it is recovery by the active line
-  open-recovers : served n ≡ true → openOutcome l I t ≡ recoveryOutcome l I (activeLine I) t
+  open-recovers : served n ≡ true → openOutcome l I k ≡ recoveryOutcome l I (activeLine I) k
   unfolding openOutcome recoveryOutcome openStatus
   open-recovers h =
-      ap (λ (k : ℕ). outcomeOf k zeroSession (freshSession l) (recoveryOps l I (activeLine I)))
-      (stage-passed n (layoutErrors l I) (recoveryErrors l I (activeLine I) t) (omega arith) e h)
+      ap (λ (m : ℕ). outcomeOf m zeroSession (freshSession l) (k .clients) (cleared (k .clients)) (recoveryOps l I (activeLine I)))
+      (stage-passed n (layoutErrors l I) (recoveryErrors l I (activeLine I) k) (omega arith) e h)
 
-  pub open-gives : served n ≡ true → (line : ℕ) → line ≡ activeLine I → (a : Answer) (after : Trace) → Gives (recoveryOutcome l I line t) t a after
-      → Gives (openOutcome l I t) t a after
-  open-gives h line p a after g =
-      subst (λ (o : Outcome). Gives o t a after) (ap (λ (k : ℕ). recoveryOutcome l I k t) p ∙ sym (open-recovers h)) g
+  pub open-gives : served n ≡ true → (line : ℕ) (t : Trace) (a : Answer) (after : Trace) (R : Clients) → Gives (recoveryOutcome l I line k) t a after R → line ≡ activeLine I
+      → Gives (openOutcome l I k) t a after R
+  open-gives h line t a after R g p =
+      subst (λ (o : Outcome). Gives o t a after R) (ap (λ (m : ℕ). recoveryOutcome l I m k) p ∙ sym (open-recovers h)) g

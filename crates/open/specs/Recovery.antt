@@ -12,9 +12,10 @@ use Rattle.model.specs.Layout.{most, SizesOk, imageSize}
 use Rattle.model.specs.Status.{Errors, firstError}
 use Rattle.model.specs.Container.{segState, backupToMain, Valid, isPaired, validErrors}
 use Rattle.model.specs.Session.{isDirty, freshSession, zeroSession}
-use Rattle.model.specs.Ops.{Trace, traceErrors}
+use Rattle.model.specs.Ops.{traceErrors}
+use Rattle.model.specs.Clients.{clientsErrors, cleared}
 use Rattle.model.specs.Open.{recoveryOps}
-use Rattle.model.specs.Outcome.{Outcome, outcomeOf}
+use Rattle.model.specs.Outcome.{Lent, Outcome, outcomeOf}
 
 -- what recovery goes by: an image of the layout's size, and a line of states that is valid with the pairs
 pub record ValidBy (l : Layout) (I : Image) (line : ℕ) : Type 0 where
@@ -36,8 +37,9 @@ takesBackup CopyToMain = true
 
 -- ---- refusals and outcome of recovery of an image that refusals 1 to 3 let pass
 
-abbrev pub recoveryErrors : Layout → Image → ℕ → Trace → Errors
-recoveryErrors l I line t = validErrors l I line ++ traceErrors (recoveryOps l I line) t
+abbrev pub recoveryErrors : Layout → Image → ℕ → Lent → Errors
+recoveryErrors l I line k = validErrors l I line ++ clientsErrors l (k .clients) ++ traceErrors (recoveryOps l I line) (k .trace)
 
-unfoldable pub recoveryOutcome : Layout → Image → ℕ → Trace → Outcome
-recoveryOutcome l I line t = outcomeOf (firstError (recoveryErrors l I line t)) zeroSession (freshSession l) (recoveryOps l I line)
+unfoldable pub recoveryOutcome : Layout → Image → ℕ → Lent → Outcome
+recoveryOutcome l I line k =
+    outcomeOf (firstError (recoveryErrors l I line k)) zeroSession (freshSession l) (k .clients) (cleared (k .clients)) (recoveryOps l I line)

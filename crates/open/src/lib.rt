@@ -1,5 +1,6 @@
 // Opening, which recovers (SPECIFICATION 9): each main segment is treated by the table of states and pairs, so that its
 // bytes are the checkpoint again. What recovery does is given a line of states; an opening goes by the active one.
+use clients::Run;
 use metadata::Found;
 use model::Action;
 use model::Answer;
@@ -7,16 +8,19 @@ use model::Layout;
 use model::Session;
 use model::Status;
 ghost use mathlib.Core.Path.{_≡_};
-ghost use mathlib.Core.Bool.{true};
+ghost use mathlib.Core.Bool.{true, cond};
 ghost use Prim.Native.Nat.{_+_, _^_, _≤_, _<_};
 ghost use lib.ListN.{length};
 ghost use Rattle.model.specs.Layout.{layoutOf, most, pairsEnd, ssBackup, SizesOk, imageSize};
+ghost use Rattle.model.specs.Status.{codeOf, firstError, served};
 ghost use Rattle.model.specs.Container.{segState, backupToMain, isPaired, pairedBackup};
 ghost use Rattle.model.specs.Session.{zeroSession};
-ghost use Rattle.model.specs.Outcome.{Gives};
+ghost use Rattle.model.specs.Clients.{Clients, clientsErrors, cleared};
+ghost use Rattle.model.specs.Outcome.{lent, Gives};
 ghost use Rattle.model.specs.Open.{recoveryAction, actionOps, recoverSegment, recoveryOps, openOutcome};
 ghost use Rattle.model.specs.Counts.{acts, treated};
 ghost use Rattle.trace.specs.Emit.{Fits, Emitted};
+ghost use Rattle.clients.specs.Run.{loaded, clearedFrom};
 ghost use Rattle.open.specs.Recovery.{ValidBy, PairedSet, takesBackup, recoveryOutcome};
 
 // What recovery does, by the state of a main segment and whether it is paired; the two cells that cannot be do nothing.
@@ -181,14 +185,17 @@ fn refused(status: Status) -> Answer
 }
 
 // Recovers the checkpoint by a line of states, of an image that has the layout's size, and answers a session in which
-// nothing is dirty.
-fn recover(image: &[u8], layout: Layout, line: usize, trace: &mut [u64]) -> Answer
+// nothing is dirty. `judged` is what refusal 13 says of the records of clients.
+fn recover(image: &[u8], layout: Layout, line: usize, judged: Status, trace: &mut [u64]) -> Answer
     requires { ⌜ SizesOk layout × (length (now image) ≡ imageSize layout) × (line + most ≤ length (now image)) ⌝ }
-    ensures { λ r. ⌜ Gives (recoveryOutcome layout (now (image .entry)) line (now (trace .entry))) (now (trace .entry)) r (now (trace .exit)) ⌝ }
+    ensures { λ r. ⌜ ((R : Clients) → codeOf judged ≡ firstError (clientsErrors layout R) → Gives (recoveryOutcome layout (now (image .entry)) line (lent R (now (trace .entry)))) (now (trace .entry)) r (now (trace .exit)) (cond (served (codeOf (r .status))) (cleared R) R)) ⌝ }
 {
     let found = container::examine(image, layout, line);
     if !found.valid {
         return refused(Status::Invalid);
+    }
+    if !judged.is_served() {
+        return refused(judged);
     }
     let ops = recovery_length(image, layout, line, found.paired);
     let room = trace::trace_status(trace.len(), ops);
@@ -199,16 +206,48 @@ fn recover(image: &[u8], layout: Layout, line: usize, trace: &mut [u64]) -> Answ
     Answer::served(Session::fresh(layout), ops)
 }
 
-// Opening (SPECIFICATION 9): recovers the checkpoint after any crash, and answers a session in which nothing is dirty. A
-// refused opening answers a session of zeros.
-pub fn crpm_open(image: &[u8], mains: u64, backups: u64, blocks: u64, trace: &mut [u64]) -> Answer
-    ensures { λ r. ⌜ Gives (openOutcome (layoutOf mains backups blocks) (now (image .entry)) (now (trace .entry))) (now (trace .entry)) r (now (trace .exit)) ⌝ }
+// Opening by a layout (SPECIFICATION 9): recovers the checkpoint after any crash, and answers a session in which nothing is dirty. A
+// refused opening answers a session of zeros. `judged` is what refusal 13 says of the records, which the caller judges
+// (clients::clients_status), and clears where the call is served.
+pub fn open_parts(image: &[u8], layout: Layout, judged: Status, trace: &mut [u64]) -> Answer
+    ensures { λ r. ⌜ ((R : Clients) → codeOf judged ≡ firstError (clientsErrors layout R) → Gives (openOutcome layout (now (image .entry)) (lent R (now (trace .entry)))) (now (trace .entry)) r (now (trace .exit)) (cond (served (codeOf (r .status))) (cleared R) R)) ⌝ }
 {
-    let layout = Layout::new(mains, backups, blocks);
     let status = places::layout_status(image, layout);
     if !status.is_served() {
         return refused(status);
     }
     let active = metadata::active_at(image);
-    recover(image, layout, active, trace)
+    recover(image, layout, active, judged, trace)
+}
+
+// What an opening with a run as a value answers: the answer, and the record from which on the run is to be cleared: past its end where
+// the call was refused.
+pub struct OpenRun {
+    pub answer: Answer,
+    pub from: usize,
+}
+
+// Opening, with the run as a value.
+pub fn open_run(
+    image: &[u8],
+    mains: u64,
+    backups: u64,
+    blocks: u64,
+    run: Run,
+    trace: &mut [u64],
+) -> OpenRun
+    ensures { λ r. ⌜ ((R : Clients) → run ≡ loaded R → Gives (openOutcome (layoutOf mains backups blocks) (now (image .entry)) (lent R (now (trace .entry)))) (now (trace .entry)) (r .answer) (now (trace .exit)) (clearedFrom (r .from) R)) ⌝ }
+{
+    let layout = Layout::new(mains, backups, blocks);
+    let judged = clients::clients_status(run, layout);
+    let answer = open_parts(image, layout, judged, trace);
+    let status = answer.status;
+    let mut from = run.count;
+    if status.is_served() {
+        from = 0;
+    }
+    OpenRun {
+        answer: answer,
+        from: from,
+    }
 }

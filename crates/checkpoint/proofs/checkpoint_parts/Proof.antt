@@ -1,15 +1,13 @@
-use mathlib.Core.Path.{refl, sym, ap, _∙_}
-use mathlib.Core.Bool.{Bool, cond}
+use mathlib.Core.Path.{refl, sym, _∙_}
 use native.Mathlib.Omega.{arith}
 use borrow.Author.Needs.{needs}
 use borrow.Author.Tests.{eqb-true, not-true, not-false}
 use Rattle.model.specs.Ops.{traceErrors}
-use Rattle.model.specs.Session.{withCheckpoint}
 use Rattle.model.specs.Checkpoint.{checkpointOps, checkpointStatus, checkpointOutcome}
 use Rattle.model.proofs.Laws.Status.{stage-refused, stage-passed}
-use Rattle.trace.proofs.CallLaws.{fits-whole, gives-refused, gives-served}
+use Rattle.trace.proofs.CallLaws.{fits-whole, gives-served}
 use Rattle.session.specs.Parts.{sessionOf}
-use Rattle.checkpoint.proofs.StatusLaws.{advancing}
+use Rattle.checkpoint.proofs.StatusLaws.{refused-parts}
 use Rattle.checkpoint.proofs.checkpoint_parts.Statement.{statement}
 use Rattle.checkpoint.proofs.checkpoint_parts.Tie as tie
 
@@ -20,31 +18,23 @@ is-served-requires : tie.Need-is-served-requires
 is-served-requires c κs = search needs
 
 returns : tie.Need-returns
-unfolding checkpointOutcome checkpointStatus
-returns c =
+unfolding checkpointStatus
+returns c = λ R x.
     let k = c .before .before in
     let g = k .before .before .before .before .args in
     let s = sessionOf (g .layout) (g .segments) (g .words .now) in
     let r = sym (c .before .is-served .ensures) ∙ not-true _ (c .if1 .taken) in
-    gives-refused _ s _ _ _ _ {k = k .checkpoint-status .result} (refl, ap (λ (b : Bool). cond b (withCheckpoint s) s) r, refl) (stage-refused _ _ _ (k .checkpoint-status .ensures) r) r refl
+    refused-parts s (g .image .now) R (g .trace .now) (k .checkpoint-status .result) (stage-refused _ _ _ (k .checkpoint-status .ensures .0 R x) r) r
 
 marked-segments-requires : tie.Need-marked-segments-requires
 marked-segments-requires c κs =
-    let k = c .before .before in
-    let g = k .before .before .before .before .args in
-    let s = sessionOf (g .layout) (g .segments) (g .words .now) in
-    let z = sym (c .before .is-served .ensures) ∙ not-false _ (c .if1 .left) in
-    let ok = advancing s (g .image .now) _ (k .before .before .before .before .pre) (k .checkpoint-status .ensures) z in
+    let ok = c .before .before .checkpoint-status .ensures .1 (sym (c .before .is-served .ensures) ∙ not-false _ (c .if1 .left)) in
     (ok .mains, ok .enough)
 
 checkpoint-length-requires : tie.Need-checkpoint-length-requires
 checkpoint-length-requires c κs =
     let i = c .before in
-    let k = i .before .before in
-    let g = k .before .before .before .before .args in
-    let s = sessionOf (g .layout) (g .segments) (g .words .now) in
-    let z = sym (i .before .is-served .ensures) ∙ not-false _ (i .if1 .left) in
-    let ok = advancing s (g .image .now) _ (k .before .before .before .before .pre) (k .checkpoint-status .ensures) z in
+    let ok = i .before .before .checkpoint-status .ensures .1 (sym (i .before .is-served .ensures) ∙ not-false _ (i .if1 .left)) in
     ((ok .mains, ok .enough), (ok .within, c .marked-segments .ensures))
 
 trace-status-requires : tie.Need-trace-status-requires
@@ -54,8 +44,8 @@ is-served-requires-2 : tie.Need-is-served-requires-2
 is-served-requires-2 c κs = search needs
 
 returns-2 : tie.Need-returns-2
-unfolding checkpointOutcome checkpointStatus
-returns-2 c =
+unfolding checkpointStatus
+returns-2 c = λ R x.
     let t = c .before .before in
     let n = t .before in
     let i = n .before .before in
@@ -66,8 +56,7 @@ returns-2 c =
     let z = sym (i .before .is-served .ensures) ∙ not-false _ (i .if1 .left) in
     let r = sym (c .before .is-served2 .ensures) ∙ not-true _ (c .if2 .taken) in
     let e = t .trace-status .ensures O (g .trace .now) (sym (n .checkpoint-length .ensures .0 (g .segments) (g .image .now))) refl in
-    gives-refused _ s _ _ _ _ {k = t .trace-status .result} (refl, ap (λ (b : Bool). cond b (withCheckpoint s) s) r, refl)
-    (e ∙ sym (stage-passed _ _ (traceErrors O (g .trace .now)) (omega arith) (k .checkpoint-status .ensures) z)) r refl
+    refused-parts s (g .image .now) R (g .trace .now) (t .trace-status .result) (e ∙ sym (stage-passed _ _ (traceErrors O (g .trace .now)) (omega arith) (k .checkpoint-status .ensures .0 R x) z)) r
 
 put-checkpoint-requires : tie.Need-put-checkpoint-requires
 put-checkpoint-requires c κs =
@@ -77,12 +66,10 @@ put-checkpoint-requires c κs =
     let i = n .before .before in
     let k = i .before .before in
     let g = k .before .before .before .before .args in
-    let s = sessionOf (g .layout) (g .segments) (g .words .now) in
-    let O = checkpointOps s (g .image .now) in
-    let z = sym (i .before .is-served .ensures) ∙ not-false _ (i .if1 .left) in
+    let O = checkpointOps (sessionOf (g .layout) (g .segments) (g .words .now)) (g .image .now) in
     let e = t .trace-status .ensures O (g .trace .now) (sym (n .checkpoint-length .ensures .0 (g .segments) (g .image .now))) refl in
     let p = sym (eqb-true _ 0 (sym (j .before .is-served2 .ensures) ∙ not-false _ (j .if2 .left))) ∙ e in
-    let ok = advancing s (g .image .now) _ (k .before .before .before .before .pre) (k .checkpoint-status .ensures) z in
+    let ok = k .checkpoint-status .ensures .1 (sym (i .before .is-served .ensures) ∙ not-false _ (i .if1 .left)) in
     ((ok, n .before .marked-segments .ensures), fits-whole O (g .trace .now) p)
 
 same-length : tie.Need-same-length
@@ -90,7 +77,7 @@ same-length c = search needs
 
 returns-3 : tie.Need-returns-3
 unfolding checkpointOutcome checkpointStatus
-returns-3 c =
+returns-3 c = λ R x.
     let j = c .before .before .before .before in
     let t = j .before .before in
     let n = t .before in
@@ -102,7 +89,7 @@ returns-3 c =
     let m = n .checkpoint-length .ensures .0 (g .segments) (g .image .now) in
     let z = sym (i .before .is-served .ensures) ∙ not-false _ (i .if1 .left) in
     let p = sym (eqb-true _ 0 (sym (j .before .is-served2 .ensures) ∙ not-false _ (j .if2 .left))) ∙ t .trace-status .ensures O (g .trace .now) (sym m) refl in
-    gives-served _ s _ _ _ _ (refl, refl, refl) (stage-passed _ _ (traceErrors O (g .trace .now)) (omega arith) (k .checkpoint-status .ensures) z ∙ sym p) refl m
+    gives-served _ s _ R _ _ _ _ (refl, refl, refl) (stage-passed _ _ (traceErrors O (g .trace .now)) (omega arith) (k .checkpoint-status .ensures .0 R x) z ∙ sym p) refl m
     (fits-whole O (g .trace .now) p) (c .before .before .put-checkpoint .ensures)
 
 pub checkpoint-parts-spec : {M : Type 1} → statement M

@@ -20,7 +20,7 @@ set-blocks-requires : tie.Need-set-blocks-requires
 set-blocks-requires c κs = omega (arith, c .before .before .before .span-blocks .ensures)
 
 returns : tie.Need-returns
-returns c bytes x =
+returns c client bytes x =
     let d = c .before .before .before in
     let b = d .before .before in
     let a = b .args in
@@ -34,7 +34,7 @@ set-blocks-requires-2 : tie.Need-set-blocks-requires-2
 set-blocks-requires-2 c κs = omega (arith, c .before .before .span-blocks .ensures)
 
 returns-2 : tie.Need-returns-2
-returns-2 c bytes x =
+returns-2 c client bytes x =
     let d = c .before .before in
     rw (x, sym (d .has-copy .ensures) ∙ c .before .if1 .left) (rw (d .before .span-blocks .ensures) at (c .set-blocks2 .ensures))
 
