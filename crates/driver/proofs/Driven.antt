@@ -10,13 +10,13 @@ use Rattle.model.specs.Words.{Image, Bytes}
 use Rattle.model.specs.Status.{served}
 use Rattle.model.specs.Container.{activeLine, checkpointBytes}
 use Rattle.model.specs.Ops.{Ops, Trace}
-use Rattle.model.specs.Outcome.{Outcome, outcomeOf}
+use Rattle.model.specs.Outcome.{Lent, Outcome, outcomeOf}
 use Rattle.model.specs.Open.{openStatus, openOutcome}
 use Rattle.model.specs.Crash.{CrashImage}
 use Rattle.model.specs.Reference.{Page, modelStep}
 use Rattle.model.specs.History.{Call, callOpen, Device, State, outcome, reported, deviceStep, step, run, start, openedImage, AllPermitted}
 use Rattle.model.specs.Sisters.{SameCall, SameCalls}
-use Rattle.model.specs.CrashSafety.{Moment, PermittedAt, playedAt, CutOpenings, Reads, Recovers, InEveryHistory}
+use Rattle.model.specs.CrashSafety.{Moment, PermittedAt, playedAt, Enough, CutOpenings, Reads, Recovers, InEveryHistory}
 use Rattle.model.specs.CrashSafety as model
 use Rattle.model.proofs.CrashSafety.{crash-safety}
 use Rattle.model.proofs.Sisters.{reads-follow-model, same-board, opening-safety}
@@ -51,17 +51,17 @@ abbrev deviceAt : Session → Image → Device
 deviceAt x I = record { layout = x .layout; durable = I; played = []; image = I; session = x }
 
 -- an opening that the code makes has the status of the model's opening
-opened-status : (l : Layout) (I : Image) (x : Session) (T : Trace) (r : Report) (t : Trace) → Called I x (callOpen l T) r t → r .number ≡ openStatus l I T
+opened-status : (l : Layout) (I : Image) (x : Session) (T : Lent) (r : Report) (t : Trace) → Called I x (callOpen l T) r t → r .number ≡ openStatus l I T
 unfolding openOutcome outcomeOf
 opened-status l I x T r t k = k .1 .0
 
 -- what it leaves, replayed, is what the model's opening leaves
-opened-image : (l : Layout) (I : Image) (x : Session) (T : Trace) (r : Report) (t : Trace) (I₁ : Image) → Stepped Called I x (callOpen l T) r t I₁ → openedImage l I T ≡ I₁
+opened-image : (l : Layout) (I : Image) (x : Session) (T : Lent) (r : Report) (t : Trace) (I₁ : Image) → Stepped Called I x (callOpen l T) r t I₁ → openedImage l I T ≡ I₁
 unfolding openedImage deviceStep
 opened-image l I x T r t I₁ k = stepped-device (deviceAt x I) (callOpen l T) r t I₁ k .0
 
 -- and where the program then stands is the start of a history
-opened-starts : (l : Layout) (I : Image) (x : Session) (T : Trace) (r : Report) (t : Trace) (I₁ : Image) → Stepped Called I x (callOpen l T) r t I₁
+opened-starts : (l : Layout) (I : Image) (x : Session) (T : Lent) (r : Report) (t : Trace) (I₁ : Image) → Stepped Called I x (callOpen l T) r t I₁
     → start l I T ≡ opened l I r I₁
 unfolding start
 opened-starts l I x T r t I₁ k =
@@ -73,10 +73,10 @@ opened-starts l I x T r t I₁ k =
     }
 
 -- two openings of the same image with the same sizes are the same call
-openings-same : (l : Layout) (I : Image) (x : Session) (T U : Trace) → (length T ≡ length U) ⊎ ((openStatus l I T ≢ 11) × (openStatus l I U ≢ 11))
-    → SameCall (deviceAt x I) (callOpen l T) (callOpen l U)
+openings-same : (l : Layout) (I : Image) (x : Session) (T U : Lent) → T .clients ≡ U .clients
+    → (length (T .trace) ≡ length (U .trace)) ⊎ ((openStatus l I T ≢ 11) × (openStatus l I U ≢ 11)) → SameCall (deviceAt x I) (callOpen l T) (callOpen l U)
 unfolding openOutcome outcomeOf
-openings-same l I x T U h = (refl, h)
+openings-same l I x T U c h = (refl, c, h)
 
 -- ---- reports
 
@@ -87,7 +87,8 @@ reports-same o p T U r q t u g h e =
     let n = g .0 ∙ ap (λ (x : Outcome). x .status) (e .0) ∙ sym (h .0) in
     let s = g .1 ∙ ap (λ (x : Outcome). x .session) (e .0) ∙ sym (h .1) in
     let m = g .2 ∙ ap (λ (x : Outcome). length (x .ops)) (e .0) ∙ sym (h .2) in
-    (λ i. record { number = n i; session = s i; ops = m i }, part-reported o T r t g ∙ e .1 ∙ sym (part-reported p U q u h))
+    let c = g .4 ∙ ap (λ (x : Outcome). x .clients) (e .0) ∙ sym (h .4) in
+    (λ i. record { number = n i; session = s i; clients = c i; ops = m i }, part-reported o T r t g ∙ e .1 ∙ sym (part-reported p U q u h))
 
 -- ---- programs whose calls are the library's, however they make them
 
@@ -108,19 +109,19 @@ module _ (C : Calls) (made : OfLibrary C) where
   -- openings that the code makes and that are cut are the model's
   cut-openings : {l : Layout} {H H′ : Image} → CutDriven C l H H′ → CutOpenings CrashImage l H H′
   cut-openings none = model.none
-  cut-openings {l} (again {H = H} {H′ = H₁} x T p r t k ne inside c rest) =
+  cut-openings {l} (again {H = H} {H′ = H₁} x T p r t k ne nc inside c rest) =
       let g = made H x (callOpen l T) r t k in
-      model.again T p (λ e. ne (opened-status l H x T r t g ∙ e))
+      model.again T p (λ e. ne (opened-status l H x T r t g ∙ e), λ e. nc (opened-status l H x T r t g ∙ e))
       (subst (λ (X : Ops). CrashImage H X H₁) (called-carried (deviceAt x H) (callOpen l T) r t g p inside) c) (cut-openings rest)
 
   -- what the last opening shows
   shows-after : (l : Layout) (H : Image) (May : Page → Type 0)
-      → ((H′ : Image) → CutOpenings CrashImage l H H′ → (T : Trace) → openStatus l H′ T ≢ 11 → (Q : Page) × May Q × Recovers l H′ T Q × Bytes H′)
+      → ((H′ : Image) → CutOpenings CrashImage l H H′ → (T : Lent) → Enough l H′ T → (Q : Page) × May Q × Recovers l H′ T Q × Bytes H′)
       → ShowsAfter C l H May
-  shows-after l H May f H′ o x T r t I k ne =
+  shows-after l H May f H′ o x T r t I k ne nc =
       let g = by-library k in
       let e = opened-status l H′ x T r t (g .0) in
-      let y = f H′ (cut-openings o) T (λ z. ne (e ∙ z)) in (
+      let y = f H′ (cut-openings o) T (λ z. ne (e ∙ z), λ z. nc (e ∙ z)) in (
         y .0,
         y .1,
         e ∙ y .2 .accepted,
@@ -146,30 +147,30 @@ module _ (C : Calls) (made : OfLibrary C) where
         sym (opened-status l I x T r t (g .0)) ∙ ok,
         w .0,
         ap (λ (h : State). run h cs) e ∙ w .1,
-        λ c q u m. let y = made (s .device .image) (s .device .session) c q u m in (y .0, y .1 .0),
+        λ c q u m. let y = made (s .device .image) (s .device .session) c q u m in (y .0, y .1 .0, y .1 .4),
       )
 
   -- SAME BOARD, SAME TAPE
   pub driven-same-board : DrivenSameBoard C
   driven-same-board = record {
     calls = λ d b c same r q t u j k.
-        reports-same (outcome d b) (outcome d c) (b .trace) (c .trace) r q t u (made _ _ b r t j .1) (made _ _ c q u k .1) (same-board .calls d b c same);
-    programs = λ l I T U x r t I₁ j y q u J₁ k long bs cs same s s′ d f.
+        reports-same (outcome d b) (outcome d c) (b .lends .trace) (c .lends .trace) r q t u (made _ _ b r t j .1) (made _ _ c q u k .1) (same-board .calls d b c same);
+    programs = λ l I T U x r t I₁ j y q u J₁ k alike long bs cs same s s′ d f.
         let a = by-library j in
         let b = by-library k in
         let e = opened-starts l I x T r t I₁ a in
-        let h : (length T ≡ length U) ⊎ ((openStatus l I T ≢ 11) × (openStatus l I U ≢ 11)) =
+        let h : (length (T .trace) ≡ length (U .trace)) ⊎ ((openStatus l I T ≢ 11) × (openStatus l I U ≢ 11)) =
         ⊎-elim inl (λ z. inr (λ m. z .0 (opened-status l I x T r t (a .0) ∙ m), λ m. z .1 (opened-status l I y U q u (b .0) ∙ m))) long in (
-          reports-same (openOutcome l I T) (openOutcome l I U) T U r q t u (a .0 .1) (b .0 .1)
-              (same-board .calls (deviceAt x I) (callOpen l T) (callOpen l U) (openings-same l I x T U h)),
+          reports-same (openOutcome l I T) (openOutcome l I U) (T .trace) (U .trace) r q t u (a .0 .1) (b .0 .1)
+              (same-board .calls (deviceAt x I) (callOpen l T) (callOpen l U) (openings-same l I x T U alike h)),
           sym (ap (λ (z : State). run z bs) e ∙ driven-runs (opened l I r I₁) s bs d .1)
-              ∙ same-board .histories l I T U h bs cs (subst (λ (z : State). SameCalls z bs cs) (sym e) same)
+              ∙ same-board .histories l I T U alike h bs cs (subst (λ (z : State). SameCalls z bs cs) (sym e) same)
               ∙ ap (λ (z : State). run z cs) (opened-starts l I y U q u J₁ b) ∙ driven-runs (opened l I q J₁) s′ cs f .1,
         );
   }
 
   -- so what holds wherever a history stands holds wherever the program does
-  everywhere : (P : State → Type 0) → InEveryHistory P → (l : Layout) (I : Image) (T : Trace) → Bytes I → (x : Session) (r : Report) (t : Trace) (I₁ : Image)
+  everywhere : (P : State → Type 0) → InEveryHistory P → (l : Layout) (I : Image) (T : Lent) → Bytes I → (x : Session) (r : Report) (t : Trace) (I₁ : Image)
       → Stepped C I x (callOpen l T) r t I₁ → r .number ≡ 0 → (cs : List Call) (s : State) → Driven C (opened l I r I₁) cs s → P s
   everywhere P holds l I T b x r t I₁ k ok cs s d = let w = driven-histories l I T x r t I₁ k ok cs s d in subst P (w .2) (holds l I T b (w .0) cs (w .1))
 
@@ -181,7 +182,7 @@ module _ (C : Calls) (made : OfLibrary C) where
         let at = made-moment s m M made in
         shows-after (s .device .layout) H (model.MayShow s m) (λ H′ o T′ ne.
         everywhere (λ h. PermittedAt (h .device) m → CrashImage (h .device .durable) (playedAt (h .device) m) H
-        → CutOpenings CrashImage (h .device .layout) H H′ → openStatus (h .device .layout) H′ T′ ≢ 11
+        → CutOpenings CrashImage (h .device .layout) H H′ → Enough (h .device .layout) H′ T′
         → (Q : Page) × model.MayShow h m Q × Recovers (h .device .layout) H′ T′ Q × Bytes H′)
         (λ l I t b h cs permitted pm c o ne. crash-safety l I t b h cs permitted m pm H c H′ o T′ ne) l I T b x r t I₁ k ok cs s d
         (at .0) (subst (λ (X : Ops). CrashImage (s .device .durable) X H) (sym (at .1)) c) o ne),

@@ -15,7 +15,7 @@ use Rattle.model.specs.Words.{Image}
 use Rattle.model.specs.Layout.{lineSize}
 use Rattle.model.specs.Status.{served}
 use Rattle.model.specs.Ops.{opNumbers, Ops, Trace, encode, decode, written, replay}
-use Rattle.model.specs.Outcome.{Outcome, outcomeOf}
+use Rattle.model.specs.Outcome.{Lent, Outcome, outcomeOf}
 use Rattle.model.specs.Open.{openStatus, openOutcome}
 use Rattle.model.specs.Write.{writeStatus, writeOutcome}
 use Rattle.model.specs.Checkpoint.{checkpointStatus, checkpointOutcome}
@@ -55,7 +55,7 @@ module _ (o : Outcome) (T : Trace) (r : Report) (t : Trace) (g : Reports o T r t
 -- ---- what replay plays of it
 
 -- only an image of whole lines is served
-served-whole : (s : Session) (I : Image) (a : CallArgs) (t : Trace) → answers s I a t .status ≡ 0 → length I % lineSize ≡ 0
+served-whole : (s : Session) (I : Image) (a : CallArgs) (t : Lent) → answers s I a t .status ≡ 0 → length I % lineSize ≡ 0
 unfolding openOutcome writeOutcome checkpointOutcome outcomeOf openStatus writeStatus checkpointStatus
 served-whole s I (openArgs l) t h = omega (arith, container-then l I _ h .0 .long, image-lines l)
 served-whole s I (writeArgs w) t h = omega (arith, container-then (s .layout) I _ h .0 .long, image-lines (s .layout))
@@ -65,7 +65,7 @@ served-whole s I checkpointArgs t h = omega (arith, container-then (s .layout) I
 none-written : (e : ℕ) (O : Ops) → e ≢ 0 → cond (served e) O [] ≡ []
 none-written e O h = rw (ne-eqb e 0 h) refl
 
-refused-none : (s : Session) (I : Image) (a : CallArgs) (t : Trace) → answers s I a t .status ≢ 0 → answers s I a t .ops ≡ []
+refused-none : (s : Session) (I : Image) (a : CallArgs) (t : Lent) → answers s I a t .status ≢ 0 → answers s I a t .ops ≡ []
 unfolding openOutcome writeOutcome checkpointOutcome outcomeOf
 refused-none s I (openArgs l) t h = none-written (openStatus l I t) _ h
 refused-none s I (writeArgs w) t h = none-written (writeStatus s I w t) _ h
@@ -92,25 +92,25 @@ module _ (d : Device) (c : Call) where
       go (yes whole) = played-ops _ _ _ p whole (call-ok d c)
       go (no not) =
           let e : outcome d c .ops ≡ [] = refused-none _ _ (c .args) _ (λ h. not (served-whole _ _ (c .args) _ h)) in
-          rw e (none-played (d .image) (c .trace) p ∙ sym (take-nil p))
+          rw e (none-played (d .image) (c .lends .trace) p ∙ sym (take-nil p))
 
-  pub replay-leaves : replayedImage (d .image) (outcome d c .ops) (c .trace) (length (outcome d c .ops)) ≡ replay (outcome d c .ops) (d .image)
+  pub replay-leaves : replayedImage (d .image) (outcome d c .ops) (c .lends .trace) (length (outcome d c .ops)) ≡ replay (outcome d c .ops) (d .image)
   unfolding replay
   replay-leaves = go (ℕ-discrete (length (d .image) % lineSize) 0)
     where
       go : Dec (length (d .image) % lineSize ≡ 0)
-          → replayedImage (d .image) (outcome d c .ops) (c .trace) (length (outcome d c .ops)) ≡ replay (outcome d c .ops) (d .image)
+          → replayedImage (d .image) (outcome d c .ops) (c .lends .trace) (length (outcome d c .ops)) ≡ replay (outcome d c .ops) (d .image)
       go (yes whole) =
           replayed-image _ _ _ _ whole (call-ok d c) ∙ ap (λ (X : Ops). replay X (d .image)) (take-length (outcome d c .ops))
       go (no not) =
           let e : outcome d c .ops ≡ [] = refused-none _ _ (c .args) _ (λ h. not (served-whole _ _ (c .args) _ h)) in
-          rw e (none-replayed (d .image) (c .trace) 0)
+          rw e (none-replayed (d .image) (c .lends .trace) 0)
 
 -- ---- the step of the code is the module's step
 
 module _ (d : Device) (c : Call) (r : Report) (t : Trace) (k : Called (d .image) (d .session) c r t) where
   pub called-carried : (p : ℕ) → p ≤ r .ops → carried t p ≡ calledOps d c p
-  called-carried p h = carried-first (outcome d c) (c .trace) r t (k .1) p h ∙ sym (replay-carries d c p)
+  called-carried p h = carried-first (outcome d c) (c .lends .trace) r t (k .1) p h ∙ sym (replay-carries d c p)
 
   -- replay of the reported part leaves what carrying it out leaves
   device-replayed : (I′ : Image) → I′ ≡ replayOutcome (d .image) (take (opNumbers * r .ops) t) (r .ops) .image
@@ -118,8 +118,8 @@ module _ (d : Device) (c : Call) (r : Report) (t : Trace) (k : Called (d .image)
   unfolding replayedImage
   device-replayed I′ e = (
     k,
-    e ∙ ap₂ (λ (x : Trace) (n : ℕ). replayOutcome (d .image) x n .image) (part-reported (outcome d c) (c .trace) r t (k .1)) (k .1 .2)
-        ∙ replay-leaves d c ∙ ap (λ (X : Ops). replay X (d .image)) (sym (carried-all (outcome d c) (c .trace) r t (k .1))),
+    e ∙ ap₂ (λ (x : Trace) (n : ℕ). replayOutcome (d .image) x n .image) (part-reported (outcome d c) (c .lends .trace) r t (k .1)) (k .1 .2)
+        ∙ replay-leaves d c ∙ ap (λ (X : Ops). replay X (d .image)) (sym (carried-all (outcome d c) (c .lends .trace) r t (k .1))),
   )
 
 pub replayed-step : (I : Image) (s : Session) (c : Call) (r : Report) (t : Trace) (I′ : Image) → Called I s c r t
@@ -132,7 +132,7 @@ pub stepped-device : (d : Device) (c : Call) (r : Report) (t : Trace) (I′ : Im
 unfolding deviceStep
 stepped-device d c r t I′ k =
     let g = k .0 .1 in (
-      sym (k .1 ∙ ap (λ (X : Ops). replay X (d .image)) (carried-all (outcome d c) (c .trace) r t g) ∙ sym (replay-leaves d c)),
+      sym (k .1 ∙ ap (λ (X : Ops). replay X (d .image)) (carried-all (outcome d c) (c .lends .trace) r t g) ∙ sym (replay-leaves d c)),
       sym (g .1),
       ap (λ (X : Ops). d .played ++ X) (ap (λ (n : ℕ). calledOps d c n) (sym (g .2)) ∙ sym (called-carried d c r t (k .0) (r .ops) (omega arith))),
     )

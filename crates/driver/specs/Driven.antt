@@ -17,6 +17,7 @@ use Rattle.model.specs.Words.{Image, Bytes}
 use Rattle.model.specs.Status.{served}
 use Rattle.model.specs.Container.{activeLine, checkpointBytes}
 use Rattle.model.specs.Ops.{opNumbers, Ops, Trace}
+use Rattle.model.specs.Outcome.{Lent}
 use Rattle.model.specs.Open.{openStatus}
 use Rattle.model.specs.Crash.{CrashImage}
 use Rattle.model.specs.Reference.{Page, Model, modelStep}
@@ -66,26 +67,26 @@ pub data Made (C : Calls) (s : State) : Moment → Ops → Type 0 where
   makes : (c : Call) (p : ℕ) (r : Report) (t : Trace) → C (s .device .image) (s .device .session) c r t → p < r .ops
       → Made C s (during c p) (carried t p)
 
--- H becomes H′ through openings that the code makes with the sizes l, each of them given what stands and any trace that 11
--- does not refuse, and cut after any number of its operations
+-- H becomes H′ through openings that the code makes with the sizes l, each of them given what stands, any records that 13 does not refuse
+-- and any trace that 11 does not refuse, and cut after any number of its operations
 pub data CutDriven (C : Calls) (l : Layout) : Image → Image → Type 0 where
   none : {H : Image} → CutDriven C l H H
-  again : {H H′ H″ : Image} (s : Session) (T : Trace) (p : ℕ) (r : Report) (t : Trace) → C H s (callOpen l T) r t
-      → r .number ≢ 11 → p ≤ r .ops → CrashImage H (carried t p) H′ → CutDriven C l H′ H″ → CutDriven C l H H″
+  again : {H H′ H″ : Image} (s : Session) (k : Lent) (p : ℕ) (r : Report) (t : Trace) → C H s (callOpen l k) r t
+      → r .number ≢ 11 → r .number ≢ 13 → p ≤ r .ops → CrashImage H (carried t p) H′ → CutDriven C l H′ H″ → CutDriven C l H H″
 
 -- the calls of such a program are a permitted history, where the program stands is where that history does, and a call that the code
--- makes there is permitted and gives the number of its outcome: so model's statements over histories (Sisters, EpochCounts, States,
+-- makes there is permitted, and gives the number of its outcome and leaves its records: so model's statements over histories (Sisters, EpochCounts, States,
 -- FreeBackups, `CleanSettled`) are statements about the code
 abbrev pub DrivenHistories : Calls → Type 0
 DrivenHistories C =
-    -- an opening of any image, with any sizes and any trace, that is served and carried out
-    (l : Layout) (I : Image) (T : Trace)
-    → (x : Session) (r : Report) (t : Trace) (I₁ : Image) → Stepped C I x (callOpen l T) r t I₁ → r .number ≡ 0
+    -- an opening of any image, with any sizes, records and trace, that is served and carried out
+    (l : Layout) (I : Image) (k : Lent)
+    → (x : Session) (r : Report) (t : Trace) (I₁ : Image) → Stepped C I x (callOpen l k) r t I₁ → r .number ≡ 0
     -- then any steps, which lead to the state s
     → (cs : List Call) (s : State) → Driven C (opened l I r I₁) cs s
-    → (openStatus l I T ≡ 0) × AllPermitted cs × (run (start l I T) cs ≡ s)
+    → (openStatus l I k ≡ 0) × AllPermitted cs × (run (start l I k) cs ≡ s)
     × ((c : Call) (q : Report) (u : Trace) → C (s .device .image) (s .device .session) c q u
-    → Permitted c × (q .number ≡ outcome (s .device) c .status))
+    → Permitted c × (q .number ≡ outcome (s .device) c .status) × (q .clients ≡ outcome (s .device) c .clients))
 
 -- same board, same tape, of the code (model's `SameBoard`): two programs that make the same calls, whatever stood on their traces. It is
 -- not about crashes and assumes nothing
@@ -95,9 +96,9 @@ pub record DrivenSameBoard (C : Calls) : Type 0 where
       → SameReport r t q u
   -- opened on the same image with the same sizes, they report the same, and the calls that follow leave them at the same place: image,
   -- session, all operations carried out, and model
-  pub programs : (l : Layout) (I : Image) (T U : Trace) (x : Session) (r : Report) (t : Trace) (I₁ : Image) → Stepped C I x (callOpen l T) r t I₁
-      → (y : Session) (q : Report) (u : Trace) (J₁ : Image) → Stepped C I y (callOpen l U) q u J₁
-      → (length T ≡ length U) ⊎ ((r .number ≢ 11) × (q .number ≢ 11))
+  pub programs : (l : Layout) (I : Image) (k m : Lent) (x : Session) (r : Report) (t : Trace) (I₁ : Image) → Stepped C I x (callOpen l k) r t I₁
+      → (y : Session) (q : Report) (u : Trace) (J₁ : Image) → Stepped C I y (callOpen l m) q u J₁
+      → k .clients ≡ m .clients → (length (k .trace) ≡ length (m .trace)) ⊎ ((r .number ≢ 11) × (q .number ≢ 11))
       → (bs cs : List Call) → SameCalls (opened l I r I₁) bs cs
       → (s s′ : State) → Driven C (opened l I r I₁) bs s → Driven C (opened l I q J₁) cs s′
       → SameReport r t q u × (s ≡ s′)
@@ -108,15 +109,15 @@ pub record DrivenSameBoard (C : Calls) : Type 0 where
 abbrev pub ShowsAfter : Calls → Layout → Image → (Page → Type 0) → Type 0
 ShowsAfter C l H May =
     (H′ : Image) → CutDriven C l H H′
-    → (s : Session) (T : Trace) (r : Report) (t : Trace) (I : Image) → Stepped C H′ s (callOpen l T) r t I → r .number ≢ 11
+    → (s : Session) (k : Lent) (r : Report) (t : Trace) (I : Image) → Stepped C H′ s (callOpen l k) r t I → r .number ≢ 11 → r .number ≢ 13
     → (Q : Page) × May Q × (r .number ≡ 0) × Reads l I Q Q × Bytes H′ × (savedModel l H′ ≡ record { working = Q; checkpoint = Q })
 
 -- demands 2 and 3 of the code, where calls are made as C says
 abbrev pub DrivenSafety : Calls → Type 0
 DrivenSafety C =
-    -- an opening of any image, with any sizes and any trace, that is served and carried out
-    (l : Layout) (I : Image) (T : Trace) → Bytes I
-    → (x : Session) (r : Report) (t : Trace) (I₁ : Image) → Stepped C I x (callOpen l T) r t I₁ → r .number ≡ 0
+    -- an opening of any image, with any sizes, records and trace, that is served and carried out
+    (l : Layout) (I : Image) (k : Lent) → Bytes I
+    → (x : Session) (r : Report) (t : Trace) (I₁ : Image) → Stepped C I x (callOpen l k) r t I₁ → r .number ≡ 0
     -- then any steps, which lead to the state s
     → (cs : List Call) (s : State) → Driven C (opened l I r I₁) cs s
     -- DEMAND 2: both reads of the image give the pages of the reference model
@@ -128,5 +129,5 @@ DrivenSafety C =
 -- openings alone: any image that an opening of the code serves, cut in any number of openings of the code, shows its checkpoint
 abbrev pub DrivenOpeningSafety : Calls → Type 0
 DrivenOpeningSafety C =
-    (l : Layout) (I : Image) (T : Trace) → Bytes I → (x : Session) (r : Report) (t : Trace) → C I x (callOpen l T) r t → r .number ≡ 0
+    (l : Layout) (I : Image) (k : Lent) → Bytes I → (x : Session) (r : Report) (t : Trace) → C I x (callOpen l k) r t → r .number ≡ 0
     → ShowsAfter C l I (λ Q. Q ≡ checkpointBytes l I (activeLine I))

@@ -9,23 +9,27 @@ use Rattle.model.specs.declared.Answer.{Answer}
 use Rattle.model.specs.Words.{Image}
 use Rattle.model.specs.Status.{codeOf}
 use Rattle.model.specs.Ops.{opNumbers, Ops, Trace, decode, written, replay}
+use Rattle.model.specs.Clients.{Clients}
 use Rattle.model.specs.Outcome.{Outcome}
 use Rattle.model.specs.History.{Call, answers, Permitted}
 
--- what a call reports: its number, the session that it answers, and how many operations stand on the trace
+-- what a call reports: its number, the session that it answers, the records of clients that it leaves, and how many operations stand on the
+-- trace
 pub record Report : Type 0 where
   pub number : ℕ
   pub session : Session
+  pub clients : Clients
   pub ops : ℕ
 
--- an answer of the library is one
-abbrev pub reportOf : Answer → Report
-reportOf a = record { number = codeOf (a .status); session = a .session; ops = a .ops }
+-- an answer of the library and the records that it leaves are one
+abbrev pub reportOf : Answer → Clients → Report
+reportOf a R = record { number = codeOf (a .status); session = a .session; clients = R; ops = a .ops }
 
 -- a report and the trace that the call leaves give an outcome, on the trace t (`Gives` says it of answers)
 abbrev pub Reports : Outcome → Trace → Report → Trace → Type 0
 Reports o t r after =
     (r .number ≡ o .status) × (r .session ≡ o .session) × (r .ops ≡ length (o .ops)) × (after ≡ written (o .ops) t)
+    × (r .clients ≡ o .clients)
 
 -- how a program makes its calls: which reports and traces may come of a call on an image with a session
 abbrev pub Calls : Type 1
@@ -34,7 +38,7 @@ Calls = Image → Session → Call → Report → Trace → Type 0
 -- by the library: the call c is permitted, and the report r and the trace t that it leaves give its outcome on the image I with the
 -- session s
 abbrev pub Called : Calls
-Called I s c r t = Permitted c × Reports (answers s I (c .args) (c .trace)) (c .trace) r t
+Called I s c r t = Permitted c × Reports (answers s I (c .args) (c .lends)) (c .lends .trace) r t
 
 -- whatever may come of a call made as C says may come of the library's
 abbrev pub OfLibrary : Calls → Type 0

@@ -1,5 +1,6 @@
 // One call of a history: the call, then the replay of the operations that it reports. Its contracts are what `DrivenSafety`,
 // demands 2 and 3 of programs that make such calls, is stated of.
+use clients::CLIENT_WORDS;
 use model::Answer;
 use model::Session;
 use replay::Replayed;
@@ -11,8 +12,10 @@ ghost use Rattle.model.specs.Layout.{layoutOf};
 ghost use Rattle.model.specs.Status.{codeOf};
 ghost use Rattle.model.specs.Ops.{opNumbers};
 ghost use Rattle.model.specs.Replay.{replayOutcome};
+ghost use Rattle.model.specs.Outcome.{lent};
 ghost use Rattle.model.specs.History.{callOpen, callWrite, callCheckpoint};
 ghost use Rattle.model.specs.Write.{writeArgsOf};
+ghost use Rattle.clients.specs.Words.{clientsIn};
 ghost use Rattle.driver.specs.Stepped.{reportOf, Called, Stepped};
 
 // Replays the first `ops` operations of a trace: all that a call reports. How the replay ends, and how many it played.
@@ -26,43 +29,70 @@ fn play_reported(image: &mut [u8], trace: &[u64], ops: u64) -> Replayed
     replay::crpm_replay(image, &trace[..end], ops)
 }
 
-// An opening, replayed whole.
+// An opening, replayed whole, with the records of clients lent as words.
 pub fn step_open(
     image: &mut [u8],
     mains: u64,
     backups: u64,
     blocks: u64,
+    clients: &mut [[u64; CLIENT_WORDS]],
     trace: &mut [u64],
 ) -> Answer
-    ensures { λ r. ⌜ ((s : Session) → Stepped Called (now (image .entry)) s (callOpen (layoutOf mains backups blocks) (now (trace .entry))) (reportOf r) (now (trace .exit)) (now (image .exit))) ⌝ }
+    ensures { λ r. ⌜ ((s : Session) → Stepped Called (now (image .entry)) s (callOpen (layoutOf mains backups blocks) (lent (clientsIn (now (clients .entry))) (now (trace .entry)))) (reportOf r (clientsIn (now (clients .exit)))) (now (trace .exit)) (now (image .exit))) ⌝ }
 {
-    let opened = open::crpm_open(image, mains, backups, blocks, trace);
+    let run = clients::run_in(clients);
+    let done = open::open_run(image, mains, backups, blocks, run, trace);
+    clients::clear_clients(clients, done.from);
+    let opened = done.answer;
     play_reported(image, trace, opened.ops);
     opened
 }
 
-// A write, replayed whole.
+// A write, replayed whole, with the records of clients lent as words.
 pub fn step_write(
     image: &mut [u8],
     session: Session,
+    clients: &mut [[u64; CLIENT_WORDS]],
+    client: u64,
     main: u64,
     block: u64,
     offset: u64,
     bytes: &[u8],
     trace: &mut [u64],
 ) -> Answer
-    ensures { λ r. ⌜ Stepped Called (now (image .entry)) session (callWrite (writeArgsOf main block offset (now (bytes .entry))) (now (trace .entry))) (reportOf r) (now (trace .exit)) (now (image .exit)) ⌝ }
+    ensures { λ r. ⌜ Stepped Called (now (image .entry)) session (callWrite (writeArgsOf client main block offset (now (bytes .entry))) (lent (clientsIn (now (clients .entry))) (now (trace .entry)))) (reportOf r (clientsIn (now (clients .exit)))) (now (trace .exit)) (now (image .exit)) ⌝ }
 {
-    let written = write::crpm_write(image, session, main, block, offset, bytes, trace);
+    let run = clients::run_in(clients);
+    let done = write::write_run(
+        image,
+        session,
+        run,
+        client,
+        main,
+        block,
+        offset,
+        bytes,
+        trace,
+    );
+    clients::put_client(clients, done.place, done.record);
+    let written = done.answer;
     play_reported(image, trace, written.ops);
     written
 }
 
-// A checkpoint, replayed whole.
-pub fn step_checkpoint(image: &mut [u8], session: Session, trace: &mut [u64]) -> Answer
-    ensures { λ r. ⌜ Stepped Called (now (image .entry)) session (callCheckpoint (now (trace .entry))) (reportOf r) (now (trace .exit)) (now (image .exit)) ⌝ }
+// A checkpoint, replayed whole, with the records of clients lent as words.
+pub fn step_checkpoint(
+    image: &mut [u8],
+    session: Session,
+    clients: &mut [[u64; CLIENT_WORDS]],
+    trace: &mut [u64],
+) -> Answer
+    ensures { λ r. ⌜ Stepped Called (now (image .entry)) session (callCheckpoint (lent (clientsIn (now (clients .entry))) (now (trace .entry)))) (reportOf r (clientsIn (now (clients .exit)))) (now (trace .exit)) (now (image .exit)) ⌝ }
 {
-    let checkpointed = checkpoint::crpm_checkpoint(image, session, trace);
+    let run = clients::run_in(clients);
+    let done = checkpoint::checkpoint_run(image, session, run, trace);
+    clients::clear_clients(clients, done.from);
+    let checkpointed = done.answer;
     play_reported(image, trace, checkpointed.ops);
     checkpointed
 }
