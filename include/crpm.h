@@ -34,11 +34,23 @@
  *    byte 0 stands at an address divisible by 64, and the processor's cache line
  *    is 64 bytes. Each store of a trace is one aligned 8-byte store.
  *  - One image, one writer: nothing else stores into it, and its calls do not
- *    run at the same time. Calls on different images may; the library keeps no
- *    data of its own.
+ *    run at the same time, whichever client makes them. Calls on different images
+ *    may; the library keeps no data of its own.
+ *  - Clients that write the same image are lent together, as one run of records,
+ *    to every opening, write and checkpoint of it, and only these calls change
+ *    the run. Then, from the first served checkpoint after the latest opening on,
+ *    a client that has used fewer backup segments than are reserved for it is
+ *    never refused with CRPM_NO_FREE_BACKUP, CRPM_QUOTA_REACHED or
+ *    CRPM_BACKUPS_RESERVED, whatever the others write. After an opening a
+ *    checkpoint comes first: main segments that it restored keep their backup
+ *    segments until then. A program with one client lends a run of one record,
+ *    whose `reserved` and `quota` are the number of backup segments: then no call
+ *    is refused with 13, 14 or 15.
+ *  - A run lent after a restart starts with `used` 0: CRPM_BAD_CLIENTS refuses one
+ *    above its quota to an opening too, and a served opening sets it to 0.
  *  - Compile with the header of the same version as the archive: nothing checks
  *    it, and a larger session would be written past a smaller one.
- *  - The library takes below 16 KiB of code and constants and below 3 KiB of
+ *  - The library takes below 20 KiB of code and constants and below 3 KiB of
  *    stack in any call, and needs memcpy and memset (scripts/footprint measures
  *    it). It uses SSE registers (xmm, no ymm): code that interrupts a call saves
  *    them. It uses the red zone: an interrupt handler that runs on the stack of
@@ -46,17 +58,19 @@
  *
  * Rules for every call
  *  - A buffer is a pointer and a length: of bytes for an image and for the
- *    bytes of a write, of numbers for a trace. All other pointers point to one
- *    struct or one number, so no length of theirs can be wrong.
+ *    bytes of a write, of numbers for a trace, of records for a run of clients.
+ *    All other pointers point to one struct or one number, so no length of theirs
+ *    can be wrong.
  *  - No pointer may be null, even where the length is 0: pass the address of
  *    anything that may be read (of anything that may be written, if it is not
  *    const). A length is the buffer's own.
- *  - Numbers and sessions are aligned as uint64_t asks. What one call is handed
- *    must not overlap; only const buffers may overlap one another.
+ *  - Numbers, sessions and clients are aligned as uint64_t asks. What one call is
+ *    handed must not overlap; only const buffers may overlap one another.
  *  - The return value is 0 if the call was served, else the number of the
- *    refusal: the lowest that applies. A refused call leaves image and trace as
- *    they were, leaves the session as it came (a refused opening: a session of
- *    zeros) and writes 0 where it would write a number.
+ *    refusal: the first that applies in the order listed with each call. A refused
+ *    call leaves image, trace and clients as they were, leaves the session as it
+ *    came (a refused opening: a session of zeros) and writes 0 where it would write
+ *    a number.
  *  - All else that is handed over may have any value.
  */
 #ifndef CRPM_H
@@ -73,7 +87,7 @@ extern "C" {
    or a struct changes, its second when what a call does, or what is promised of
    it, changes and programs need no change. `pkg-config --modversion crpm` says
    the same. */
-#define CRPM_VERSION "1.3.0"
+#define CRPM_VERSION "2.0.0"
 
 /* ---- the layout of an image */
 
@@ -146,6 +160,23 @@ struct crpm_session {
                                          from its backup segment */
 };
 
+/* ---- the clients */
+
+#define CRPM_MOST_CLIENTS 8 /* most records of a run */
+
+/* The record of a client: how many backup segments it may take, so that no client
+   takes those that others count on. The clients of an image are numbered by their
+   places in the run, from 0. A write that copies its main segment adds 1 to `used`
+   of its client; a served checkpoint or opening sets every `used` to 0. With a run
+   of no records openings and checkpoints are served, and no write is. */
+struct crpm_client {
+    uint64_t reserved; /* backup segments kept for it; all clients' together are at most those of
+                          the image */
+    uint64_t quota;    /* most that it may take between one checkpoint or opening and the next:
+                          `reserved` or more, and more than the image has if you like */
+    uint64_t used;     /* how many it has taken since the last checkpoint or opening */
+};
+
 /* ---- the numbers that calls return */
 
 enum crpm_status {
@@ -163,7 +194,15 @@ enum crpm_status {
                                 checkpoint, then all are */
     CRPM_EPOCH_LIMIT = 10,   /* a checkpoint at epoch 2^64 - 1 */
     CRPM_TRACE_SHORT = 11,   /* the trace is too short for the operations */
-    CRPM_TRACE_BAD = 12      /* replay: length not divisible by 3, or an operation ill formed */
+    CRPM_TRACE_BAD = 12,     /* replay: length not divisible by 3, or an operation ill formed */
+    CRPM_BAD_CLIENTS = 13,   /* the number of a client that the run has not, a run of more than 8,
+                                a client with more reserved or used than its quota, or more
+                                reserved in all than there are backup segments */
+    CRPM_QUOTA_REACHED = 14, /* a write copies its main segment, and its client has used its quota:
+                                make a checkpoint, then it has used nothing */
+    CRPM_BACKUPS_RESERVED = 15 /* a write copies its main segment, and no more backup segments are
+                                  free than the other clients have reserved and not used: make a
+                                  checkpoint, then all are free */
 };
 
 /* ---- the calls */
@@ -172,19 +211,22 @@ enum crpm_status {
    paired, every segment zero. Whatever was there is lost. A format is not safe
    against a power cut: format again after one. The next opening may serve what a
    cut left and show old bytes, so only a mark of your own says that it finished
-   (above). Refusals: 1, 2. */
+   (above). Refusals in order: 1, 2. */
 uint64_t crpm_format(
     uint8_t *image, size_t image_length,
     uint64_t mains, uint64_t backups, uint64_t blocks);
 
 /* Opens an image, which recovers: once its operations are carried out, the
    working bytes are those of the last checkpoint. At a program's start flush
-   every line first (above). Writes a session with no dirty segment or block, and
-   to `ops` the number of operations on the trace. Refusals: 1 to 4, 11. */
+   every line first (above). Writes a session with no dirty segment or block, sets
+   `used` of every client to 0, and writes to `ops` the number of operations on the
+   trace. Refusals in order: 1 to 4, 13, 11; 13 judges the run by the `backups` that
+   are handed over. */
 uint64_t crpm_open(
     const uint8_t *image, size_t image_length,
     uint64_t mains, uint64_t backups, uint64_t blocks,
     struct crpm_session *session,
+    struct crpm_client *clients, size_t clients_length,
     uint64_t *trace, size_t trace_length,
     uint64_t *ops);
 
@@ -197,10 +239,20 @@ uint64_t crpm_open(
    paired, the lowest whose main segment is in state 1. So the same calls on the
    same image always give the same operations. Takes the session that the last
    call on the image wrote and writes the next one; to `ops` the number of
-   operations. Refusals: 1 to 9, 11. */
+   operations.
+
+   `client` is the number of the client that writes. A main segment is copied if it
+   is not dirty and in state 1, even if no block of it is dirty and though it has a
+   backup segment: that write is charged to its client, whose `used` grows by 1. It
+   is refused with 14 if the client has used its quota, and with 15 if the free
+   backup segments, its own included, are not more than what the other clients have
+   reserved and not used; one that has used as much as is reserved for it, or more,
+   has nothing left of it. Every other write changes no client.
+   Refusals in order: 1 to 5, 13, 6 to 9, 14, 15, 11. */
 uint64_t crpm_write(
     const uint8_t *image, size_t image_length,
     struct crpm_session *session,
+    struct crpm_client *clients, size_t clients_length, uint64_t client,
     uint64_t main, uint64_t block, uint64_t offset,
     const uint8_t *bytes, size_t bytes_length,
     uint64_t *trace, size_t trace_length,
@@ -209,11 +261,13 @@ uint64_t crpm_write(
 /* Makes the working bytes the checkpoint, in one step: a power cut shows the
    old checkpoint or the new one, whole. Every backup segment is free then, so
    the next writes that copy a main segment, as many as there are backup
-   segments, are not refused with 9. Takes and writes a session as crpm_write
-   does; to `ops` the number of operations. Refusals: 1 to 5, 10, 11. */
+   segments, are not refused with 9; and `used` of every client is 0. Takes and
+   writes a session as crpm_write does; to `ops` the number of operations.
+   Refusals in order: 1 to 5, 13, 10, 11. */
 uint64_t crpm_checkpoint(
     const uint8_t *image, size_t image_length,
     struct crpm_session *session,
+    struct crpm_client *clients, size_t clients_length,
     uint64_t *trace, size_t trace_length,
     uint64_t *ops);
 
@@ -221,7 +275,7 @@ uint64_t crpm_checkpoint(
    if there are fewer. It flushes nothing and waits for nothing: on a module,
    carry out the operations yourself. Hand over the part of the trace that
    holds operations: 3 numbers for each. Writes to `played` how many operations
-   were played. Refusals: 2, 12. */
+   were played. Refusals in order: 2, 12. */
 uint64_t crpm_replay(
     uint8_t *image, size_t image_length,
     const uint64_t *trace, size_t trace_length,
@@ -232,7 +286,7 @@ uint64_t crpm_replay(
    256. The blocks of a main segment stand one after the other, so what one write
    put into several of them stands there as it was handed over. The place holds
    until operations are next carried out on the image; read again then.
-   Refusals: 1 to 4, 6, 7. */
+   Refusals in order: 1 to 4, 6, 7. */
 uint64_t crpm_read_working(
     const uint8_t *image, size_t image_length,
     uint64_t mains, uint64_t backups, uint64_t blocks,
@@ -242,7 +296,7 @@ uint64_t crpm_read_working(
 /* Finds a block as of the last checkpoint: where in the image it starts and
    its size, 256; or 0 and 0 if no checkpoint has bytes of this main segment:
    they are then all zero. The place holds until operations are next carried out
-   on the image; read again then. Refusals: 1 to 4, 6, 7. */
+   on the image; read again then. Refusals in order: 1 to 4, 6, 7. */
 uint64_t crpm_read_checkpoint(
     const uint8_t *image, size_t image_length,
     uint64_t mains, uint64_t backups, uint64_t blocks,
@@ -250,7 +304,7 @@ uint64_t crpm_read_checkpoint(
     uint64_t *start, uint64_t *size);
 
 /* Whether two images of these sizes have the same checkpoint: 1 or 0.
-   Refusals: 1 to 4, the first image wholly before the second. */
+   Refusals in order: 1 to 4, the first image wholly before the second. */
 uint64_t crpm_same_checkpoint(
     const uint8_t *a, size_t a_length,
     const uint8_t *b, size_t b_length,

@@ -15,60 +15,75 @@ use Rattle.model.specs.Words.{Image}
 use Rattle.model.specs.Status.{codeOf, served}
 use Rattle.model.specs.Session.{withCheckpoint}
 use Rattle.model.specs.Ops.{Trace}
-use Rattle.model.specs.Outcome.{Outcome, Gives}
+use Rattle.model.specs.Clients.{Clients, clientAt, withUsed, cleared}
+use Rattle.model.specs.Outcome.{lent, Outcome, Gives}
 use Rattle.model.specs.Write.{WriteArgs, writeOutcome}
 use Rattle.model.specs.Checkpoint.{checkpointOutcome}
 use Rattle.model.specs.Reads.{Part, noPart, readStatus, workingPart, checkpointPart}
 use Rattle.reads.specs.declared.Part as code
 use Rattle.reads.specs.Answered.{Answered}
 use Rattle.write.specs.declared.Written.{Written}
-use Rattle.write.specs.Written.{writtenSession, writtenAnswer}
+use Rattle.write.specs.Written.{writtenSession, writtenAnswer, writtenClients}
 use Rattle.checkpoint.specs.declared.Checkpointed.{Checkpointed}
-use Rattle.checkpoint.specs.Checkpointed.{checkpointedAnswer}
-use Rattle.interface.specs.Interface.{Words, dirtySegmentsAt, dirtyBlocksAt, sessionWords, wordsOf, sessionIn, returned, writeReturned, checkpointReturned, Returns}
+use Rattle.checkpoint.specs.Checkpointed.{checkpointedAnswer, checkpointedClients}
+use Rattle.clients.specs.Words.{Words}
+use Rattle.interface.specs.Interface.{dirtySegmentsAt, dirtyBlocksAt, sessionWords, wordsOf, sessionIn, returned, writeReturned, checkpointReturned, Returns}
 use Rattle.interface.proofs.WordsLaws.{words-session, segments-stored, word-stored}
 
 -- ---- opening, write and checkpoint
 
-pub answer-returned : (t : Trace) (a : Answer) (number : ℕ) (s′ : Words) (t′ : Trace) (ops : ℕ) → number ≡ codeOf (a .status) → s′ ≡ wordsOf (a .session) → ops ≡ a .ops
-    → (o : Outcome) → Gives o t a t′ → Returns (returned t o) number s′ t′ ops
-answer-returned t a number s′ t′ ops n p q o g = (n ∙ g .0, p ∙ ap wordsOf (g .1), g .3, q ∙ g .2)
+pub answer-returned : (t : Trace) (a : Answer) (number : ℕ) (s′ : Words) (R″ : Clients) (t′ : Trace) (ops : ℕ) (R′ : Clients)
+    → number ≡ codeOf (a .status) → s′ ≡ wordsOf (a .session) → R″ ≡ R′ → ops ≡ a .ops
+    → (o : Outcome) → Gives o t a t′ R′ → Returns (returned t o) number s′ R″ t′ ops
+answer-returned t a number s′ R″ t′ ops R′ n p c q o g = (n ∙ g .0, p ∙ ap wordsOf (g .1), c ∙ g .4, g .3, q ∙ g .2)
 
--- a write and a checkpoint are lent the parts x of the session that stands in the words s
-module _ (I : Image) (s : Words) (e : length s ≡ sessionWords) (x : Session) (r : x ≡ sessionIn s) (t t′ : Trace) (number ops : ℕ) where
-  -- a write: served, two words are stored; refused, none
-  module _ (w : WriteArgs) (a : Written) (n : number ≡ codeOf (a .status)) (q : ops ≡ a .ops) (g : Gives (writeOutcome x I w t) t (writtenAnswer x (w .main) a) t′) where
-    write-returned : (s′ : Words) → s′ ≡ wordsOf (writtenAnswer (sessionIn s) (w .main) a .session) → Returns (writeReturned I s w t) number s′ t′ ops
-    write-returned s′ p =
-        answer-returned t (writtenAnswer (sessionIn s) (w .main) a) number s′ t′ ops n p q (writeOutcome (sessionIn s) I w t)
-        (subst (λ (y : Session). Gives (writeOutcome y I w t) t (writtenAnswer y (w .main) a) t′) r g)
+-- a write and a checkpoint are lent the parts x of the session that stands in the words s, and the records R
+module _ (I : Image) (s : Words) (e : length s ≡ sessionWords) (x : Session) (r : x ≡ sessionIn s) (R R″ : Clients) (t t′ : Trace) (number ops : ℕ) where
+  -- a write: served, two words are stored and a record is put; refused, nothing
+  module _ (w : WriteArgs) (a : Written) (n : number ≡ codeOf (a .status)) (q : ops ≡ a .ops)
+      (g : Gives (writeOutcome x I w (lent R t)) t (writtenAnswer x (w .main) a) t′ (writtenClients R (w .client) a)) where
+    abbrev charged : Clients
+    charged = set R (w .client) (withUsed (a .used) (clientAt R (w .client)))
 
-    pub write-stored : served (codeOf (a .status)) ≡ true
-        → Returns (writeReturned I s w t) number (set (set s dirtySegmentsAt (a .«dirty_segments»)) (dirtyBlocksAt + w .main) (a .word)) t′ ops
-    write-stored z =
+    write-returned : (s′ : Words) → s′ ≡ wordsOf (writtenAnswer (sessionIn s) (w .main) a .session) → R″ ≡ writtenClients R (w .client) a
+        → Returns (writeReturned I s R w t) number s′ R″ t′ ops
+    write-returned s′ p c =
+        answer-returned t (writtenAnswer (sessionIn s) (w .main) a) number s′ R″ t′ ops _ n p c q (writeOutcome (sessionIn s) I w (lent R t))
+        (subst (λ (y : Session). Gives (writeOutcome y I w (lent R t)) t (writtenAnswer y (w .main) a) t′ (writtenClients R (w .client) a)) r g)
+
+    pub write-stored : served (codeOf (a .status)) ≡ true → R″ ≡ charged
+        → Returns (writeReturned I s R w t) number (set (set s dirtySegmentsAt (a .«dirty_segments»)) (dirtyBlocksAt + w .main) (a .word)) R″ t′ ops
+    write-stored z c =
         write-returned _
         (ap (λ (y : Words). set y (dirtyBlocksAt + w .main) (a .word)) (segments-stored s (a .«dirty_segments») e) ∙ word-stored _ (w .main) (a .word)
         ∙ ap (λ (b : Bool). wordsOf (cond b (writtenSession (sessionIn s) (w .main) a) (sessionIn s))) (sym z))
+        (c ∙ ap (λ (b : Bool). cond b charged R) (sym z))
 
-    pub write-kept : served (codeOf (a .status)) ≡ false → Returns (writeReturned I s w t) number s t′ ops
-    write-kept z =
+    pub write-kept : served (codeOf (a .status)) ≡ false → R″ ≡ R → Returns (writeReturned I s R w t) number s R″ t′ ops
+    write-kept z c =
         write-returned s (sym (words-session s e) ∙ ap (λ (b : Bool). wordsOf (cond b (writtenSession (sessionIn s) (w .main) a) (sessionIn s))) (sym z))
+        (c ∙ ap (λ (b : Bool). cond b charged R) (sym z))
 
-  -- a checkpoint: served, the dirty segments are stored; refused, nothing
-  module _ (a : Checkpointed) (n : number ≡ codeOf (a .status)) (q : ops ≡ a .ops) (g : Gives (checkpointOutcome x I t) t (checkpointedAnswer x a) t′) where
-    checkpoint-returned : (s′ : Words) → s′ ≡ wordsOf (checkpointedAnswer (sessionIn s) a .session) → Returns (checkpointReturned I s t) number s′ t′ ops
-    checkpoint-returned s′ p =
-        answer-returned t (checkpointedAnswer (sessionIn s) a) number s′ t′ ops n p q (checkpointOutcome (sessionIn s) I t)
-        (subst (λ (y : Session). Gives (checkpointOutcome y I t) t (checkpointedAnswer y a) t′) r g)
+  -- a checkpoint: served, the dirty segments are stored and the records cleared; refused, nothing
+  module _ (a : Checkpointed) (n : number ≡ codeOf (a .status)) (q : ops ≡ a .ops)
+      (g : Gives (checkpointOutcome x I (lent R t)) t (checkpointedAnswer x a) t′ (checkpointedClients R a)) where
+    checkpoint-returned : (s′ : Words) → s′ ≡ wordsOf (checkpointedAnswer (sessionIn s) a .session) → R″ ≡ checkpointedClients R a
+        → Returns (checkpointReturned I s R t) number s′ R″ t′ ops
+    checkpoint-returned s′ p c =
+        answer-returned t (checkpointedAnswer (sessionIn s) a) number s′ R″ t′ ops _ n p c q (checkpointOutcome (sessionIn s) I (lent R t))
+        (subst (λ (y : Session). Gives (checkpointOutcome y I (lent R t)) t (checkpointedAnswer y a) t′ (checkpointedClients R a)) r g)
 
-    pub checkpoint-stored : served (codeOf (a .status)) ≡ true → Returns (checkpointReturned I s t) number (set s dirtySegmentsAt 0) t′ ops
+    pub checkpoint-stored : served (codeOf (a .status)) ≡ true → R″ ≡ cleared R
+        → Returns (checkpointReturned I s R t) number (set s dirtySegmentsAt 0) R″ t′ ops
     unfolding withCheckpoint
-    checkpoint-stored z =
+    checkpoint-stored z c =
         checkpoint-returned _ (segments-stored s 0 e ∙ ap (λ (b : Bool). wordsOf (cond b (withCheckpoint (sessionIn s)) (sessionIn s))) (sym z))
+        (c ∙ ap (λ (b : Bool). cond b (cleared R) R) (sym z))
 
-    pub checkpoint-kept : served (codeOf (a .status)) ≡ false → Returns (checkpointReturned I s t) number s t′ ops
-    checkpoint-kept z =
+    pub checkpoint-kept : served (codeOf (a .status)) ≡ false → R″ ≡ R → Returns (checkpointReturned I s R t) number s R″ t′ ops
+    checkpoint-kept z c =
         checkpoint-returned s (sym (words-session s e) ∙ ap (λ (b : Bool). wordsOf (cond b (withCheckpoint (sessionIn s)) (sessionIn s))) (sym z))
+        (c ∙ ap (λ (b : Bool). cond b (cleared R) R) (sym z))
 
 -- ---- the reads
 

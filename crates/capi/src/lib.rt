@@ -1,7 +1,8 @@
 // The C interface (include/crpm.h): eight calls of the library, exported under their own names. A slice is a pointer and a length;
-// a session is a pointer to its words (in C: struct crpm_session), and every number that a call answers with is a pointer to one
-// word, so that no length of theirs can be wrong. Each call returns the number of its status. What opening, write and checkpoint
+// a session is a pointer to its words (in C: struct crpm_session), records of clients are words too, three each (struct crpm_client), and
+// every number that a call answers with is a pointer to one word, so that no length of theirs can be wrong. Each call returns the number of its status. What opening, write and checkpoint
 // return is said in crates/interface/specs/Interface.antt, the rest in model's terms.
+use clients::CLIENT_WORDS;
 use interface::DIRTY_BLOCKS_AT;
 use interface::DIRTY_SEGMENTS_AT;
 use interface::SESSION_WORDS;
@@ -15,6 +16,7 @@ ghost use Rattle.model.specs.Write.{writeArgsOf};
 ghost use Rattle.model.specs.Replay.{replayOutcome};
 ghost use Rattle.model.specs.Reads.{readStatus, workingPart, checkpointPart};
 ghost use Rattle.model.specs.Same.{sameOutcome};
+ghost use Rattle.clients.specs.Words.{clientsIn};
 ghost use Rattle.interface.specs.Interface.{openReturned, writeReturned, checkpointReturned, Returns};
 
 // Formats an image.
@@ -35,12 +37,16 @@ pub extern "C" fn crpm_open(
     backups: u64,
     blocks: u64,
     session: &mut [u64; SESSION_WORDS],
+    clients: &mut [[u64; CLIENT_WORDS]],
     trace: &mut [u64],
     ops: &mut u64,
 ) -> u64
-    ensures { λ r. ⌜ Returns (openReturned (layoutOf mains backups blocks) (now (image .entry)) (now (trace .entry))) r (now (session .exit)) (now (trace .exit)) (now (ops .exit)) ⌝ }
+    ensures { λ r. ⌜ Returns (openReturned (layoutOf mains backups blocks) (now (image .entry)) (clientsIn (now (clients .entry))) (now (trace .entry))) r (now (session .exit)) (clientsIn (now (clients .exit))) (now (trace .exit)) (now (ops .exit)) ⌝ }
 {
-    let opened = open::crpm_open(image, mains, backups, blocks, trace);
+    let run = clients::run_in(clients);
+    let done = open::open_run(image, mains, backups, blocks, run, trace);
+    clients::clear_clients(clients, done.from);
+    let opened = done.answer;
     interface::give_answer(session, ops, opened)
 }
 
@@ -49,6 +55,8 @@ pub extern "C" fn crpm_open(
 pub extern "C" fn crpm_write(
     image: &[u8],
     session: &mut [u64; SESSION_WORDS],
+    clients: &mut [[u64; CLIENT_WORDS]],
+    client: u64,
     main: u64,
     block: u64,
     offset: u64,
@@ -56,8 +64,9 @@ pub extern "C" fn crpm_write(
     trace: &mut [u64],
     ops: &mut u64,
 ) -> u64
-    ensures { λ r. ⌜ Returns (writeReturned (now (image .entry)) (now (session .entry)) (writeArgsOf main block offset (now (bytes .entry))) (now (trace .entry))) r (now (session .exit)) (now (trace .exit)) (now (ops .exit)) ⌝ }
+    ensures { λ r. ⌜ Returns (writeReturned (now (image .entry)) (now (session .entry)) (clientsIn (now (clients .entry))) (writeArgsOf client main block offset (now (bytes .entry))) (now (trace .entry))) r (now (session .exit)) (clientsIn (now (clients .exit))) (now (trace .exit)) (now (ops .exit)) ⌝ }
 {
+    let run = clients::run_in(clients);
     let words = &session[..];
     let layout = interface::layout_in(words);
     let segments = words[DIRTY_SEGMENTS_AT];
@@ -67,6 +76,8 @@ pub extern "C" fn crpm_write(
         layout,
         segments,
         dirty_blocks,
+        run,
+        client,
         main,
         block,
         offset,
@@ -79,6 +90,8 @@ pub extern "C" fn crpm_write(
     if status.is_served() {
         session[DIRTY_SEGMENTS_AT] = written.dirty_segments;
         session[DIRTY_BLOCKS_AT + main as usize] = written.word;
+        let record = clients::record_of(run, client, written.used);
+        clients::put_client(clients, client as usize, record);
     }
     code
 }
@@ -88,21 +101,25 @@ pub extern "C" fn crpm_write(
 pub extern "C" fn crpm_checkpoint(
     image: &[u8],
     session: &mut [u64; SESSION_WORDS],
+    clients: &mut [[u64; CLIENT_WORDS]],
     trace: &mut [u64],
     ops: &mut u64,
 ) -> u64
-    ensures { λ r. ⌜ Returns (checkpointReturned (now (image .entry)) (now (session .entry)) (now (trace .entry))) r (now (session .exit)) (now (trace .exit)) (now (ops .exit)) ⌝ }
+    ensures { λ r. ⌜ Returns (checkpointReturned (now (image .entry)) (now (session .entry)) (clientsIn (now (clients .entry))) (now (trace .entry))) r (now (session .exit)) (clientsIn (now (clients .exit))) (now (trace .exit)) (now (ops .exit)) ⌝ }
 {
+    let run = clients::run_in(clients);
     let words = &session[..];
     let layout = interface::layout_in(words);
     let segments = words[DIRTY_SEGMENTS_AT];
     let dirty_blocks = &words[DIRTY_BLOCKS_AT..SESSION_WORDS];
-    let done = checkpoint::checkpoint_parts(image, layout, segments, dirty_blocks, trace);
+    let judged = clients::clients_status(run, layout);
+    let done = checkpoint::checkpoint_parts(image, layout, segments, dirty_blocks, judged, trace);
     let status = done.status;
     let code = status.code();
     *ops = done.ops;
     if status.is_served() {
         session[DIRTY_SEGMENTS_AT] = 0;
+        clients::clear_clients(clients, 0);
     }
     code
 }

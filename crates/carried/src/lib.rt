@@ -1,10 +1,13 @@
 // Callers of the C interface that carry the operations out themselves: the three exported calls of a history, each with what its
 // contract gives in the terms of `CarriedSafety` (specs/Carried.antt), so that the checker holds the one against the other.
+use clients::CLIENT_WORDS;
 use interface::SESSION_WORDS;
 ghost use Rattle.model.specs.declared.Session.{Session};
 ghost use Rattle.model.specs.Layout.{layoutOf};
 ghost use Rattle.model.specs.Write.{writeArgsOf};
+ghost use Rattle.model.specs.Outcome.{lent};
 ghost use Rattle.model.specs.History.{callOpen, callWrite, callCheckpoint};
+ghost use Rattle.clients.specs.Words.{clientsIn};
 ghost use Rattle.interface.specs.Interface.{sessionIn};
 ghost use Rattle.carried.specs.Carried.{reportIn, Exported};
 
@@ -15,18 +18,21 @@ pub fn exported_open(
     backups: u64,
     blocks: u64,
     session: &mut [u64; SESSION_WORDS],
+    clients: &mut [[u64; CLIENT_WORDS]],
     trace: &mut [u64],
     ops: &mut u64,
 ) -> u64
-    ensures { λ r. ⌜ ((s : Session) → Exported (now (image .entry)) s (callOpen (layoutOf mains backups blocks) (now (trace .entry))) (reportIn r (now (session .exit)) (now (ops .exit))) (now (trace .exit))) ⌝ }
+    ensures { λ r. ⌜ ((s : Session) → Exported (now (image .entry)) s (callOpen (layoutOf mains backups blocks) (lent (clientsIn (now (clients .entry))) (now (trace .entry)))) (reportIn r (now (session .exit)) (clientsIn (now (clients .exit))) (now (ops .exit))) (now (trace .exit))) ⌝ }
 {
-    capi::crpm_open(image, mains, backups, blocks, session, trace, ops)
+    capi::crpm_open(image, mains, backups, blocks, session, clients, trace, ops)
 }
 
 // A write.
 pub fn exported_write(
     image: &[u8],
     session: &mut [u64; SESSION_WORDS],
+    clients: &mut [[u64; CLIENT_WORDS]],
+    client: u64,
     main: u64,
     block: u64,
     offset: u64,
@@ -34,19 +40,31 @@ pub fn exported_write(
     trace: &mut [u64],
     ops: &mut u64,
 ) -> u64
-    ensures { λ r. ⌜ Exported (now (image .entry)) (sessionIn (now (session .entry))) (callWrite (writeArgsOf main block offset (now (bytes .entry))) (now (trace .entry))) (reportIn r (now (session .exit)) (now (ops .exit))) (now (trace .exit)) ⌝ }
+    ensures { λ r. ⌜ Exported (now (image .entry)) (sessionIn (now (session .entry))) (callWrite (writeArgsOf client main block offset (now (bytes .entry))) (lent (clientsIn (now (clients .entry))) (now (trace .entry)))) (reportIn r (now (session .exit)) (clientsIn (now (clients .exit))) (now (ops .exit))) (now (trace .exit)) ⌝ }
 {
-    capi::crpm_write(image, session, main, block, offset, bytes, trace, ops)
+    capi::crpm_write(
+        image,
+        session,
+        clients,
+        client,
+        main,
+        block,
+        offset,
+        bytes,
+        trace,
+        ops,
+    )
 }
 
 // A checkpoint.
 pub fn exported_checkpoint(
     image: &[u8],
     session: &mut [u64; SESSION_WORDS],
+    clients: &mut [[u64; CLIENT_WORDS]],
     trace: &mut [u64],
     ops: &mut u64,
 ) -> u64
-    ensures { λ r. ⌜ Exported (now (image .entry)) (sessionIn (now (session .entry))) (callCheckpoint (now (trace .entry))) (reportIn r (now (session .exit)) (now (ops .exit))) (now (trace .exit)) ⌝ }
+    ensures { λ r. ⌜ Exported (now (image .entry)) (sessionIn (now (session .entry))) (callCheckpoint (lent (clientsIn (now (clients .entry))) (now (trace .entry)))) (reportIn r (now (session .exit)) (clientsIn (now (clients .exit))) (now (ops .exit))) (now (trace .exit)) ⌝ }
 {
-    capi::crpm_checkpoint(image, session, trace, ops)
+    capi::crpm_checkpoint(image, session, clients, trace, ops)
 }

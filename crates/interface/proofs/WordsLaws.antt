@@ -9,7 +9,8 @@ use borrow.Author.Count.{below-more}
 use Rattle.model.specs.declared.Layout.{Layout}
 use Rattle.model.specs.declared.Session.{Session}
 use Rattle.model.specs.Layout.{most}
-use Rattle.interface.specs.Interface.{Words, dirtySegmentsAt, dirtyBlocksAt, sessionWords, wordsOf, sessionIn}
+use Rattle.clients.specs.Words.{Words}
+use Rattle.interface.specs.Interface.{dirtySegmentsAt, dirtyBlocksAt, sessionWords, wordsOf, sessionIn}
 
 -- ---- nothing is lost in the words
 

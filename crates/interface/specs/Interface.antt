@@ -3,22 +3,21 @@
 -- docs/SPECIFICATION.md, section 19. Assumes nothing.
 use Prim.Native.Nat.{ℕ, _+_}
 use mathlib.Core.Path.{_≡_}
-use mathlib.Core.List.{List, _∷_}
+use mathlib.Core.List.{_∷_}
 use lib.ListN.{length, getD, drop}
 use Rattle.model.specs.declared.Layout.{Layout}
 use Rattle.model.specs.declared.Session.{Session}
 use Rattle.model.specs.Layout.{layoutOf, most}
 use Rattle.model.specs.Words.{Image}
 use Rattle.model.specs.Ops.{Trace, written}
-use Rattle.model.specs.Outcome.{Outcome}
+use Rattle.model.specs.Clients.{Clients}
+use Rattle.model.specs.Outcome.{lent, Outcome}
 use Rattle.model.specs.Open.{openOutcome}
 use Rattle.model.specs.Write.{WriteArgs, writeOutcome}
 use Rattle.model.specs.Checkpoint.{checkpointOutcome}
+use Rattle.clients.specs.Words.{Words}
 
 -- ---- a session as words
-
-abbrev pub Words : Type 0
-Words = List ℕ
 
 -- where the dirty segments stand: after the three sizes
 abbrev pub dirtySegmentsAt : ℕ
@@ -42,27 +41,30 @@ sessionIn w = record { layout = layoutOf (getD w 0 0) (getD w 1 0) (getD w 2 0);
 
 -- ---- opening, write and checkpoint
 
--- what a call returns and leaves: its number, the words of the session, the trace, and how many operations stand on it
+-- what a call returns and leaves: its number, the words of the session, the records of clients, the trace, and how many operations stand on
+-- it
 pub record Returned : Type 0 where
   pub number : ℕ
   pub session : Words
+  pub clients : Clients
   pub trace : Trace
   pub ops : ℕ
 
--- by an outcome: its number, its session, its operations on the trace t, and how many they are
+-- by an outcome: its number, its session, its records, its operations on the trace t, and how many they are
 abbrev pub returned : Trace → Outcome → Returned
-returned t o = record { number = o .status; session = wordsOf (o .session); trace = written (o .ops) t; ops = length (o .ops) }
+returned t o = record { number = o .status; session = wordsOf (o .session); clients = o .clients; trace = written (o .ops) t; ops = length (o .ops) }
 
--- of each call; a write and a checkpoint take the session that stands in the words s
-abbrev pub openReturned : Layout → Image → Trace → Returned
-openReturned l I t = returned t (openOutcome l I t)
+-- of each call; a write and a checkpoint take the session that stands in the words s, and each call the records R, which stand in words too
+-- (crate clients, specs/Words.antt)
+abbrev pub openReturned : Layout → Image → Clients → Trace → Returned
+openReturned l I R t = returned t (openOutcome l I (lent R t))
 
-abbrev pub writeReturned : Image → Words → WriteArgs → Trace → Returned
-writeReturned I s w t = returned t (writeOutcome (sessionIn s) I w t)
+abbrev pub writeReturned : Image → Words → Clients → WriteArgs → Trace → Returned
+writeReturned I s R w t = returned t (writeOutcome (sessionIn s) I w (lent R t))
 
-abbrev pub checkpointReturned : Image → Words → Trace → Returned
-checkpointReturned I s t = returned t (checkpointOutcome (sessionIn s) I t)
+abbrev pub checkpointReturned : Image → Words → Clients → Trace → Returned
+checkpointReturned I s R t = returned t (checkpointOutcome (sessionIn s) I (lent R t))
 
--- number, session, trace and number of operations are those that are returned
-abbrev pub Returns : Returned → ℕ → Words → Trace → ℕ → Type 0
-Returns r number s t ops = (number ≡ r .number) × (s ≡ r .session) × (t ≡ r .trace) × (ops ≡ r .ops)
+-- number, session, records, trace and number of operations are those that are returned
+abbrev pub Returns : Returned → ℕ → Words → Clients → Trace → ℕ → Type 0
+Returns r number s R t ops = (number ≡ r .number) × (s ≡ r .session) × (R ≡ r .clients) × (t ≡ r .trace) × (ops ≡ r .ops)
