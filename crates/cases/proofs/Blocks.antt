@@ -15,7 +15,8 @@ use Rattle.model.specs.Range.{cat}
 use Rattle.model.specs.Words.{Image, Bytes, byteAt, overlay}
 use Rattle.model.specs.Layout.{segmentSize, mainAt, backupAt}
 use Rattle.model.specs.Container.{activeLine, segmentBytes}
-use Rattle.model.specs.Ops.{Ops, Trace, sfence, apply, replay, persistZero, copySegment, zeroSegment}
+use Rattle.model.specs.Ops.{Ops, sfence, apply, replay, persistZero, copySegment, zeroSegment}
+use Rattle.model.specs.Outcome.{Lent}
 use Rattle.model.specs.Open.{recoverSegment, recoveryOps, openStatus}
 use Rattle.model.specs.Write.{WriteArgs, spanAt, spanOps}
 use Rattle.model.specs.History.{openedImage}
@@ -138,9 +139,9 @@ unfolding replay
 recovered-idle l I line n J is e = recovered-next l I line n J J e (ap (λ (O : Ops). replay O J) is)
 
 -- all are done
-pub recovered-all : (l : Layout) (I : Image) (t : Trace) (line : ℕ) (J : Image) → openStatus l I t ≡ 0 → activeLine I ≡ line
-    → Recovered l I line (l .mains) J → openedImage l I t ≡ J
+pub recovered-all : (l : Layout) (I : Image) (k : Lent) (line : ℕ) (J : Image) → openStatus l I k ≡ 0 → activeLine I ≡ line
+    → Recovered l I line (l .mains) J → openedImage l I k ≡ J
 unfolding recoveryOps replay apply
-recovered-all l I t line J served active e =
-    opened-is l I t served ∙ ap (λ (x : ℕ). replay (recoveryOps l I x) I) active
+recovered-all l I k line J served active e =
+    opened-is l I k served ∙ ap (λ (x : ℕ). replay (recoveryOps l I x) I) active
     ∙ replay-append (cat (l .mains) (recoverSegment l I line)) (sfence ∷ []) I ∙ e

@@ -6,18 +6,19 @@ use mathlib.Core.Bool.{Bool, true, false, _&&_}
 use mathlib.Core.List.{List, [], _∷_}
 use lib.Dec.{eqb, ltb, lit<}
 use borrow.Author.Tests.{eqb-true, ltb-true}
-use Rattle.model.specs.Range.{cat, allB, anyB, orNext, firstB}
+use Rattle.model.specs.Range.{cat, allB, anyB, orNext, firstB, sumTo}
 use Rattle.model.specs.Words.{Bytes, littleEndian, wordOf, bytesOf, storeWord, overlay}
 use Rattle.model.specs.Layout.{inRange, sizesOk, imageSize, stateLine}
 use Rattle.model.specs.Status.{firstError}
-use Rattle.model.specs.Container.{isPaired, validMetadata, pairedBackup, isFree, anyFree, newBackup, byState, checkpointLocated, checkpointSegment, checkpointBytes, headerOk}
+use Rattle.model.specs.Container.{isPaired, validMetadata, pairedBackup, isFree, anyFree, freeBackups, newBackup, byState, checkpointLocated, checkpointSegment, checkpointBytes, headerOk}
 use Rattle.model.specs.Session.{bit, setBit, setBits, dirtySegment, dirtyBlock, freshSession, zeroSession, withDirty, withCheckpoint, validSession}
 use Rattle.model.specs.Ops.{encode, opOf, decode, written, traceShort, apply, replay, stores, clwbs, putBlock, persistCopy, persistZero, copySegment, zeroSegment}
+use Rattle.model.specs.Clients.{charged, cleared, clientsBad}
 use Rattle.model.specs.Outcome.{outcomeOf}
 use Rattle.model.specs.Replay.{wellFormed, allWellFormed, replayCount, replayedOps, replayStatus, replayOutcome}
 use Rattle.model.specs.Format.{container, formatted, formatOutcome}
 use Rattle.model.specs.Open.{recoveryAction, actionOps, recoverSegment, recoveryOps, openStatus, openOutcome}
-use Rattle.model.specs.Write.{needsCopy, needsBackup, copyPlan, pairOps, copyDirty, backupOps, stateOps, copyOnWriteOps, spanOps, writeOps, writeSession, spanBad, writeStatus, writeOutcome}
+use Rattle.model.specs.Write.{needsCopy, needsBackup, copyPlan, pairOps, copyDirty, backupOps, stateOps, copyOnWriteOps, spanOps, writeOps, writeSession, writeClients, spanBad, writeStatus, writeOutcome}
 use Rattle.model.specs.Checkpoint.{flushDirty, nextState, statesOps, epochOps, checkpointOps, checkpointStatus, checkpointOutcome}
 use Rattle.model.specs.Reads.{readStatus, workingPart, checkpointPart}
 use Rattle.model.specs.Reference.{CallArgs, openArgs, writeArgs, checkpointArgs, modelStep}
@@ -25,7 +26,7 @@ use Rattle.model.specs.History.{Call, reported, playedOps, replayedImage, devic
 use Rattle.model.proofs.Laws.Range.{and-left, and-right}
 
 unfoldable pub model-rules : Unit {0}
-unfolding cat allB anyB orNext firstB littleEndian wordOf bytesOf storeWord overlay inRange sizesOk imageSize stateLine firstError isPaired validMetadata pairedBackup isFree anyFree newBackup byState checkpointLocated checkpointSegment checkpointBytes headerOk bit setBit setBits dirtySegment dirtyBlock freshSession zeroSession withDirty withCheckpoint validSession encode opOf decode written traceShort apply replay stores clwbs putBlock persistCopy persistZero copySegment zeroSegment outcomeOf wellFormed allWellFormed replayCount replayedOps replayStatus replayOutcome container formatted formatOutcome recoveryAction actionOps recoverSegment recoveryOps openStatus openOutcome needsCopy needsBackup copyPlan pairOps copyDirty backupOps stateOps copyOnWriteOps spanOps writeOps writeSession spanBad writeStatus writeOutcome flushDirty nextState statesOps epochOps checkpointOps checkpointStatus checkpointOutcome readStatus workingPart checkpointPart modelStep reported playedOps replayedImage deviceStep step run openedImage start
+unfolding cat allB anyB orNext firstB sumTo littleEndian wordOf bytesOf storeWord overlay inRange sizesOk imageSize stateLine firstError isPaired validMetadata pairedBackup isFree anyFree freeBackups newBackup byState checkpointLocated checkpointSegment checkpointBytes headerOk bit setBit setBits dirtySegment dirtyBlock freshSession zeroSession withDirty withCheckpoint validSession encode opOf decode written traceShort apply replay stores clwbs putBlock persistCopy persistZero copySegment zeroSegment charged cleared clientsBad outcomeOf wellFormed allWellFormed replayCount replayedOps replayStatus replayOutcome container formatted formatOutcome recoveryAction actionOps recoverSegment recoveryOps openStatus openOutcome needsCopy needsBackup copyPlan pairOps copyDirty backupOps stateOps copyOnWriteOps spanOps writeOps writeSession writeClients spanBad writeStatus writeOutcome flushDirty nextState statesOps epochOps checkpointOps checkpointStatus checkpointOutcome readStatus workingPart checkpointPart modelStep reported playedOps replayedImage deviceStep step run openedImage start
 model-rules = tt
 
 unfoldable pub same : List ℕ → List ℕ → Bool

@@ -6,21 +6,23 @@ use lib.Dec.{lit≤}
 use lib.ListN.{replicate}
 use Rattle.model.specs.Words.{Image, Bytes}
 use Rattle.model.specs.Ops.{Ops, store, replay}
+use Rattle.model.specs.Outcome.{Lent}
 use Rattle.model.specs.Format.{container, formatted}
 use Rattle.model.specs.Open.{openStatus}
-use Rattle.model.specs.History.{State, start, step, run, openedImage}
-use Rattle.cases.specs.Table.{l211, fresh, longTrace, fourBytes, writeFour, checkpoint}
+use Rattle.model.specs.History.{State, openedImage}
+use Rattle.model.specs.Shares.{alone}
+use Rattle.cases.specs.Turns.{Point, pointOf, turn, turns, made}
+use Rattle.cases.specs.Table.{l211, fresh, longTrace, lentAlone, fourBytes, writeFour, opened}
 use Rattle.cases.specs.Cut.{CutCheckpoint, beforeP4, zeros, newBytes, CutP4}
 use Rattle.model.proofs.Argument.Stands.{Stands}
-use Rattle.model.proofs.CrashSafety.{history-stands}
 use Rattle.cases.proofs.Compute.{model-rules, same, same-equal, small, small-bytes}
-use Rattle.cases.proofs.Starts.{standing, started}
+use Rattle.cases.proofs.Starts.{standing, started, turns-stand}
 use Rattle.cases.proofs.Shown.{shows, storesEpoch, cut-checkpoint}
 
 abbrev opsP3 : Ops
 opsP3 = store 512 0xb2a1000000000000 ∷ store 520 0xd4c3 ∷ []
 
--- the state before P4, written out
+-- where the history stands before P4, written out
 abbrev stateBeforeP4 : State
 stateBeforeP4 = record {
   device = record {
@@ -33,21 +35,26 @@ stateBeforeP4 = record {
   model = record { working = newBytes; checkpoint = zeros };
 }
 
-opened : openedImage l211 fresh longTrace ≡ formatted l211
-unfolding model-rules same
-opened = same-equal (openedImage l211 fresh longTrace) (formatted l211) refl
+abbrev pointBeforeP4 : Point
+pointBeforeP4 = pointOf stateBeforeP4 (alone l211 0)
 
-starts : start l211 fresh longTrace ≡ standing l211 (formatted l211) zeros
-unfolding model-rules same
-starts = started l211 fresh (formatted l211) longTrace zeros refl opened (same-equal _ _ refl)
+abbrev k211 : Lent
+k211 = lentAlone l211 longTrace
 
-writes-four : step (standing l211 (formatted l211) zeros) writeFour ≡ stateBeforeP4
-unfolding model-rules
+replayed : openedImage l211 fresh k211 ≡ formatted l211
+unfolding model-rules same
+replayed = same-equal (openedImage l211 fresh k211) (formatted l211) refl
+
+starts : opened ≡ pointOf (standing l211 (formatted l211) zeros) (alone l211 0)
+unfolding model-rules same
+starts = started l211 fresh (formatted l211) k211 zeros refl replayed (same-equal _ _ refl)
+
+writes-four : turn (pointOf (standing l211 (formatted l211) zeros) (alone l211 0)) writeFour ≡ pointBeforeP4
+unfolding model-rules turn
 writes-four = refl
 
-stands : beforeP4 ≡ stateBeforeP4
-unfolding run
-stands = ap (λ (s : State). step s writeFour) starts ∙ writes-four
+stands : beforeP4 ≡ pointBeforeP4
+stands = ap (λ (p : Point). turn p writeFour) starts ∙ writes-four
 
 -- ---- a history that demand 3 speaks of
 
@@ -55,13 +62,15 @@ fresh-bytes : Bytes fresh
 unfolding model-rules small
 fresh-bytes = small-bytes fresh refl
 
-opens : openStatus l211 fresh longTrace ≡ 0
+opens : openStatus l211 fresh k211 ≡ 0
 unfolding model-rules
 opens = refl
 
 holds : Stands stateBeforeP4
-unfolding small
-holds = subst Stands stands (history-stands l211 fresh longTrace fresh-bytes opens (writeFour ∷ []) (small-bytes fourBytes refl, tt))
+unfolding turns made small
+holds =
+    subst (λ (p : Point). Stands (p .state)) stands
+    (turns-stand l211 fresh k211 fresh-bytes opens (writeFour ∷ []) (small-bytes fourBytes refl, tt))
 
 -- ---- the two images that a crash after 16 or 17 operations may leave: before the epoch's store, and after it
 
@@ -70,13 +79,14 @@ cutImage epoch =
     container l211 epoch (replicate 64 0) (1 ∷ replicate 63 0) (replicate 64 255)
     (replicate 6 0 ++ fourBytes ++ replicate 758 0)
 
-shown : CutCheckpoint 18 stateBeforeP4 zeros newBytes
+shown : CutCheckpoint 18 pointBeforeP4 zeros newBytes
 unfolding model-rules same small storesEpoch
 shown =
-    cut-checkpoint stateBeforeP4 holds (stateBeforeP4 .device .image) (stateBeforeP4 .device .session) 18 refl refl refl (lit≤ tt)
-    zeros newBytes (cutImage 0) (cutImage 1) refl refl refl refl refl longTrace
-    (shows l211 (cutImage 0) longTrace zeros refl refl refl) (shows l211 (cutImage 1) longTrace newBytes refl refl refl) refl refl
+    cut-checkpoint pointBeforeP4 holds (stateBeforeP4 .device .image) (stateBeforeP4 .device .session) (alone l211 0) 18
+    (record { image = refl; session = refl; clients = refl }) refl (lit≤ tt)
+    zeros newBytes (cutImage 0) (cutImage 1) refl refl refl refl refl k211
+    (shows l211 (cutImage 0) k211 zeros refl refl refl) (shows l211 (cutImage 1) k211 newBytes refl refl refl) refl refl
 
 -- the crash inside P4, from demand 3
 pub cut-P4 : CutP4
-cut-P4 = subst (λ (s : State). CutCheckpoint 18 s zeros newBytes) (sym stands) shown
+cut-P4 = subst (λ (p : Point). CutCheckpoint 18 p zeros newBytes) (sym stands) shown

@@ -1,12 +1,16 @@
--- The bench cases, computed: what lets the checker compute, the table, how a history starts and goes on, what is shown after a crash
--- inside a checkpoint, that of P4, the first checkpoint after a restart, and long registrations.
+-- The bench cases, computed: one run, what lets the checker compute, what a call leaves, the table, how a history starts, what is shown after
+-- a crash inside a checkpoint, that of P4, the first checkpoint after a restart, long registrations, and two clients.
+pub mod Turns
 pub mod Compute
+pub mod Blocks
+pub mod Goes
+pub mod Quick
+pub mod Follow
 pub mod Table
 pub mod Starts
-pub mod Blocks
-pub mod Leads
 pub mod Shown
 pub mod Cut
 pub mod FirstLife
 pub mod Restored
 pub mod Long
+pub mod Consoles

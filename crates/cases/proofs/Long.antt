@@ -1,4 +1,4 @@
--- The long writes, call by call: image, session and pages before each of them and after it. What a checkpoint answers and
+-- The long writes, call by call: image, session, what the client has taken, and pages before each of them and after it. What a checkpoint answers and
 -- leaves is computed. Of a write its words are not: its status and its number of operations follow from the law that counts them
 -- (`length-write`), what it leaves from the laws of copies and of spans, and only the numbers and the lists that these speak of are computed.
 -- The crashes follow from demand 3, and in the window from two computed images.
@@ -7,7 +7,7 @@ use mathlib.Core.Path.{_≡_, refl, sym, ap, ap₂, subst, subst₂, _∙_}
 use mathlib.Core.Bool.{true}
 use mathlib.Core.List.{List, [], _∷_, _++_}
 use native.Mathlib.Omega.{arith}
-use lib.Dec.{ltb, lit≤}
+use lib.Dec.{lit≤}
 use lib.ListN.{length, take, drop, replicate}
 use lib.Seq.{sets, sets-eq}
 use Rattle.model.specs.declared.Layout.{Layout}
@@ -17,85 +17,82 @@ use Rattle.model.specs.Range.{cat, sumTo}
 use Rattle.model.specs.Words.{Image, Bytes, byteAt, wordOf, bytesOf, overlay}
 use Rattle.model.specs.Layout.{lineSize, unpaired}
 use Rattle.model.specs.Container.{segmentBytes}
-use Rattle.model.specs.Status.{firstError}
 use Rattle.model.specs.Session.{bit, dirtyWord, freshSession, withCheckpoint}
-use Rattle.model.specs.Ops.{opNumbers, Ops, encode, replay, stores, copySegment}
-use Rattle.model.specs.Outcome.{Outcome}
+use Rattle.model.specs.Clients.{Clients, cleared}
+use Rattle.model.specs.Ops.{Ops, encode, replay, stores, copySegment}
+use Rattle.model.specs.Outcome.{Lent, lent, Outcome}
 use Rattle.model.specs.Format.{container, formatted}
 use Rattle.model.specs.Open.{openStatus, openOutcome}
-use Rattle.model.specs.Write.{WriteArgs, copyPlan, noneFree, earlyErrors, spanOps, stateOps, pairOps, copyDirty, backupOps, writeOps, writeSession, writeStatus, writeOutcome}
+use Rattle.model.specs.Write.{WriteArgs, copyPlan, spanOps, stateOps, pairOps, copyDirty, backupOps, writeOps, writeSession, writeClients, writeStatus, writeOutcome}
 use Rattle.model.specs.Counts.{dirtyCount}
 use Rattle.model.specs.Checkpoint.{checkpointOps, checkpointStatus, checkpointOutcome}
 use Rattle.model.specs.Reference.{Page, pageAt, modelStep}
-use Rattle.model.specs.History.{Call, callWrite, State, outcome, deviceStep, step, run, openedImage, AllPermitted}
+use Rattle.model.specs.History.{State, deviceStep, step, run, openedImage, AllPermitted}
 use Rattle.model.specs.CrashSafety.{Reads, Recovers, during}
-use Rattle.cases.specs.Table.{answer, sizes, longTrace, checkpoint, follow, AsExpected, calls}
+use Rattle.model.specs.Shares.{alone}
+use Rattle.cases.specs.Turns.{Point, pointOf, Turn, callAt, answerAt, turn, turns, made}
+use Rattle.cases.specs.Table.{answer, sizes, longTrace, turnWrite, checkpoint, follow, AsExpected, calls}
 use Rattle.cases.specs.Cut.{OnlyShows, CutCheckpoint}
 use Rattle.cases.specs.Long.{l114, longestTrace, filling, fill, marks, operation, marksAndEnds, story, opened, afterL2, afterL3, afterL4, afterL5, noBytes, firstBytes, secondBytes, LongStory}
-use Rattle.model.proofs.Laws.Counts.Write.{copyCount, spanCount, length-write}
+use Rattle.model.proofs.Laws.Counts.Write.{length-write}
 use Rattle.model.proofs.Argument.Stands.{Stands}
 use Rattle.model.proofs.Argument.SpanWords.{SpanOk}
 use Rattle.model.proofs.Argument.Write.{span-ok}
-use Rattle.model.proofs.CrashSafety.{history-stands}
 use Rattle.model.proofs.Sisters.{reads-follow-model}
 use Rattle.cases.proofs.Compute.{model-rules, same, same-equal, small, small-bytes, smallArgs, smallCalls, all-permitted}
-use Rattle.cases.proofs.Starts.{standing, started}
+use Rattle.cases.proofs.Starts.{standing, started, turns-stand}
 use Rattle.cases.proofs.Blocks.{laid, copied, spanned, recovered-none, recovered-zero, recovered-all}
-use Rattle.cases.proofs.Leads.{At, goes, uncopied, backed, copying, write-status, write-served, write-refused, checkpoint-served}
+use Rattle.cases.proofs.Goes.{At, answers-at, goes, uncopied, backed, copying, countOf, statusOf, write-status, write-served, write-refused, checkpoint-served}
 use Rattle.cases.proofs.Shown.{shows, storesEpoch, no-checkpoint, shows-during, shows-between, cut-checkpoint}
 
--- ---- where a state of the story stands
+-- ---- where the story stands
 
--- its image, its session and both pages
-record Has (s : State) (I : Image) (x : Session) (W P : Page) : Type 0 where
-  here : At s I x
-  sized : s .device .layout ≡ l114
-  working : s .model .working ≡ W
-  checkpoint : s .model .checkpoint ≡ P
+-- its image, its session, what the client has taken, and both pages
+record Has (p : Point) (I : Image) (x : Session) (taken : ℕ) (W P : Page) : Type 0 where
+  here : At p I x (alone l114 taken)
+  sized : p .state .device .layout ≡ l114
+  working : p .state .model .working ≡ W
+  checkpoint : p .state .model .checkpoint ≡ P
 
 -- a call answers this with n operations, and leaves this
-abbrev Goes : State → Call → Outcome → ℕ → Image → Session → Page → Page → Type 0
-Goes s c o n J y W P = (outcome (s .device) c ≡ o) × (length (o .ops) ≡ n) × Has (step s c) J y W P
+abbrev Goes : Point → Turn → Outcome → ℕ → Image → Session → ℕ → Page → Page → Type 0
+Goes p c o n J y taken W P = (answerAt p c ≡ o) × (length (o .ops) ≡ n) × Has (turn p c) J y taken W P
 
 -- what a served write answers, a refused one, and a checkpoint
-abbrev wrote : Session → Session → Image → WriteArgs → Outcome
-wrote y x I w = record { status = 0; session = y; ops = writeOps x I w }
+abbrev wrote : Session → ℕ → Session → Image → WriteArgs → Outcome
+wrote y taken x I w = record { status = 0; session = y; clients = alone l114 taken; ops = writeOps x I w }
 
-abbrev refused : Session → Outcome
-refused x = record { status = 8; session = x; ops = [] }
+abbrev refused : Session → ℕ → Outcome
+refused x taken = record { status = 8; session = x; clients = alone l114 taken; ops = [] }
 
 abbrev saved : Session → Session → Image → Outcome
-saved y x I = record { status = 0; session = y; ops = checkpointOps x I }
+saved y x I = record { status = 0; session = y; clients = alone l114 0; ops = checkpointOps x I }
 
 -- where a write stands in a page
 abbrev placeOf : WriteArgs → ℕ
 placeOf w = pageAt l114 (w .main) (w .block) + w .offset
 
--- how many operations a write has, and its status if it has n
-abbrev countOf : Session → Image → WriteArgs → ℕ
-countOf x I w = copyCount (x .layout) (dirtyWord x (w .main)) (copyPlan x I (w .main)) + spanCount (x .layout) w
+-- what a write is lent where the client has taken so many
+abbrev having : ℕ → Lent
+having taken = lent (alone l114 taken) longestTrace
 
-abbrev statusOf : Session → Image → WriteArgs → ℕ → ℕ
-statusOf x I w n =
-    firstError (earlyErrors x I w ++ (9, noneFree (copyPlan x I (w .main))) ∷ (11, ltb (length longestTrace) (opNumbers * n)) ∷ [])
-
--- a served write
-writes-on : (I : Image) (x : Session) (W P : Page) (w : WriteArgs) (n : ℕ) (J : Image) (y : Session) (X : Page)
+-- a served write, before which m were taken and after which m′ are
+writes-on : (I : Image) (x : Session) (m : ℕ) (W P : Page) (w : WriteArgs) (n : ℕ) (J : Image) (y : Session) (m′ : ℕ) (X : Page)
     → length I % lineSize ≡ 0 → small I ≡ true → small (w .bytes) ≡ true
-    → countOf x I w ≡ n → statusOf x I w n ≡ 0 → writeSession x I w ≡ y
+    → countOf x I w ≡ n → statusOf x I w (having m) n ≡ 0 → writeSession x I w ≡ y → writeClients x I w (alone l114 m) ≡ alone l114 m′
     → (Bytes I → SpanOk (x .layout) w → replay (writeOps x I w) I ≡ J)
     → placeOf w + length (w .bytes) ≤ length W → same (laid W (placeOf w) (w .bytes)) X ≡ true
-    → (s : State) → Has s I x W P → Goes s (callWrite w longestTrace) (wrote y x I w) n J y X P
-unfolding step deviceStep modelStep
-writes-on I x W P w n J y X whole bytes given count status answered leaves room page s h =
-    let served : writeStatus x I w longestTrace ≡ 0 = write-status x I w longestTrace n 0 count status in
-    let o : writeOutcome x I w longestTrace ≡ wrote y x I w =
-    write-served x I w longestTrace served ∙ ap (λ (z : Session). wrote z x I w) answered in
-    let g = goes (callWrite w longestTrace) whole (ap (λ (a : Outcome). a .session) o)
+    → (p : Point) → Has p I x m W P → Goes p (turnWrite w longestTrace) (wrote y m′ x I w) n J y m′ X P
+unfolding turn step deviceStep modelStep
+writes-on I x m W P w n J y m′ X whole bytes given count status answered charge leaves room page p h =
+    let served : writeStatus x I w (having m) ≡ 0 = write-status x I w (having m) n 0 count status in
+    let o : writeOutcome x I w (having m) ≡ wrote y m′ x I w =
+    write-served x I w (having m) served
+    ∙ ap₂ (λ (z : Session) (R : Clients). record { status = 0; session = z; clients = R; ops = writeOps x I w }) answered charge in
+    let g = goes (turnWrite w longestTrace) whole (ap (λ (a : Outcome). a .session) o) (ap (λ (a : Outcome). a .clients) o)
     (ap (λ (a : Outcome). replay (a .ops) I) o
-    ∙ leaves (small-bytes I bytes) (span-ok x I w longestTrace (small-bytes (w .bytes) given) served)) s (h .here) in
-    let e : outcome (s .device) (callWrite w longestTrace) ≡ wrote y x I w =
-    ap₂ (λ (z : Session) (K : Image). writeOutcome z K w longestTrace) (h .here .session) (h .here .image) ∙ o in (
+    ∙ leaves (small-bytes I bytes) (span-ok x I w (having m) (small-bytes (w .bytes) given) served)) p (h .here) in
+    let e : answerAt p (turnWrite w longestTrace) ≡ wrote y m′ x I w = answers-at (turnWrite w longestTrace) p (h .here) ∙ o in (
       e,
       length-write x I w ∙ count,
       record {
@@ -108,30 +105,29 @@ writes-on I x W P w n J y X whole bytes given count status answered leaves room 
     )
 
 -- one that is refused with 8
-refuses : (I : Image) (x : Session) (W P : Page) (w : WriteArgs) (n : ℕ) → length I % lineSize ≡ 0
-    → countOf x I w ≡ n → statusOf x I w n ≡ 8
-    → (s : State) → Has s I x W P → Goes s (callWrite w longestTrace) (refused x) 0 I x W P
-unfolding step deviceStep modelStep replay
-refuses I x W P w n whole count status s h =
-    let not-served : writeStatus x I w longestTrace ≡ 8 = write-status x I w longestTrace n 8 count status in
-    let o = write-refused x I w longestTrace 8 refl not-served in
-    let g = goes (callWrite w longestTrace) whole (ap (λ (a : Outcome). a .session) o) (ap (λ (a : Outcome). replay (a .ops) I) o) s (h .here) in
-    let e : outcome (s .device) (callWrite w longestTrace) ≡ refused x =
-    ap₂ (λ (z : Session) (K : Image). writeOutcome z K w longestTrace) (h .here .session) (h .here .image) ∙ o in
+refuses : (I : Image) (x : Session) (m : ℕ) (W P : Page) (w : WriteArgs) (n : ℕ) → length I % lineSize ≡ 0
+    → countOf x I w ≡ n → statusOf x I w (having m) n ≡ 8
+    → (p : Point) → Has p I x m W P → Goes p (turnWrite w longestTrace) (refused x m) 0 I x m W P
+unfolding turn step deviceStep modelStep replay
+refuses I x m W P w n whole count status p h =
+    let o : writeOutcome x I w (having m) ≡ refused x m = write-refused x I w (having m) 8 refl (write-status x I w (having m) n 8 count status) in
+    let g = goes (turnWrite w longestTrace) whole (ap (λ (a : Outcome). a .session) o) (ap (λ (a : Outcome). a .clients) o)
+    (ap (λ (a : Outcome). replay (a .ops) I) o) p (h .here) in
+    let e : answerAt p (turnWrite w longestTrace) ≡ refused x m = answers-at (turnWrite w longestTrace) p (h .here) ∙ o in
     (e, refl, record { here = g; sized = h .sized; working = rw e (h .working); checkpoint = rw e (h .checkpoint) })
 
 -- a checkpoint
-saves : (I : Image) (x : Session) (W P : Page) (n : ℕ) (J : Image) (y : Session) → length I % lineSize ≡ 0 → checkpointStatus x I longTrace ≡ 0
+saves : (I : Image) (x : Session) (m : ℕ) (W P : Page) (n : ℕ) (J : Image) (y : Session) → length I % lineSize ≡ 0
+    → checkpointStatus x I (lent (alone l114 m) longTrace) ≡ 0
     → length (checkpointOps x I) ≡ n → withCheckpoint x ≡ y → same (replay (checkpointOps x I) I) J ≡ true
-    → (s : State) → Has s I x W P → Goes s checkpoint (saved y x I) n J y W W
-unfolding step deviceStep modelStep
-saves I x W P n J y whole served count answered leaves s h =
-    let o : checkpointOutcome x I longTrace ≡ saved y x I =
-    checkpoint-served x I longTrace served ∙ ap (λ (z : Session). saved z x I) answered in
-    let g = goes checkpoint whole (ap (λ (a : Outcome). a .session) o)
-    (ap (λ (a : Outcome). replay (a .ops) I) o ∙ same-equal _ _ leaves) s (h .here) in
-    let e : outcome (s .device) checkpoint ≡ saved y x I =
-    ap₂ (λ (z : Session) (K : Image). checkpointOutcome z K longTrace) (h .here .session) (h .here .image) ∙ o in
+    → (p : Point) → Has p I x m W P → Goes p checkpoint (saved y x I) n J y 0 W W
+unfolding turn step deviceStep modelStep cleared
+saves I x m W P n J y whole served count answered leaves p h =
+    let o : checkpointOutcome x I (lent (alone l114 m) longTrace) ≡ saved y x I =
+    checkpoint-served x I (lent (alone l114 m) longTrace) served ∙ ap (λ (z : Session). saved z x I) answered in
+    let g = goes checkpoint whole (ap (λ (a : Outcome). a .session) o) (ap (λ (a : Outcome). a .clients) o)
+    (ap (λ (a : Outcome). replay (a .ops) I) o ∙ same-equal _ _ leaves) p (h .here) in
+    let e : answerAt p checkpoint ≡ saved y x I = answers-at checkpoint p (h .here) ∙ o in
     (e, count, record { here = g; sized = h .sized; working = rw e (h .working); checkpoint = rw e (h .working) })
 
 -- ---- images and sessions
@@ -178,7 +174,7 @@ I7 = image 2 2 2 0 lastBytes secondBytes
 abbrev F : Image
 F = formatted l114
 
-opens : openStatus l114 F longestTrace ≡ 0
+opens : openStatus l114 F (having 0) ≡ 0
 unfolding model-rules
 opens = refl
 
@@ -187,26 +183,26 @@ unfolding model-rules small
 bytes = small-bytes F refl
 
 -- the zeros that the opening writes stand there already
-reopened : openedImage l114 F longestTrace ≡ I1
+reopened : openedImage l114 F (having 0) ≡ I1
 unfolding model-rules same
 reopened =
-    recovered-all l114 F longestTrace 128 I1 refl refl
+    recovered-all l114 F (having 0) 128 I1 refl refl
     (recovered-zero l114 F 128 0 F I1 refl tt refl (recovered-none l114 F 128))
 
-starts : opened ≡ standing l114 I1 noBytes
+starts : opened ≡ pointOf (standing l114 I1 noBytes) (alone l114 0)
 unfolding model-rules same
-starts = started l114 F I1 longestTrace noBytes opens reopened (same-equal _ _ refl)
+starts = started l114 F I1 (having 0) noBytes opens reopened (same-equal _ _ refl)
 
-has-1 : Has opened I1 (session 0 0) noBytes noBytes
+has-1 : Has opened I1 (session 0 0) 0 noBytes noBytes
 unfolding freshSession
-has-1 = subst (λ (s : State). Has s I1 (session 0 0) noBytes noBytes) (sym starts) (record {
-  here = record { image = refl; session = refl };
+has-1 = subst (λ (p : Point). Has p I1 (session 0 0) 0 noBytes noBytes) (sym starts) (record {
+  here = record { image = refl; session = refl; clients = refl };
   sized = refl;
   working = refl;
   checkpoint = refl;
 })
 
-answered-1 : answer (openOutcome l114 F longestTrace) ≡ 0 ∷ 145 ∷ []
+answered-1 : answer (openOutcome l114 F (having 0)) ≡ 0 ∷ 145 ∷ []
 unfolding model-rules
 answered-1 = refl
 
@@ -226,15 +222,15 @@ leaves-2 bytes ok =
     ap (λ (O : Ops). replay O I1) (uncopied (session 0 0) I1 first plan-2)
     ∙ spanned l114 I1 I1 first ok bytes (lit≤ tt) refl ∙ same-equal (laid I1 542 (first .bytes)) I2 refl
 
-goes-2 : Goes opened (fill 0 30 700 5) (wrote (session 1 7) (session 0 0) I1 first) 89 I2 (session 1 7) firstBytes noBytes
+goes-2 : Goes opened (fill 0 30 700 5) (wrote (session 1 7) 0 (session 0 0) I1 first) 89 I2 (session 1 7) 0 firstBytes noBytes
 unfolding model-rules same small
 goes-2 =
-    writes-on I1 (session 0 0) noBytes noBytes first 89 I2 (session 1 7) firstBytes refl refl refl refl refl refl leaves-2
+    writes-on I1 (session 0 0) 0 noBytes noBytes first 89 I2 (session 1 7) 0 firstBytes refl refl refl refl refl refl refl leaves-2
     (lit≤ tt) refl opened has-1
 
-goes-3 : Goes afterL2 checkpoint (saved (session 0 7) (session 1 7) I2) 26 I3 (session 0 7) firstBytes firstBytes
+goes-3 : Goes afterL2 checkpoint (saved (session 0 7) (session 1 7) I2) 26 I3 (session 0 7) 0 firstBytes firstBytes
 unfolding model-rules same
-goes-3 = saves I2 (session 1 7) firstBytes noBytes 26 I3 (session 0 7) refl refl refl refl refl afterL2 (goes-2 .2)
+goes-3 = saves I2 (session 1 7) 0 firstBytes noBytes 26 I3 (session 0 7) refl refl refl refl refl afterL2 (goes-2 .2)
 
 -- L4: all blocks are copied, to a new backup segment
 abbrev second : WriteArgs
@@ -259,15 +255,15 @@ leaves-4 bytes ok =
     ∙ spanned l114 I3 K4 second ok bytes (lit≤ tt) (same-equal (segmentBytes l114 K4 512) (segmentBytes l114 I3 512) refl)
     ∙ same-equal (laid K4 798 (second .bytes)) I4 refl
 
-goes-4 : Goes afterL3 (fill 1 30 700 6) (wrote (session 1 14) (session 0 7) I3 second) 239 I4 (session 1 14) secondBytes firstBytes
+goes-4 : Goes afterL3 (fill 1 30 700 6) (wrote (session 1 14) 1 (session 0 7) I3 second) 239 I4 (session 1 14) 1 secondBytes firstBytes
 unfolding model-rules same small
 goes-4 =
-    writes-on I3 (session 0 7) firstBytes firstBytes second 239 I4 (session 1 14) secondBytes refl refl refl refl refl refl leaves-4
+    writes-on I3 (session 0 7) 0 firstBytes firstBytes second 239 I4 (session 1 14) 1 secondBytes refl refl refl refl refl refl refl leaves-4
     (lit≤ tt) refl afterL3 (goes-3 .2)
 
-goes-5 : Goes afterL4 checkpoint (saved (session 0 14) (session 1 14) I4) 26 I5 (session 0 14) secondBytes secondBytes
+goes-5 : Goes afterL4 checkpoint (saved (session 0 14) (session 1 14) I4) 26 I5 (session 0 14) 0 secondBytes secondBytes
 unfolding model-rules same
-goes-5 = saves I4 (session 1 14) secondBytes firstBytes 26 I5 (session 0 14) refl refl refl refl refl afterL4 (goes-4 .2)
+goes-5 = saves I4 (session 1 14) 1 secondBytes firstBytes 26 I5 (session 0 14) refl refl refl refl refl afterL4 (goes-4 .2)
 
 -- L6: the three blocks that are dirty are copied, to the backup segment that it has
 abbrev third : WriteArgs
@@ -297,29 +293,29 @@ leaves-6 bytes ok =
     ∙ spanned l114 I5 K6 third ok bytes (lit≤ tt) (same-equal (segmentBytes l114 K6 512) (segmentBytes l114 I5 512) refl)
     ∙ same-equal (laid K6 542 (third .bytes)) I6 refl
 
-abbrev afterL6 : State
-afterL6 = step afterL5 (fill 0 30 700 7)
+abbrev afterL6 : Point
+afterL6 = turn afterL5 (fill 0 30 700 7)
 
-goes-6 : Goes afterL5 (fill 0 30 700 7) (wrote (session 1 7) (session 0 14) I5 third) 201 I6 (session 1 7) thirdBytes secondBytes
+goes-6 : Goes afterL5 (fill 0 30 700 7) (wrote (session 1 7) 1 (session 0 14) I5 third) 201 I6 (session 1 7) 1 thirdBytes secondBytes
 unfolding model-rules dirtyCount sumTo same small
 goes-6 =
-    writes-on I5 (session 0 14) secondBytes secondBytes third 201 I6 (session 1 7) thirdBytes refl refl refl refl refl refl leaves-6
+    writes-on I5 (session 0 14) 0 secondBytes secondBytes third 201 I6 (session 1 7) 1 thirdBytes refl refl refl refl refl refl refl leaves-6
     (lit≤ tt) refl afterL5 (goes-5 .2)
 
 -- L7
-goes-71 : Goes afterL6 (fill 2 30 700 8) (refused (session 1 7)) 0 I6 (session 1 7) thirdBytes secondBytes
+goes-71 : Goes afterL6 (fill 2 30 700 8) (refused (session 1 7) 1) 0 I6 (session 1 7) 1 thirdBytes secondBytes
 unfolding model-rules small
-goes-71 = refuses I6 (session 1 7) thirdBytes secondBytes (filling 2 30 700 8) 89 refl refl refl afterL6 (goes-6 .2)
+goes-71 = refuses I6 (session 1 7) 1 thirdBytes secondBytes (filling 2 30 700 8) 89 refl refl refl afterL6 (goes-6 .2)
 
-abbrev after71 : State
-after71 = step afterL6 (fill 2 30 700 8)
+abbrev after71 : Point
+after71 = turn afterL6 (fill 2 30 700 8)
 
-goes-72 : Goes after71 (fill 0 256 1 8) (refused (session 1 7)) 0 I6 (session 1 7) thirdBytes secondBytes
+goes-72 : Goes after71 (fill 0 256 1 8) (refused (session 1 7) 1) 0 I6 (session 1 7) 1 thirdBytes secondBytes
 unfolding model-rules small
-goes-72 = refuses I6 (session 1 7) thirdBytes secondBytes (filling 0 256 1 8) 1 refl refl refl after71 (goes-71 .2)
+goes-72 = refuses I6 (session 1 7) 1 thirdBytes secondBytes (filling 0 256 1 8) 1 refl refl refl after71 (goes-71 .2)
 
-abbrev after72 : State
-after72 = step after71 (fill 0 256 1 8)
+abbrev after72 : Point
+after72 = turn after71 (fill 0 256 1 8)
 
 abbrev last : WriteArgs
 last = filling 0 30 994 8
@@ -334,26 +330,26 @@ leaves-73 bytes ok =
     ap (λ (O : Ops). replay O I6) (uncopied (session 1 7) I6 last plan-73)
     ∙ spanned l114 I6 I6 last ok bytes (lit≤ tt) refl ∙ same-equal (laid I6 542 (last .bytes)) I7 refl
 
-goes-73 : Goes after72 (fill 0 30 994 8) (wrote (session 1 15) (session 1 7) I6 last) 125 I7 (session 1 15) lastBytes secondBytes
+goes-73 : Goes after72 (fill 0 30 994 8) (wrote (session 1 15) 1 (session 1 7) I6 last) 125 I7 (session 1 15) 1 lastBytes secondBytes
 unfolding model-rules same small
 goes-73 =
-    writes-on I6 (session 1 7) thirdBytes secondBytes last 125 I7 (session 1 15) lastBytes refl refl refl refl refl refl leaves-73
+    writes-on I6 (session 1 7) 1 thirdBytes secondBytes last 125 I7 (session 1 15) 1 lastBytes refl refl refl refl refl refl refl leaves-73
     (lit≤ tt) refl after72 (goes-72 .2)
 
-abbrev after73 : State
-after73 = step after72 (fill 0 30 994 8)
+abbrev after73 : Point
+after73 = turn after72 (fill 0 30 994 8)
 
-goes-74 : Goes after73 (fill 0 30 995 8) (refused (session 1 15)) 0 I7 (session 1 15) lastBytes secondBytes
+goes-74 : Goes after73 (fill 0 30 995 8) (refused (session 1 15) 1) 0 I7 (session 1 15) 1 lastBytes secondBytes
 unfolding model-rules small
-goes-74 = refuses I7 (session 1 15) lastBytes secondBytes (filling 0 30 995 8) 126 refl refl refl after73 (goes-73 .2)
+goes-74 = refuses I7 (session 1 15) 1 lastBytes secondBytes (filling 0 30 995 8) 126 refl refl refl after73 (goes-73 .2)
 
 -- ---- the rows
 
 -- status, number of operations, dirty blocks
-row-is : (s after : State) (c : Call) (o : Outcome) (n : ℕ) → outcome (s .device) c ≡ o → length (o .ops) ≡ n
-    → answer (outcome (s .device) c) ++ marks (outcome (s .device) c) after ≡ o .status ∷ n ∷ dirtyWord (o .session) 0 ∷ []
-row-is s after c o n e count =
-    ap (λ (a : Outcome). answer a ++ marks a after) e ∙ ap (λ (k : ℕ). o .status ∷ k ∷ dirtyWord (o .session) 0 ∷ []) count
+row-is : (p : Point) (c : Turn) (o : Outcome) (n : ℕ) → answerAt p c ≡ o → length (o .ops) ≡ n
+    → answer (answerAt p c) ++ marks (answerAt p c) (turn p c .state) ≡ o .status ∷ n ∷ dirtyWord (o .session) 0 ∷ []
+row-is p c o n e count =
+    ap (λ (a : Outcome). answer a ++ marks a (turn p c .state)) e ∙ ap (λ (k : ℕ). o .status ∷ k ∷ dirtyWord (o .session) 0 ∷ []) count
 
 -- the first and the last of 89 stores, whatever their words
 ends : (f : ℕ → ℕ) → take 2 (encode (stores 89 536 f)) ++ take 2 (drop 264 (encode (stores 89 536 f))) ≡ 1 ∷ 536 ∷ 1 ∷ 1240 ∷ []
@@ -361,12 +357,12 @@ unfolding encode stores cat
 ends f = refl
 
 -- L2's has these too
-row-2 : answer (outcome (opened .device) (fill 0 30 700 5)) ++ marksAndEnds (outcome (opened .device) (fill 0 30 700 5)) afterL2
+row-2 : answer (answerAt opened (fill 0 30 700 5)) ++ marksAndEnds (answerAt opened (fill 0 30 700 5)) (afterL2 .state)
     ≡ 0 ∷ 89 ∷ 7 ∷ 1 ∷ 536 ∷ 1 ∷ 1240 ∷ []
 unfolding spanOps
 row-2 =
-    ap (λ (a : Outcome). answer a ++ marksAndEnds a afterL2) (goes-2 .0)
-    ∙ ap (λ (k : ℕ). 0 ∷ k ∷ 7 ∷ operation 0 (wrote (session 1 7) (session 0 0) I1 first) ++ operation 88 (wrote (session 1 7) (session 0 0) I1 first))
+    ap (λ (a : Outcome). answer a ++ marksAndEnds a (afterL2 .state)) (goes-2 .0)
+    ∙ ap (λ (k : ℕ). 0 ∷ k ∷ 7 ∷ operation 0 (wrote (session 1 7) 0 (session 0 0) I1 first) ++ operation 88 (wrote (session 1 7) 0 (session 0 0) I1 first))
     (goes-2 .1)
     ∙ ap (λ (O : Ops). 0 ∷ 89 ∷ 7 ∷ take 2 (encode O) ++ take 2 (drop 264 (encode O))) (uncopied (session 0 0) I1 first plan-2)
     ∙ ap (λ (ns : List ℕ). 0 ∷ 89 ∷ 7 ∷ ns) (ends (λ k. wordOf (overlay (byteAt I1) 542 (first .bytes)) (536 + 8 * k)))
@@ -375,18 +371,18 @@ answered : AsExpected opened story
 unfolding story follow
 answered =
     ap₂ _∷_ row-2
-    (ap₂ _∷_ (row-is afterL2 afterL3 checkpoint _ 26 (goes-3 .0) (goes-3 .1))
-    (ap₂ _∷_ (row-is afterL3 afterL4 (fill 1 30 700 6) _ 239 (goes-4 .0) (goes-4 .1))
-    (ap₂ _∷_ (row-is afterL4 afterL5 checkpoint _ 26 (goes-5 .0) (goes-5 .1))
-    (ap₂ _∷_ (row-is afterL5 afterL6 (fill 0 30 700 7) _ 201 (goes-6 .0) (goes-6 .1))
-    (ap₂ _∷_ (row-is afterL6 after71 (fill 2 30 700 8) _ 0 (goes-71 .0) (goes-71 .1))
-    (ap₂ _∷_ (row-is after71 after72 (fill 0 256 1 8) _ 0 (goes-72 .0) (goes-72 .1))
-    (ap₂ _∷_ (row-is after72 after73 (fill 0 30 994 8) _ 125 (goes-73 .0) (goes-73 .1))
-    (ap₂ _∷_ (row-is after73 (step after73 (fill 0 30 995 8)) (fill 0 30 995 8) _ 0 (goes-74 .0) (goes-74 .1)) refl))))))))
+    (ap₂ _∷_ (row-is afterL2 checkpoint _ 26 (goes-3 .0) (goes-3 .1))
+    (ap₂ _∷_ (row-is afterL3 (fill 1 30 700 6) _ 239 (goes-4 .0) (goes-4 .1))
+    (ap₂ _∷_ (row-is afterL4 checkpoint _ 26 (goes-5 .0) (goes-5 .1))
+    (ap₂ _∷_ (row-is afterL5 (fill 0 30 700 7) _ 201 (goes-6 .0) (goes-6 .1))
+    (ap₂ _∷_ (row-is afterL6 (fill 2 30 700 8) _ 0 (goes-71 .0) (goes-71 .1))
+    (ap₂ _∷_ (row-is after71 (fill 0 256 1 8) _ 0 (goes-72 .0) (goes-72 .1))
+    (ap₂ _∷_ (row-is after72 (fill 0 30 994 8) _ 125 (goes-73 .0) (goes-73 .1))
+    (ap₂ _∷_ (row-is after73 (fill 0 30 995 8) _ 0 (goes-74 .0) (goes-74 .1)) refl))))))))
 
-permitted : AllPermitted (calls story)
-unfolding story small smallArgs smallCalls
-permitted = all-permitted (calls story) refl
+permitted : AllPermitted (made opened (calls story))
+unfolding made story small smallArgs smallCalls
+permitted = all-permitted (made opened (calls story)) refl
 
 -- ---- the crashes
 
@@ -399,56 +395,57 @@ given-4 : Bytes (second .bytes)
 unfolding small
 given-4 = small-bytes (second .bytes) refl
 
-stands-2 : Stands afterL2
-unfolding run
-stands-2 = history-stands l114 F longestTrace bytes opens (fill 0 30 700 5 ∷ []) (given-2, tt)
+stands-2 : Stands (afterL2 .state)
+unfolding turns made
+stands-2 = turns-stand l114 F (having 0) bytes opens (fill 0 30 700 5 ∷ []) (given-2, tt)
 
-stands-3 : Stands afterL3
-unfolding run
-stands-3 = history-stands l114 F longestTrace bytes opens (fill 0 30 700 5 ∷ checkpoint ∷ []) (given-2, (tt, tt))
+stands-3 : Stands (afterL3 .state)
+unfolding turns made
+stands-3 = turns-stand l114 F (having 0) bytes opens (fill 0 30 700 5 ∷ checkpoint ∷ []) (given-2, (tt, tt))
 
-stands-4 : Stands afterL4
-unfolding run
+stands-4 : Stands (afterL4 .state)
+unfolding turns made
 stands-4 =
-    history-stands l114 F longestTrace bytes opens (fill 0 30 700 5 ∷ checkpoint ∷ fill 1 30 700 6 ∷ []) (given-2, (tt, (given-4, tt)))
+    turns-stand l114 F (having 0) bytes opens (fill 0 30 700 5 ∷ checkpoint ∷ fill 1 30 700 6 ∷ []) (given-2, (tt, (given-4, tt)))
 
 -- what the checkpoint of L3 leaves before the epoch's store, and after it
 abbrev cutImage : ℕ → Image
 cutImage epoch = image epoch 0 1 255 firstBytes noBytes
 
-shows-old : Recovers l114 (cutImage 0) longestTrace noBytes
+shows-old : Recovers l114 (cutImage 0) (having 0) noBytes
 unfolding model-rules same small
-shows-old = shows l114 (cutImage 0) longestTrace noBytes refl refl refl
+shows-old = shows l114 (cutImage 0) (having 0) noBytes refl refl refl
 
-shows-new : Recovers l114 (cutImage 1) longestTrace firstBytes
+shows-new : Recovers l114 (cutImage 1) (having 0) firstBytes
 unfolding model-rules same small
-shows-new = shows l114 (cutImage 1) longestTrace firstBytes refl refl refl
+shows-new = shows l114 (cutImage 1) (having 0) firstBytes refl refl refl
 
 cut : CutCheckpoint 26 afterL2 noBytes firstBytes
 unfolding model-rules same storesEpoch
 cut =
     let h = goes-2 .2 in
-    cut-checkpoint afterL2 stands-2 I2 (session 1 7) 26 (h .here .image) (h .here .session) refl (lit≤ tt)
-    noBytes firstBytes (cutImage 0) (cutImage 1) refl refl refl refl refl longestTrace
-    (subst (λ (l : Layout). Recovers l (cutImage 0) longestTrace noBytes) (sym (h .sized)) shows-old)
-    (subst (λ (l : Layout). Recovers l (cutImage 1) longestTrace firstBytes) (sym (h .sized)) shows-new) (h .checkpoint) (h .working)
+    cut-checkpoint afterL2 stands-2 I2 (session 1 7) (alone l114 0) 26 (h .here) refl (lit≤ tt)
+    noBytes firstBytes (cutImage 0) (cutImage 1) refl refl refl refl refl (having 0)
+    (subst (λ (l : Layout). Recovers l (cutImage 0) (having 0) noBytes) (sym (h .sized)) shows-old)
+    (subst (λ (l : Layout). Recovers l (cutImage 1) (having 0) firstBytes) (sym (h .sized)) shows-new) (h .checkpoint) (h .working)
 
-copies-safely : (p : ℕ) → p < 239 → OnlyShows afterL3 (during (fill 1 30 700 6) p) firstBytes
+copies-safely : (p : ℕ) → p < 239 → OnlyShows (afterL3 .state) (during (callAt afterL3 (fill 1 30 700 6)) p) firstBytes
 copies-safely p more =
-    shows-during afterL3 stands-3 (fill 1 30 700 6) given-4 p firstBytes
+    shows-during (afterL3 .state) stands-3 (callAt afterL3 (fill 1 30 700 6)) given-4 p firstBytes
     (omega (arith, more, ap (λ (o : Outcome). length (o .ops)) (goes-4 .0) ∙ goes-4 .1)) (λ w. no-checkpoint (w .0)) (goes-3 .2 .checkpoint)
 
 -- ---- the reads after L5
 
-reads : Reads l114 (afterL5 .device .image) secondBytes secondBytes
-unfolding run
+reads : Reads l114 (afterL5 .state .device .image) secondBytes secondBytes
+unfolding turn turns made run
 reads =
     let h = goes-5 .2 in
-    let r : Reads (afterL5 .device .layout) (afterL5 .device .image) (afterL5 .model .working) (afterL5 .model .checkpoint) =
-    reads-follow-model l114 F longestTrace bytes opens (fill 0 30 700 5 ∷ checkpoint ∷ fill 1 30 700 6 ∷ checkpoint ∷ [])
+    let s : State = afterL5 .state in
+    let r : Reads (s .device .layout) (s .device .image) (s .model .working) (s .model .checkpoint) =
+    reads-follow-model l114 F (having 0) bytes opens (made opened (fill 0 30 700 5 ∷ checkpoint ∷ fill 1 30 700 6 ∷ checkpoint ∷ []))
     (given-2, (tt, (given-4, (tt, tt)))) in
-    subst (λ (l : Layout). Reads l (afterL5 .device .image) secondBytes secondBytes) (h .sized)
-    (subst₂ (λ (W P : Page). Reads (afterL5 .device .layout) (afterL5 .device .image) W P) (h .working) (h .checkpoint) r)
+    subst (λ (l : Layout). Reads l (s .device .image) secondBytes secondBytes) (h .sized)
+    (subst₂ (λ (W P : Page). Reads (s .device .layout) (s .device .image) W P) (h .working) (h .checkpoint) r)
 
 -- THE STORY
 pub long-story : LongStory
@@ -459,6 +456,6 @@ long-story = record {
   answered = answered;
   cut = cut;
   copying = copies-safely;
-  copied = shows-between afterL4 stands-4 firstBytes (goes-4 .2 .checkpoint);
+  copied = shows-between (afterL4 .state) stands-4 firstBytes (goes-4 .2 .checkpoint);
   reads = reads;
 }

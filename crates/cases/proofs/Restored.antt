@@ -1,7 +1,7 @@
 -- The restored board: its second life, and the crash inside its checkpoint.
 use Prim.Native.Nat.{ℕ, suc, _+_}
 use mathlib.Core.Path.{_≡_, refl, sym, ap, subst, _∙_}
-use mathlib.Core.Bool.{true}
+use mathlib.Core.Bool.{Bool, true, _&&_}
 use mathlib.Core.List.{List, [], _∷_, _++_}
 use lib.Dec.{T, leb, lit≤}
 use lib.ListN.{length, replicate}
@@ -13,24 +13,27 @@ use Rattle.model.specs.Ops.{store, replay, copySegment}
 use Rattle.model.specs.Format.{container}
 use Rattle.model.specs.Open.{recoveryAction, actionOps, recoverSegment, openStatus}
 use Rattle.model.specs.Reads.{checkpointBlock}
-use Rattle.model.specs.History.{State, step, run, openedImage, AllPermitted}
+use Rattle.model.specs.History.{State, openedImage, AllPermitted}
 use Rattle.model.specs.CrashSafety.{Recovers}
-use Rattle.cases.specs.Table.{Case, follow, AsExpected, calls}
+use Rattle.model.specs.Shares.{alone}
+use Rattle.cases.specs.Turns.{Point, pointOf, turn, turns, made}
+use Rattle.cases.specs.Table.{Row, follow, calls}
 use Rattle.cases.specs.Cut.{CutCheckpoint}
-use Rattle.cases.specs.Restored.{l641, boardTrace, put, segments, leftBoard, restoredBoard, board, story, shorter, beforeCheckpoint, oldPage, newPage, RestoredStory}
+use Rattle.cases.specs.Restored.{l641, put, segments, leftBoard, restoredBoard, board, story, shorter, beforeCheckpoint, oldPage, newPage, RestoredStory}
+use Rattle.model.proofs.Laws.Range.{and-left, and-right}
 use Rattle.model.proofs.Argument.Stands.{Stands}
-use Rattle.model.proofs.CrashSafety.{history-stands}
-use Rattle.cases.proofs.Compute.{model-rules, same, same-equal, small, small-bytes, smallArgs, smallCalls, all-permitted}
-use Rattle.cases.proofs.Table.{agree, agree-equal}
-use Rattle.cases.proofs.Starts.{standing, started}
+use Rattle.cases.proofs.Compute.{model-rules, same, same-equal, small, small-bytes, smallArgs, smallCalls, all-permitted, known}
+use Rattle.cases.proofs.Quick.{quickWrite, quickArgs}
+use Rattle.cases.proofs.Follow.{agree, followKnown, follow-test, as-expected}
+use Rattle.cases.proofs.Starts.{standing, started, turns-stand}
 use Rattle.cases.proofs.Blocks.{laid, Recovered, recovered-none, recovered-copy, recovered-zero, recovered-idle, recovered-all}
 use Rattle.cases.proofs.Shown.{shows, storesEpoch, cut-checkpoint}
-use Rattle.cases.proofs.FirstLife.{later}
+use Rattle.cases.proofs.FirstLife.{k641, later}
 use Rattle.cases.proofs.FirstLife as first
 
 -- ---- its opening
 
-opens : openStatus l641 leftBoard boardTrace ≡ 0
+opens : openStatus l641 leftBoard k641 ≡ 0
 unfolding model-rules
 opens = refl
 
@@ -50,9 +53,9 @@ copies-back : (n : ℕ) (J K : Image) → recoverSegment l641 leftBoard 192 n �
     → same (laid J (mainAt l641 n) (segmentBytes l641 leftBoard (backupAt l641 n))) K ≡ true → Recovered l641 leftBoard 192 n J → Recovered l641 leftBoard 192 (suc n) K
 copies-back n J K = recovered-copy l641 leftBoard 192 n n J K bytes
 
-turns : Recovered l641 leftBoard 192 6 restored
+recovered : Recovered l641 leftBoard 192 6 restored
 unfolding recoverSegment actionOps recoveryAction byState isPaired pairedBackup anyB orNext firstB container bytesOf same
-turns =
+recovered =
     recovered-zero l641 leftBoard 192 5 restored restored refl tt refl
     (recovered-idle l641 leftBoard 192 4 restored refl
     (copies-back 3 (holding (10 ∷ 11 ∷ 12 ∷ 23 ∷ 14 ∷ 0 ∷ [])) restored refl tt tt refl
@@ -64,41 +67,48 @@ active : activeLine leftBoard ≡ 192
 unfolding model-rules
 active = refl
 
-opened : openedImage l641 leftBoard boardTrace ≡ restored
-opened = recovered-all l641 leftBoard boardTrace 192 restored opens active turns
+opened : openedImage l641 leftBoard k641 ≡ restored
+opened = recovered-all l641 leftBoard k641 192 restored opens active recovered
 
-starts : restoredBoard ≡ standing l641 restored oldPage
+-- where it starts
+abbrev firstPoint : Point
+firstPoint = pointOf (standing l641 restored oldPage) (alone l641 0)
+
+starts : restoredBoard ≡ firstPoint
 unfolding model-rules same
-starts = started l641 leftBoard restored boardTrace oldPage opens opened (same-equal _ _ refl)
+starts = started l641 leftBoard restored k641 oldPage opens opened (same-equal _ _ refl)
 
 -- ---- its calls
 
-story-agrees : agree (follow story (standing l641 restored oldPage)) ≡ true
-unfolding model-rules story follow same agree
-story-agrees = refl
+story-tested : followKnown story firstPoint (λ rs last. agree rs) ≡ true
+unfolding model-rules turn story quickWrite quickArgs followKnown known small same agree
+story-tested = refl
 
-shorter-agrees : agree (follow shorter (standing l641 restored oldPage)) ≡ true
-unfolding model-rules shorter follow same agree
-shorter-agrees = refl
+-- of the shorter one also that main segment 5 has no checkpoint part then
+abbrev shorterTest : List Row → Point → Bool
+shorterTest rs last = agree rs && same (checkpointBlock l641 (last .state .device .image) 5 0) []
 
-answered : (cs : List Case) → agree (follow cs (standing l641 restored oldPage)) ≡ true → AsExpected restoredBoard cs
-answered cs test = agree-equal (follow cs restoredBoard) (subst (λ (s : State). agree (follow cs s) ≡ true) (sym starts) test)
+shorter-tested : followKnown shorter firstPoint shorterTest ≡ true
+unfolding model-rules turn shorter quickWrite quickArgs followKnown known small same agree
+shorter-tested = refl
 
-story-permitted : AllPermitted (calls story)
-unfolding story small smallArgs smallCalls
-story-permitted = all-permitted (calls story) refl
+shorter-is : shorterTest (follow shorter firstPoint) (turns firstPoint (calls shorter)) ≡ true
+shorter-is = follow-test shorter firstPoint shorterTest shorter-tested
 
-shorter-permitted : AllPermitted (calls shorter)
-unfolding shorter small smallArgs smallCalls
-shorter-permitted = all-permitted (calls shorter) refl
+story-permitted : AllPermitted (made restoredBoard (calls story))
+unfolding made story small smallArgs smallCalls
+story-permitted = all-permitted (made restoredBoard (calls story)) refl
 
-board-is : board (standing l641 restored oldPage) ≡ 2 ∷ 2 ∷ 2 ∷ 2 ∷ 1 ∷ 0 ∷ [] ++ 0 ∷ 1 ∷ 2 ∷ 3 ∷ []
+shorter-permitted : AllPermitted (made restoredBoard (calls shorter))
+unfolding made shorter small smallArgs smallCalls
+shorter-permitted = all-permitted (made restoredBoard (calls shorter)) refl
+
+board-is : board (firstPoint .state) ≡ 2 ∷ 2 ∷ 2 ∷ 2 ∷ 1 ∷ 0 ∷ [] ++ 0 ∷ 1 ∷ 2 ∷ 3 ∷ []
 unfolding model-rules
 board-is = refl
 
-no-part : checkpointBlock l641 (run (standing l641 restored oldPage) (calls shorter) .device .image) 5 0 ≡ []
-unfolding model-rules shorter
-no-part = refl
+no-part : checkpointBlock l641 (turns firstPoint (calls shorter) .state .device .image) 5 0 ≡ []
+no-part = same-equal _ _ (and-right (agree (follow shorter firstPoint)) _ shorter-is)
 
 -- ---- the crash inside its checkpoint
 
@@ -115,23 +125,25 @@ before = record {
   model = record { working = newPage; checkpoint = oldPage };
 }
 
-refused : step (standing l641 restored oldPage) (put 4 34) ≡ standing l641 restored oldPage
-unfolding model-rules
+abbrev lastPoint : Point
+lastPoint = pointOf before (alone l641 0)
+
+refused : turn firstPoint (put 4 34) ≡ firstPoint
+unfolding model-rules turn
 refused = refl
 
-served : step (standing l641 restored oldPage) (put 5 35) ≡ before
-unfolding model-rules
+served : turn firstPoint (put 5 35) ≡ lastPoint
+unfolding model-rules turn
 served = refl
 
-stands : beforeCheckpoint ≡ before
-unfolding run
-stands = ap (λ (s : State). step (step s (put 4 34)) (put 5 35)) starts ∙ ap (λ (s : State). step s (put 5 35)) refused ∙ served
+stands : beforeCheckpoint ≡ lastPoint
+stands = ap (λ (p : Point). turn (turn p (put 4 34)) (put 5 35)) starts ∙ ap (λ (p : Point). turn p (put 5 35)) refused ∙ served
 
 holds : Stands before
-unfolding small smallArgs smallCalls
+unfolding turns made small smallArgs smallCalls
 holds =
-    subst Stands stands
-    (history-stands l641 leftBoard boardTrace bytes opens (put 4 34 ∷ put 5 35 ∷ []) (all-permitted (put 4 34 ∷ put 5 35 ∷ []) refl))
+    subst (λ (p : Point). Stands (p .state)) stands
+    (turns-stand l641 leftBoard k641 bytes opens (put 4 34 ∷ put 5 35 ∷ []) (all-permitted (made restoredBoard (put 4 34 ∷ put 5 35 ∷ [])) refl))
 
 -- the images with the old epoch and with the new
 abbrev cutImage : ℕ → Image
@@ -139,23 +151,24 @@ cutImage epoch =
     container l641 epoch (replicate 6 1 ++ replicate 58 0) (2 ∷ 2 ∷ 2 ∷ 2 ∷ 1 ∷ 0 ∷ replicate 58 0) (0 ∷ 1 ∷ 2 ∷ 3 ∷ replicate 60 unpaired)
     (segments (10 ∷ 11 ∷ 12 ∷ 13 ∷ 14 ∷ 35 ∷ []) ++ segments (10 ∷ 11 ∷ 12 ∷ 13 ∷ []))
 
-shows-old : Recovers l641 (cutImage 1) boardTrace oldPage
+shows-old : Recovers l641 (cutImage 1) k641 oldPage
 unfolding model-rules same small
-shows-old = shows l641 (cutImage 1) boardTrace oldPage refl refl refl
+shows-old = shows l641 (cutImage 1) k641 oldPage refl refl refl
 
-shows-new : Recovers l641 (cutImage 2) boardTrace newPage
+shows-new : Recovers l641 (cutImage 2) k641 newPage
 unfolding model-rules same small
-shows-new = shows l641 (cutImage 2) boardTrace newPage refl refl refl
+shows-new = shows l641 (cutImage 2) k641 newPage refl refl refl
 
-shown : CutCheckpoint 18 before oldPage newPage
+shown : CutCheckpoint 18 lastPoint oldPage newPage
 unfolding model-rules same storesEpoch
 shown =
-    cut-checkpoint before holds (before .device .image) (before .device .session) 18 refl refl refl (lit≤ tt)
-    oldPage newPage (cutImage 1) (cutImage 2) refl refl refl refl refl boardTrace shows-old shows-new refl refl
+    cut-checkpoint lastPoint holds (before .device .image) (before .device .session) (alone l641 0) 18
+    (record { image = refl; session = refl; clients = refl }) refl (lit≤ tt)
+    oldPage newPage (cutImage 1) (cutImage 2) refl refl refl refl refl k641 shows-old shows-new refl refl
 
-shows-left : Recovers l641 leftBoard boardTrace oldPage
+shows-left : Recovers l641 leftBoard k641 oldPage
 unfolding model-rules same small
-shows-left = shows l641 leftBoard boardTrace oldPage refl refl refl
+shows-left = shows l641 leftBoard k641 oldPage refl refl refl
 
 -- THE STORY
 pub restored-story : RestoredStory
@@ -166,11 +179,11 @@ restored-story = record {
   left = first.left;
   bytes = bytes;
   opens = shows-left;
-  restored = ap board starts ∙ board-is;
+  restored = ap (λ (p : Point). board (p .state)) starts ∙ board-is;
   permitted = story-permitted;
-  answered = answered story story-agrees;
-  cut = subst (λ (s : State). CutCheckpoint 18 s oldPage newPage) (sym stands) shown;
+  answered = as-expected starts story (follow-test story firstPoint (λ rs last. agree rs) story-tested);
+  cut = subst (λ (p : Point). CutCheckpoint 18 p oldPage newPage) (sym stands) shown;
   untouchedPermitted = shorter-permitted;
-  untouched = answered shorter shorter-agrees;
-  empty = ap (λ (s : State). checkpointBlock l641 (run s (calls shorter) .device .image) 5 0) starts ∙ no-part;
+  untouched = as-expected starts shorter (and-left (agree (follow shorter firstPoint)) _ shorter-is);
+  empty = ap (λ (p : Point). checkpointBlock l641 (turns p (calls shorter) .state .device .image) 5 0) starts ∙ no-part;
 }

@@ -14,28 +14,30 @@ use Rattle.model.specs.declared.Session.{Session}
 use Rattle.model.specs.Words.{Image, byteAt}
 use Rattle.model.specs.Layout.{lineSize, epochAt}
 use Rattle.model.specs.Container.{activeLine, checkpointBytes}
-use Rattle.model.specs.Ops.{Ops, Trace, store, clwb, sfence, replay}
-use Rattle.model.specs.Outcome.{outcomeOf}
+use Rattle.model.specs.Clients.{Clients}
+use Rattle.model.specs.Ops.{Ops, store, clwb, sfence, replay}
+use Rattle.model.specs.Outcome.{Lent, lent, Outcome}
 use Rattle.model.specs.Open.{openStatus}
 use Rattle.model.specs.Write.{WriteArgs}
-use Rattle.model.specs.Checkpoint.{checkpointStatus, checkpointOutcome}
 use Rattle.model.specs.Crash.{CrashImage}
 use Rattle.model.specs.Reference.{Page, writeArgs, checkpointArgs, modelStep}
 use Rattle.model.specs.History.{Call, State, outcome, playedOps, calledOps, step, Permitted}
 use Rattle.model.specs.CrashSafety.{Recovers, between, during, EpochStored, Window, none}
 use Rattle.model.specs.EpochCounts.{isCheckpoint}
+use Rattle.cases.specs.Turns.{Point, callAt, answerAt, turn}
 use Rattle.cases.specs.Table.{longTrace, checkpoint}
 use Rattle.cases.specs.Cut.{MayLeave, OnlyShows, EitherPage, CutCheckpoint}
 use Rattle.model.proofs.Laws.Range.{or-right}
 use Rattle.model.proofs.Laws.Ops.{played-ops}
 use Rattle.model.proofs.Laws.Replay.{checkpoint-outcome-ok}
-use Rattle.model.proofs.Laws.Crash.Images.{crash-after}
+use Rattle.model.proofs.Laws.Crash.Images.{newest, crash-after}
 use Rattle.model.proofs.Argument.Persist.{length-replay}
 use Rattle.model.proofs.Argument.Stands.{Stands, rest-crash}
 use Rattle.model.proofs.Argument.Openings.{recovers}
 use Rattle.model.proofs.CrashSafety.{argument}
 use Rattle.model.proofs.Sisters.{opening-safety}
 use Rattle.cases.proofs.Compute.{same, same-equal, small, small-bytes}
+use Rattle.cases.proofs.Goes.{At, answerOn, answers-at}
 
 -- ---- an image that a crash may leave, and what opening shows of it
 
@@ -52,10 +54,16 @@ late I O k H k≤ ≤k e = record {
   };
 }
 
-pub shows : (l : Layout) (H : Image) (t : Trace) (Q : Page) → openStatus l H t ≡ 0 → small H ≡ true → same (checkpointBytes l H (activeLine H)) Q ≡ true
-    → Recovers l H t Q
-shows l H t Q served bytes is =
-    subst (Recovers l H t) (same-equal _ _ is) (opening-safety l H t (small-bytes H bytes) served H none t (λ e. omega arith) .0)
+-- between two calls it may leave what stands
+pub may-leave : (s : State) → Stands s → (H : Image) → s .device .image ≡ H → MayLeave s between H
+may-leave s st H e =
+    subst (CrashImage (s .device .durable) (s .device .played)) (sym (st .image) ∙ e) (newest (s .device .durable) (s .device .played))
+
+pub shows : (l : Layout) (H : Image) (k : Lent) (Q : Page) → openStatus l H k ≡ 0 → small H ≡ true → same (checkpointBytes l H (activeLine H)) Q ≡ true
+    → Recovers l H k Q
+shows l H k Q served bytes is =
+    subst (Recovers l H k) (same-equal _ _ is)
+    (opening-safety l H k (small-bytes H bytes) served H none k ((λ e. omega arith), (λ e. omega arith)) .0)
 
 -- ---- before the window and after it
 
@@ -82,63 +90,66 @@ no-checkpoint e = false≢true (ap isCheckpoint e)
 -- in a call that is made in state s, outside the window
 pub shows-during : (s : State) → Stands s → (c : Call) → Permitted c → (p : ℕ) (Q : Page) → p < length (outcome (s .device) c .ops)
     → (Window (s .device) c p → ⊥) → s .model .checkpoint ≡ Q → OnlyShows s (during c p) Q
-shows-during s st c permitted p Q more outside is H crash t long =
+shows-during s st c permitted p Q more outside is H crash k enough =
     let x = argument s st c permitted .crash p H more crash in
-    subst (Recovers (s .device .layout) H t) (⊎-elim (λ e. e ∙ is) (λ w. absurd (outside (w .0))) (x .1))
-    (recovers (s .device .layout) H t (x .0) (x .2) (x .3) long)
+    subst (Recovers (s .device .layout) H k) (⊎-elim (λ e. e ∙ is) (λ w. absurd (outside (w .0))) (x .1))
+    (recovers (s .device .layout) H k (x .0) (x .2) (x .3) enough)
 
 -- at rest
 pub shows-between : (s : State) → Stands s → (Q : Page) → s .model .checkpoint ≡ Q → OnlyShows s between Q
-shows-between s st Q is H crash t long =
-    subst (Recovers (s .device .layout) H t) is
-    (recovers (s .device .layout) H t (s .model .checkpoint) (st .wholeCheckpoint) (rest-crash s st H crash) long)
+shows-between s st Q is H crash k enough =
+    subst (Recovers (s .device .layout) H k) is
+    (recovers (s .device .layout) H k (s .model .checkpoint) (st .wholeCheckpoint) (rest-crash s st H crash) enough)
 
 -- ---- the cut of a checkpoint
 
--- it is made in a state with the image I and the session x, and has n operations
-module _ (s : State) (st : Stands s) (I : Image) (x : Session) (n : ℕ) (image : s .device .image ≡ I) (session : s .device .session ≡ x)
+-- it is made at a point with the image I, the session x and the records R, and has n operations
+module _ (q : Point) (st : Stands (q .state)) (I : Image) (x : Session) (R : Clients) (n : ℕ) (here : At q I x R)
     (whole : length I % lineSize ≡ 0) (enough : 3 ≤ n) where
+  abbrev s : State
+  s = q .state
+
   abbrev ops : Ops
-  ops = checkpointOutcome x I longTrace .ops
+  ops = answerOn x I R checkpoint .ops
 
-  called : (p : ℕ) → calledOps (s .device) checkpoint p ≡ take p ops
+  called : (p : ℕ) → calledOps (s .device) (callAt q checkpoint) p ≡ take p ops
   called p =
-      ap₂ (λ (y : Session) (J : Image). playedOps J (checkpointOutcome y J longTrace .ops) longTrace p) session image
-      ∙ played-ops I ops longTrace p whole (checkpoint-outcome-ok x I longTrace)
+      ap₂ (λ (a : Outcome) (J : Image). playedOps J (a .ops) longTrace p) (answers-at checkpoint q here) (here .image)
+      ∙ played-ops I ops longTrace p whole (checkpoint-outcome-ok x I (lent R longTrace))
 
-  made : length (outcome (s .device) checkpoint .ops) ≡ length ops
-  made = ap₂ (λ (y : Session) (J : Image). length (checkpointOutcome y J longTrace .ops)) session image
+  made : length (answerAt q checkpoint .ops) ≡ length ops
+  made = ap (λ (a : Outcome). length (a .ops)) (answers-at checkpoint q here)
 
   -- what stood after k of the p operations that were played
-  leaves : (p k : ℕ) (H : Image) → k ≤ p → p ≤ length ops → p ≤ k + 2 → replay (take k ops) I ≡ H → MayLeave s (during checkpoint p) H
+  leaves : (p k : ℕ) (H : Image) → k ≤ p → p ≤ length ops → p ≤ k + 2 → replay (take k ops) I ≡ H → MayLeave s (during (callAt q checkpoint) p) H
   leaves p k H low high near e =
       subst (λ (X : Ops). CrashImage (s .device .durable) (s .device .played ++ X) H) (sym (called p))
       (crash-after (s .device .durable) H (s .device .played) (take p ops)
-      (subst (λ (J : Image). CrashImage J (take p ops) H) (sym image ∙ st .image)
+      (subst (λ (J : Image). CrashImage J (take p ops) H) (sym (here .image) ∙ st .image)
       (late I (take p ops) k H (omega (arith, length-take p ops)) (omega (arith, length-take p ops))
       (ap (λ (X : Ops). replay X I) (take-take k p ops low) ∙ e))))
 
   -- before the epoch's store the image old stands, which shows the page P; after it the image new, which shows the page W
-  pub cut-checkpoint : (P W : Page) (old new : Image) → checkpointStatus x I longTrace ≡ 0 → length ops ≡ n → storesEpoch (take (n - 3) ops) ≡ false
+  pub cut-checkpoint : (P W : Page) (old new : Image) → answerOn x I R checkpoint .status ≡ 0 → length ops ≡ n → storesEpoch (take (n - 3) ops) ≡ false
       → same (replay (take (n - 3) ops) I) old ≡ true → same (replay (take (n - 2) ops) I) new ≡ true
-      → (t : Trace) → Recovers (s .device .layout) old t P → Recovers (s .device .layout) new t W
-      → s .model .checkpoint ≡ P → s .model .working ≡ W → CutCheckpoint n s P W
-  unfolding step modelStep checkpointOutcome outcomeOf
-  cut-checkpoint P W old new served count none-yet before after t shows-old shows-new saved working =
+      → (k : Lent) → Recovers (s .device .layout) old k P → Recovers (s .device .layout) new k W
+      → s .model .checkpoint ≡ P → s .model .working ≡ W → CutCheckpoint n q P W
+  unfolding turn step modelStep
+  cut-checkpoint P W old new served count none-yet before after k shows-old shows-new saved working =
       record {
         count = made ∙ count;
         before =
-            shows-during s st checkpoint tt (n - 3) P (omega (arith, made, count))
+            shows-during s st (callAt q checkpoint) tt (n - 3) P (omega (arith, made, count))
             (λ w. not-yet (take (n - 3) ops) none-yet (subst EpochStored (called (n - 3)) (w .1))) saved;
         stored = either (n - 2) (omega arith) (omega (arith, count)) (omega arith);
         flushed = either (n - 1) (omega arith) (omega (arith, count)) (omega arith);
         after =
-            shows-between (step s checkpoint) (argument s st checkpoint tt .stands) W
-            (rw (ap₂ (λ (y : Session) (J : Image). checkpointStatus y J longTrace) session image ∙ served) working);
+            shows-between (step s (callAt q checkpoint)) (argument s st (callAt q checkpoint) tt .stands) W
+            (rw (ap (λ (a : Outcome). a .status) (answers-at checkpoint q here) ∙ served) working);
       }
     where
-      either : (p : ℕ) → n - 2 ≤ p → p ≤ length ops → p ≤ n - 3 + 2 → EitherPage s (during checkpoint p) P W
+      either : (p : ℕ) → n - 2 ≤ p → p ≤ length ops → p ≤ n - 3 + 2 → EitherPage s (during (callAt q checkpoint) p) P W
       either p low high near = record {
-        canOld = (old, leaves p (n - 3) old (omega arith) high near (same-equal _ _ before), t, shows-old);
-        canNew = (new, leaves p (n - 2) new low high (omega arith) (same-equal _ _ after), t, shows-new);
+        canOld = (old, leaves p (n - 3) old (omega arith) high near (same-equal _ _ before), k, shows-old);
+        canNew = (new, leaves p (n - 2) new low high (omega arith) (same-equal _ _ after), k, shows-new);
       }

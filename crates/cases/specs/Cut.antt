@@ -2,17 +2,16 @@
 -- (SPECIFICATION 17.3). Proved in proofs/Cut.antt.
 use Prim.Native.Nat.{ℕ, _-_}
 use mathlib.Core.Path.{_≡_}
-use mathlib.Core.Logic.{_≢_}
-use mathlib.Core.List.{[], _∷_, _++_}
+use mathlib.Core.List.{_++_}
 use lib.ListN.{length, replicate}
 use Rattle.model.specs.Words.{Image}
-use Rattle.model.specs.Ops.{Trace}
-use Rattle.model.specs.Open.{openStatus}
+use Rattle.model.specs.Outcome.{Lent}
 use Rattle.model.specs.Crash.{CrashImage}
 use Rattle.model.specs.Reference.{Page}
-use Rattle.model.specs.History.{State, outcome, start, step, run}
-use Rattle.model.specs.CrashSafety.{Recovers, Moment, between, during, playedAt}
-use Rattle.cases.specs.Table.{l211, fresh, longTrace, fourBytes, writeFour, checkpoint}
+use Rattle.model.specs.History.{State}
+use Rattle.model.specs.CrashSafety.{Recovers, Moment, between, during, playedAt, Enough}
+use Rattle.cases.specs.Turns.{Point, callAt, answerAt, turn}
+use Rattle.cases.specs.Table.{fourBytes, writeFour, checkpoint, opened}
 
 -- a crash at this moment of the state s may leave H
 abbrev pub MayLeave : State → Moment → Image → Type 0
@@ -20,31 +19,31 @@ MayLeave s m H = CrashImage (s .device .durable) (playedAt (s .device) m) H
 
 -- some crash there is followed by an opening that shows the page Q
 abbrev pub CanShow : State → Moment → Page → Type 0
-CanShow s m Q = (H : Image) × MayLeave s m H × (t : Trace) × Recovers (s .device .layout) H t Q
+CanShow s m Q = (H : Image) × MayLeave s m H × (k : Lent) × Recovers (s .device .layout) H k Q
 
--- every crash there is followed by openings that show the page Q
+-- every crash there is followed by openings that show the page Q, with any trace and any records that are not refused
 abbrev pub OnlyShows : State → Moment → Page → Type 0
 OnlyShows s m Q =
-    (H : Image) → MayLeave s m H → (t : Trace) → openStatus (s .device .layout) H t ≢ 11 → Recovers (s .device .layout) H t Q
+    (H : Image) → MayLeave s m H → (k : Lent) → Enough (s .device .layout) H k → Recovers (s .device .layout) H k Q
 
 pub record EitherPage (s : State) (m : Moment) (old new : Page) : Type 0 where
   pub canOld : CanShow s m old
   pub canNew : CanShow s m new
 
--- a checkpoint of n operations made in state s: just before the store of the epoch, which is the last but two, only the old page is
+-- a checkpoint of n operations made at the point p: just before the store of the epoch, which is the last but two, only the old page is
 -- shown, from there on up to the last fence either can be, and once it is played whole only the new one
-pub record CutCheckpoint (n : ℕ) (s : State) (old new : Page) : Type 0 where
-  pub count : length (outcome (s .device) checkpoint .ops) ≡ n
-  pub before : OnlyShows s (during checkpoint (n - 3)) old
-  pub stored : EitherPage s (during checkpoint (n - 2)) old new
-  pub flushed : EitherPage s (during checkpoint (n - 1)) old new
-  pub after : OnlyShows (step s checkpoint) between new
+pub record CutCheckpoint (n : ℕ) (p : Point) (old new : Page) : Type 0 where
+  pub count : length (answerAt p checkpoint .ops) ≡ n
+  pub before : OnlyShows (p .state) (during (callAt p checkpoint) (n - 3)) old
+  pub stored : EitherPage (p .state) (during (callAt p checkpoint) (n - 2)) old new
+  pub flushed : EitherPage (p .state) (during (callAt p checkpoint) (n - 1)) old new
+  pub after : OnlyShows (turn p checkpoint .state) between new
 
 -- ---- P4
 
 -- where the history stands before P4
-abbrev pub beforeP4 : State
-beforeP4 = run (start l211 fresh longTrace) (writeFour ∷ [])
+abbrev pub beforeP4 : Point
+beforeP4 = turn opened writeFour
 
 -- the page of the last checkpoint, and the page with the bytes of P3
 abbrev pub zeros : Page

@@ -1,4 +1,4 @@
--- Long writes (SPECIFICATION 17.5): 1 main segment, 1 backup segment, 4 blocks.
+-- Long writes (SPECIFICATION 17.5): 1 main segment, 1 backup segment, 4 blocks, and one client, whose share and limit are 1.
 --
 -- A formatted image is opened (L1). 700 bytes are written from block 0 on (L2); a checkpoint (L3); 700 bytes are written from block 1 on,
 -- which copies the main segment to the backup segment first (L4); a checkpoint (L5); 700 bytes are written from block 0 on again, which
@@ -18,9 +18,10 @@ use Rattle.model.specs.Format.{formatted}
 use Rattle.model.specs.Open.{openOutcome}
 use Rattle.model.specs.Write.{WriteArgs, writeArgsOf}
 use Rattle.model.specs.Reference.{Page}
-use Rattle.model.specs.History.{Call, callWrite, State, start, step, AllPermitted}
+use Rattle.model.specs.History.{State, AllPermitted}
 use Rattle.model.specs.CrashSafety.{Reads, between, during}
-use Rattle.cases.specs.Table.{Case, answer, sizes, checkpoint, case, AsExpected, calls}
+use Rattle.cases.specs.Turns.{Point, begin, Turn, callAt, turn, made}
+use Rattle.cases.specs.Table.{Case, answer, sizes, lentAlone, turnWrite, checkpoint, case, AsExpected, calls}
 use Rattle.cases.specs.Cut.{OnlyShows, CutCheckpoint}
 
 abbrev pub l114 : Layout
@@ -32,10 +33,10 @@ longestTrace = replicate 717 0
 
 -- n bytes v written to main segment 0 from this block and offset on
 abbrev pub filling : ℕ → ℕ → ℕ → ℕ → WriteArgs
-filling block offset n v = writeArgsOf 0 block offset (replicate n v)
+filling block offset n v = writeArgsOf 0 0 block offset (replicate n v)
 
-abbrev pub fill : ℕ → ℕ → ℕ → ℕ → Call
-fill block offset n v = callWrite (filling block offset n v) longestTrace
+abbrev pub fill : ℕ → ℕ → ℕ → ℕ → Turn
+fill block offset n v = turnWrite (filling block offset n v) longestTrace
 
 -- the word of dirty blocks that a call answers
 abbrev pub marks : Outcome → State → List ℕ
@@ -64,20 +65,20 @@ story =
     ∷ []
 
 -- where it stands after L1, L2, L3, L4 and L5
-abbrev pub opened : State
-opened = start l114 (formatted l114) longestTrace
+abbrev pub opened : Point
+opened = begin l114 (formatted l114) (lentAlone l114 longestTrace)
 
-abbrev pub afterL2 : State
-afterL2 = step opened (fill 0 30 700 5)
+abbrev pub afterL2 : Point
+afterL2 = turn opened (fill 0 30 700 5)
 
-abbrev pub afterL3 : State
-afterL3 = step afterL2 checkpoint
+abbrev pub afterL3 : Point
+afterL3 = turn afterL2 checkpoint
 
-abbrev pub afterL4 : State
-afterL4 = step afterL3 (fill 1 30 700 6)
+abbrev pub afterL4 : Point
+afterL4 = turn afterL3 (fill 1 30 700 6)
 
-abbrev pub afterL5 : State
-afterL5 = step afterL4 checkpoint
+abbrev pub afterL5 : Point
+afterL5 = turn afterL4 checkpoint
 
 -- the pages of the first opening, of the first checkpoint, and of the second: L4's bytes over L2's
 abbrev pub noBytes : Page
@@ -94,13 +95,13 @@ secondBytes = replicate 30 0 ++ replicate 256 5 ++ replicate 700 6 ++ replicate 
 pub record LongStory : Type 0 where
   -- it is a history that demand 3 speaks of, and its calls answer so
   pub bytes : Bytes (formatted l114)
-  pub opens : answer (openOutcome l114 (formatted l114) longestTrace) ≡ 0 ∷ 145 ∷ []
-  pub permitted : AllPermitted (calls story)
+  pub opens : answer (openOutcome l114 (formatted l114) (lentAlone l114 longestTrace)) ≡ 0 ∷ 145 ∷ []
+  pub permitted : AllPermitted (made opened (calls story))
   pub answered : AsExpected opened story
   -- the crash inside L3
   pub cut : CutCheckpoint 26 afterL2 noBytes firstBytes
   -- a crash after any of the 239 operations of L4
-  pub copying : (p : ℕ) → p < 239 → OnlyShows afterL3 (during (fill 1 30 700 6) p) firstBytes
-  pub copied : OnlyShows afterL4 between firstBytes
+  pub copying : (p : ℕ) → p < 239 → OnlyShows (afterL3 .state) (during (callAt afterL3 (fill 1 30 700 6)) p) firstBytes
+  pub copied : OnlyShows (afterL4 .state) between firstBytes
   -- both reads after L5
-  pub reads : Reads l114 (afterL5 .device .image) secondBytes secondBytes
+  pub reads : Reads l114 (afterL5 .state .device .image) secondBytes secondBytes

@@ -1,5 +1,6 @@
 -- A board that lost power and was opened again with four main segments restored from all its backup segments, and its first
--- checkpoint after that (SPECIFICATION 17.4): 6 main segments, 4 backup segments, 1 block.
+-- checkpoint after that (SPECIFICATION 17.4): 6 main segments, 4 backup segments, 1 block, and one client, whose share and limit are all
+-- backup segments.
 --
 -- The first life: a formatted image is opened; a byte is written to each of main segments 0 to 4; a checkpoint; another byte is
 -- written to each of main segments 0 to 3, which copies each of them first, to the lowest backup segment that is unpaired; power fails.
@@ -20,9 +21,10 @@ use Rattle.model.specs.Format.{container, formatted}
 use Rattle.model.specs.Open.{openStatus}
 use Rattle.model.specs.Reads.{checkpointBlock}
 use Rattle.model.specs.Reference.{Page}
-use Rattle.model.specs.History.{Call, callWrite, State, start, run, AllPermitted}
+use Rattle.model.specs.History.{State, AllPermitted}
 use Rattle.model.specs.CrashSafety.{between, Recovers}
-use Rattle.cases.specs.Table.{Case, sizes, longTrace, writes, checkpoint, case, AsExpected, calls}
+use Rattle.cases.specs.Turns.{Point, begin, Turn, turn, turns, made}
+use Rattle.cases.specs.Table.{Case, sizes, longTrace, lentAlone, writes, turnWrite, checkpoint, case, AsExpected, calls}
 use Rattle.cases.specs.Cut.{MayLeave, CutCheckpoint}
 
 abbrev pub l641 : Layout
@@ -33,15 +35,15 @@ abbrev pub boardTrace : Trace
 boardTrace = replicate 651 0
 
 -- the byte x written to main segment i, at its start
-abbrev pub put : ℕ → ℕ → Call
-put i x = callWrite (writes i 0 (x ∷ [])) longTrace
+abbrev pub put : ℕ → ℕ → Turn
+put i x = turnWrite (writes i 0 (x ∷ [])) longTrace
 
 -- ---- the first life
 
-abbrev pub formattedBoard : State
-formattedBoard = start l641 (formatted l641) boardTrace
+abbrev pub formattedBoard : Point
+formattedBoard = begin l641 (formatted l641) (lentAlone l641 boardTrace)
 
-abbrev pub firstLife : List Call
+abbrev pub firstLife : List Turn
 firstLife =
     put 0 10 ∷ put 1 11 ∷ put 2 12 ∷ put 3 13 ∷ put 4 14 ∷ checkpoint
     ∷ put 0 20 ∷ put 1 21 ∷ put 2 22 ∷ put 3 23 ∷ []
@@ -59,12 +61,15 @@ leftBoard =
 
 -- ---- the second life
 
-abbrev pub restoredBoard : State
-restoredBoard = start l641 leftBoard boardTrace
+abbrev pub restoredBoard : Point
+restoredBoard = begin l641 leftBoard (lentAlone l641 boardTrace)
 
--- the active states of the six main segments, and the pairs of the four backup segments
+-- the active states of the main segments, and the pairs of the backup segments: six and four here
+abbrev pub boardOf : Layout → State → List ℕ
+boardOf l s = take (l .mains) (drop (activeLine (s .device .image)) (s .device .image)) ++ take (l .backups) (drop pairsAt (s .device .image))
+
 abbrev pub board : State → List ℕ
-board s = take 6 (drop (activeLine (s .device .image)) (s .device .image)) ++ take 4 (drop pairsAt (s .device .image))
+board s = boardOf l641 s
 
 abbrev pub onBoard : Outcome → State → List ℕ
 onBoard o s = board s
@@ -87,8 +92,8 @@ shorter =
     ∷ []
 
 -- where it stands before the checkpoint; and the page of the first life's checkpoint, and that of this one
-abbrev pub beforeCheckpoint : State
-beforeCheckpoint = run restoredBoard (put 4 34 ∷ put 5 35 ∷ [])
+abbrev pub beforeCheckpoint : Point
+beforeCheckpoint = turn (turn restoredBoard (put 4 34)) (put 5 35)
 
 abbrev pub oldPage : Page
 oldPage = segments (10 ∷ 11 ∷ 12 ∷ 13 ∷ 14 ∷ 0 ∷ [])
@@ -101,18 +106,18 @@ newPage = segments (10 ∷ 11 ∷ 12 ∷ 13 ∷ 14 ∷ 35 ∷ [])
 pub record RestoredStory : Type 0 where
   -- the first life is a history that demand 3 speaks of, and a crash after it may leave this image
   pub firstBytes : Bytes (formatted l641)
-  pub firstOpens : openStatus l641 (formatted l641) boardTrace ≡ 0
-  pub firstPermitted : AllPermitted firstLife
-  pub left : MayLeave (run formattedBoard firstLife) between leftBoard
+  pub firstOpens : openStatus l641 (formatted l641) (lentAlone l641 boardTrace) ≡ 0
+  pub firstPermitted : AllPermitted (made formattedBoard firstLife)
+  pub left : MayLeave (turns formattedBoard firstLife .state) between leftBoard
   -- so is the second; its opening shows the checkpoint of the first, and leaves these states and pairs
   pub bytes : Bytes leftBoard
-  pub opens : Recovers l641 leftBoard boardTrace oldPage
-  pub restored : board restoredBoard ≡ (2 ∷ 2 ∷ 2 ∷ 2 ∷ 1 ∷ 0 ∷ []) ++ (0 ∷ 1 ∷ 2 ∷ 3 ∷ [])
+  pub opens : Recovers l641 leftBoard (lentAlone l641 boardTrace) oldPage
+  pub restored : board (restoredBoard .state) ≡ (2 ∷ 2 ∷ 2 ∷ 2 ∷ 1 ∷ 0 ∷ []) ++ (0 ∷ 1 ∷ 2 ∷ 3 ∷ [])
   -- its calls are permitted and answer so; the crash inside its checkpoint
-  pub permitted : AllPermitted (calls story)
+  pub permitted : AllPermitted (made restoredBoard (calls story))
   pub answered : AsExpected restoredBoard story
   pub cut : CutCheckpoint 18 beforeCheckpoint oldPage newPage
   -- without the write to main segment 5
-  pub untouchedPermitted : AllPermitted (calls shorter)
+  pub untouchedPermitted : AllPermitted (made restoredBoard (calls shorter))
   pub untouched : AsExpected restoredBoard shorter
-  pub empty : checkpointBlock l641 (run restoredBoard (calls shorter) .device .image) 5 0 ≡ []
+  pub empty : checkpointBlock l641 (turns restoredBoard (calls shorter) .state .device .image) 5 0 ≡ []

@@ -1,7 +1,8 @@
 -- The bench cases P1 to P10 of SPECIFICATION 17 as one table. Each row holds the numbers that the definitions of `model` give
 -- and those that are expected; `TableHolds` says that they agree in every row. P2's two rows are openings of one fresh image,
--- each made alone; P3 to P9 are one history from there, each call made by the step of model's histories. Expected are the
--- numbers that the specification states in these cases and, beside them, what its rules give: 0 for a served call, no
+-- each made alone; P3 to P9 are one history from there, each call made by the step of model's histories. There is one client, whose
+-- share and limit are all backup segments (the trade: one console with share and limit S), and the history is one run (Turns.antt).
+-- Expected are the numbers that the specification states in these cases and, beside them, what its rules give: 0 for a served call, no
 -- operations of a refused one, the two words of P3, the two operations of P3, 43 and 1 of P8 and P9, and in P8 that the backup
 -- segment is free after the checkpoint and no more after the write that takes it. Proved in proofs/Table.antt.
 use Prim.Native.Nat.{ℕ}
@@ -15,12 +16,15 @@ use Rattle.model.specs.Words.{Image}
 use Rattle.model.specs.Layout.{lineSize, unpaired, imageSize}
 use Rattle.model.specs.Container.{activeLine, segState, backupToMain, isFree}
 use Rattle.model.specs.Ops.{Trace, encode}
-use Rattle.model.specs.Outcome.{Outcome}
+use Rattle.model.specs.Outcome.{Lent, lent, Outcome}
 use Rattle.model.specs.Format.{container, formatOutcome}
 use Rattle.model.specs.Open.{openOutcome}
 use Rattle.model.specs.Reads.{readStatus, checkpointPart}
-use Rattle.model.specs.Write.{WriteArgs, writeOutcome}
-use Rattle.model.specs.History.{Call, callWrite, callCheckpoint, State, outcome, start, step}
+use Rattle.model.specs.Write.{WriteArgs, writeArgsOf, writeOutcome}
+use Rattle.model.specs.Reference.{writeArgs, checkpointArgs}
+use Rattle.model.specs.History.{State}
+use Rattle.model.specs.Shares.{alone}
+use Rattle.cases.specs.Turns.{Point, begin, Turn, answerAt, turn}
 
 -- ---- rows
 
@@ -53,15 +57,22 @@ fresh = formatOutcome l211 (replicate 1280 77) .image
 abbrev pub longTrace : Trace
 longTrace = replicate 219 0
 
--- bytes written to block 0 of a main segment
+-- what an opening is lent: the record of the one client, and a trace
+abbrev pub lentAlone : Layout → Trace → Lent
+lentAlone l t = lent (alone l 0) t
+
+-- bytes written by that client to block 0 of a main segment
 abbrev pub writes : ℕ → ℕ → List ℕ → WriteArgs
-writes main offset bytes = record { main = main; block = 0; offset = offset; bytes = bytes }
+writes main offset bytes = writeArgsOf 0 main 0 offset bytes
 
-abbrev pub write : ℕ → ℕ → List ℕ → Call
-write main offset bytes = callWrite (writes main offset bytes) longTrace
+abbrev pub turnWrite : WriteArgs → Trace → Turn
+turnWrite w t = record { args = writeArgs w; trace = t }
 
-abbrev pub checkpoint : Call
-checkpoint = callCheckpoint longTrace
+abbrev pub write : ℕ → ℕ → List ℕ → Turn
+write main offset bytes = turnWrite (writes main offset bytes) longTrace
+
+abbrev pub checkpoint : Turn
+checkpoint = record { args = checkpointArgs; trace = longTrace }
 
 abbrev pub aWord : List ℕ
 aWord = 1 ∷ 2 ∷ 3 ∷ 4 ∷ 5 ∷ 6 ∷ 7 ∷ 8 ∷ []
@@ -70,7 +81,7 @@ aWord = 1 ∷ 2 ∷ 3 ∷ 4 ∷ 5 ∷ 6 ∷ 7 ∷ 8 ∷ []
 abbrev pub fourBytes : List ℕ
 fourBytes = 0xa1 ∷ 0xb2 ∷ 0xc3 ∷ 0xd4 ∷ []
 
-abbrev pub writeFour : Call
+abbrev pub writeFour : Turn
 writeFour = write 0 6 fourBytes
 
 -- ---- the history
@@ -78,11 +89,11 @@ writeFour = write 0 6 fourBytes
 -- a call of the history, what is read off it besides its answer, and the numbers expected
 pub record Case : Type 0 where
   pub case : ℕ
-  pub call : Call
+  pub call : Turn
   pub read : Outcome → State → List ℕ
   pub expected : List ℕ
 
-abbrev pub case : ℕ → Call → (Outcome → State → List ℕ) → List ℕ → Case
+abbrev pub case : ℕ → Turn → (Outcome → State → List ℕ) → List ℕ → Case
 case n c read expected = record { case = n; call = c; read = read; expected = expected }
 
 abbrev pub answerOnly : Outcome → State → List ℕ
@@ -107,20 +118,25 @@ history =
     ∷ case 9 (write 1 0 []) answerOnly (8 ∷ 0 ∷ [])
     ∷ []
 
--- the row of a call that is made in state s and leaves the state after
-abbrev pub rowOf : State → Case → State → Row
-rowOf s c after = row (c .case) (answer (outcome (s .device) (c .call)) ++ c .read (outcome (s .device) (c .call)) after) (c .expected)
+-- where P3 starts
+abbrev pub opened : Point
+opened = begin l211 fresh (lentAlone l211 longTrace)
+
+-- the row of a call that is made at the point p and leaves the history at the point after
+abbrev pub rowOf : Point → Case → Point → Row
+rowOf p c after = row (c .case) (answer (answerAt p (c .call)) ++ c .read (answerAt p (c .call)) (after .state)) (c .expected)
 
 -- the calls, one after the other
-unfoldable pub follow : List Case → State → List Row
-follow [] s = []
-follow (c ∷ cs) s = rowOf s c (step s (c .call)) ∷ follow cs (step s (c .call))
+unfoldable pub follow : List Case → Point → List Row
+follow [] p = []
+follow (c ∷ cs) p = rowOf p c (turn p (c .call)) ∷ follow cs (turn p (c .call))
 
--- their rows, from the state s on, have what is expected
-abbrev pub AsExpected : State → List Case → Type 0
-AsExpected s cs = map (λ (r : Row). r .given) (follow cs s) ≡ map (λ (r : Row). r .expected) (follow cs s)
+-- their rows, from the point p on, have what is expected
+abbrev pub AsExpected : Point → List Case → Type 0
+AsExpected p cs = map (λ (r : Row). r .given) (follow cs p) ≡ map (λ (r : Row). r .expected) (follow cs p)
 
-abbrev pub calls : List Case → List Call
+-- the calls
+abbrev pub calls : List Case → List Turn
 calls cs = map (λ (c : Case). c .call) cs
 
 -- ---- the cases that stand alone
@@ -128,13 +144,13 @@ calls cs = map (λ (c : Case). c .call) cs
 unfoldable pub sizeCases : List Row
 sizeCases =
     row 1 (imageSize l211 ∷ imageSize (sizes 64 64 64) ∷ []) (1280 ∷ 2097664 ∷ [])
-    ∷ row 1 (formatOutcome (sizes 65 1 1) [] .status ∷ openOutcome (sizes 65 1 1) [] [] .status ∷ []) (1 ∷ 1 ∷ [])
+    ∷ row 1 (formatOutcome (sizes 65 1 1) [] .status ∷ openOutcome (sizes 65 1 1) [] (lentAlone (sizes 65 1 1) []) .status ∷ []) (1 ∷ 1 ∷ [])
     ∷ []
 
 unfoldable pub openCases : List Row
 openCases =
-    row 2 (answer (openOutcome l211 fresh (replicate 218 0))) (11 ∷ 0 ∷ [])
-    ∷ row 2 (answer (openOutcome l211 fresh (replicate 219 0))) (0 ∷ 73 ∷ [])
+    row 2 (answer (openOutcome l211 fresh (lentAlone l211 (replicate 218 0)))) (11 ∷ 0 ∷ [])
+    ∷ row 2 (answer (openOutcome l211 fresh (lentAlone l211 (replicate 219 0)))) (0 ∷ 73 ∷ [])
     ∷ []
 
 -- state 1, paired, no segment dirty, one block dirty
@@ -146,12 +162,12 @@ abbrev pub session10 : Session
 session10 = record { layout = sizes 1 1 4; «dirty_segments» = 0; «dirty_blocks» = 4 ∷ replicate 63 0 }
 
 unfoldable pub copyCase : List Row
-copyCase = row 10 (answer (writeOutcome session10 image10 (writes 0 0 aWord) longTrace)) (0 ∷ 41 ∷ []) ∷ []
+copyCase = row 10 (answer (writeOutcome session10 image10 (writes 0 0 aWord) (lentAlone (sizes 1 1 4) longTrace))) (0 ∷ 41 ∷ []) ∷ []
 
 -- ---- the table
 
 unfoldable pub rows : List Row
-rows = sizeCases ++ openCases ++ follow history (start l211 fresh longTrace) ++ copyCase
+rows = sizeCases ++ openCases ++ follow history opened ++ copyCase
 
 -- P1 TO P10
 abbrev pub TableHolds : Type 0

@@ -13,15 +13,18 @@ use Rattle.model.specs.Open.{openStatus, openOutcome}
 use Rattle.model.specs.Crash.{CrashImage}
 use Rattle.model.specs.CrashExact.{hasFence, floorFrom}
 use Rattle.model.specs.Reference.{Page}
-use Rattle.model.specs.History.{State, start, deviceStep, step, run, AllPermitted}
+use Rattle.model.specs.History.{deviceStep, step, AllPermitted}
 use Rattle.model.specs.CrashSafety.{PermittedAt, playedAt, Recovers}
 use Rattle.model.specs.FlushDurable.{imageAt}
 use Rattle.model.proofs.Laws.Crash.Images.{crash-after}
 use Rattle.model.proofs.Argument.Persist.{replay-append}
-use Rattle.cases.specs.Table.{l211, longTrace, checkpoint, aWord}
+use Rattle.model.specs.Shares.{alone}
+use Rattle.cases.specs.Turns.{Point, pointOf, begin, turn, turns, made}
+use Rattle.cases.specs.Table.{l211, aWord}
 use Rattle.cases.proofs.Compute.{model-rules, same, same-equal, small}
 use Rattle.cases.proofs.Shown.{shows}
 use Rattle.cases.proofs.Starts.{standing, started}
+use Rattle.faults.specs.Faults.{lentLong}
 use Rattle.faults.specs.Unflushed.{once, twoWrites, edited, ended, BrokenOff}
 use Rattle.faults.proofs.Alone.{elsewhere, avoids, first-lost}
 use Rattle.faults.proofs.TwoCalls.{a-word}
@@ -29,20 +32,23 @@ use Rattle.faults.proofs.TwoCalls.{a-word}
 abbrev old : Page
 old = replicate 256 40 ++ replicate 256 0
 
-opens : openStatus l211 once longTrace ≡ 0
+opens : openStatus l211 once (lentLong l211) ≡ 0
 unfolding model-rules
 opens = refl
 
-begins : start l211 once longTrace ≡ standing l211 once old
+abbrev opened : Point
+opened = pointOf (standing l211 once old) (alone l211 0)
+
+begins : begin l211 once (lentLong l211) ≡ opened
 unfolding model-rules same
-begins = started l211 once once longTrace old opens (same-equal _ _ refl) (same-equal _ _ refl)
+begins = started l211 once once (lentLong l211) old opens (same-equal _ _ refl) (same-equal _ _ refl)
 
 -- where the program stands before its checkpoint
-abbrev before : State
-before = run (standing l211 once old) twoWrites
+abbrev before : Point
+before = turns opened twoWrites
 
 stands : edited ≡ before
-stands = ap (λ (s : State). run s twoWrites) begins
+stands = ap (λ (p : Point). turns p twoWrites) begins
 
 -- all that was carried out but the store of the epoch
 abbrev first : Ops
@@ -51,8 +57,8 @@ first =
     ∷ clwb 512 ∷ clwb 576 ∷ clwb 640 ∷ clwb 704 ∷ clwb 768 ∷ clwb 832 ∷ clwb 896 ∷ clwb 960 ∷ sfence
     ∷ store 128 0x0101 ∷ store 136 0 ∷ store 144 0 ∷ store 152 0 ∷ store 160 0 ∷ store 168 0 ∷ store 176 0 ∷ store 184 0 ∷ clwb 128 ∷ sfence ∷ []
 
-parts : playedAt (before .device) ended ≡ first ++ store 0 2 ∷ []
-unfolding model-rules
+parts : playedAt (before .state .device) (ended before) ≡ first ++ store 0 2 ∷ []
+unfolding model-rules turn turns
 parts = refl
 
 -- a board in epoch e, with these bytes in its backup segment
@@ -69,8 +75,8 @@ advances : replay (store 0 2 ∷ []) (board 1 (replicate 256 40)) ≡ board 2 (r
 unfolding model-rules same
 advances = same-equal _ _ refl
 
-ends : imageAt (before .device) ended ≡ board 2 (replicate 256 40)
-unfolding run step deviceStep
+ends : imageAt (before .state .device) (ended before) ≡ board 2 (replicate 256 40)
+unfolding turn turns step deviceStep
 ends =
     ap (λ (X : Ops). replay X once) parts ∙ replay-append first (store 0 2 ∷ []) once ∙ ap (λ (J : Image). replay (store 0 2 ∷ []) J) leaves
     ∙ advances
@@ -79,11 +85,11 @@ ends =
 abbrev renewed : Ops
 renewed = persistCopy (board 2 (replicate 256 40)) 512 1024 ++ sfence ∷ []
 
-reopens : openStatus l211 (board 2 (replicate 256 40)) longTrace ≡ 0
+reopens : openStatus l211 (board 2 (replicate 256 40)) (lentLong l211) ≡ 0
 unfolding model-rules
 reopens = refl
 
-reopening : openOutcome l211 (board 2 (replicate 256 40)) longTrace .ops ≡ renewed
+reopening : openOutcome l211 (board 2 (replicate 256 40)) (lentLong l211) .ops ≡ renewed
 unfolding model-rules
 reopening = refl
 
@@ -104,49 +110,51 @@ lost =
 
 -- ---- what the calls are
 
-permitted : AllPermitted twoWrites
+permitted : AllPermitted (made (begin l211 once (lentLong l211)) twoWrites)
+unfolding made
 permitted = (a-word, (a-word, tt))
 
-more : PermittedAt (before .device) ended
-unfolding model-rules
+more : PermittedAt (before .state .device) (ended before)
+unfolding model-rules turn turns
 more = (tt, lit< tt)
 
-old-page : before .model .checkpoint ≡ old
-unfolding model-rules
+old-page : before .state .model .checkpoint ≡ old
+unfolding model-rules turn turns
 old-page = refl
 
-new-page : before .model .working ≡ (aWord ++ replicate 248 40) ++ (aWord ++ replicate 248 0)
-unfolding model-rules
+new-page : before .state .model .working ≡ (aWord ++ replicate 248 40) ++ (aWord ++ replicate 248 0)
+unfolding model-rules turn turns
 new-page = refl
 
 -- all of it together, in the order in which it was carried out
-carried-out : first ++ store 0 2 ∷ renewed ≡ playedAt (before .device) ended ++ openOutcome l211 (imageAt (before .device) ended) longTrace .ops
+carried-out : first ++ store 0 2 ∷ renewed
+    ≡ playedAt (before .state .device) (ended before) ++ openOutcome l211 (imageAt (before .state .device) (ended before)) (lentLong l211) .ops
 carried-out =
     sym (append-assoc first (store 0 2 ∷ []) renewed)
-    ∙ ap₂ (λ (X Y : Ops). X ++ Y) (sym parts) (sym (ap (λ (J : Image). openOutcome l211 J longTrace .ops) ends ∙ reopening))
+    ∙ ap₂ (λ (X Y : Ops). X ++ Y) (sym parts) (sym (ap (λ (J : Image). openOutcome l211 J (lentLong l211) .ops) ends ∙ reopening))
 
-crash : CrashImage (before .device .durable)
-    (playedAt (before .device) ended ++ openOutcome l211 (imageAt (before .device) ended) longTrace .ops)
+crash : CrashImage (before .state .device .durable)
+    (playedAt (before .state .device) (ended before) ++ openOutcome l211 (imageAt (before .state .device) (ended before)) (lentLong l211) .ops)
     (board 1 (aWord ++ replicate 248 40))
-unfolding run step deviceStep
+unfolding turn turns step deviceStep
 crash = subst (λ (X : Ops). CrashImage once X (board 1 (aWord ++ replicate 248 40))) carried-out lost
 
-mixed : Recovers l211 (board 1 (aWord ++ replicate 248 40)) longTrace ((aWord ++ replicate 248 40) ++ replicate 256 0)
+mixed : Recovers l211 (board 1 (aWord ++ replicate 248 40)) (lentLong l211) ((aWord ++ replicate 248 40) ++ replicate 256 0)
 unfolding model-rules same small
-mixed = shows l211 (board 1 (aWord ++ replicate 248 40)) longTrace _ refl refl refl
+mixed = shows l211 (board 1 (aWord ++ replicate 248 40)) (lentLong l211) _ refl refl refl
 
 pub broken-off : BrokenOff
 broken-off = record {
   opens = opens;
-  permitted = (permitted, subst (λ (s : State). PermittedAt (s .device) ended) (sym stands) more);
-  old = ap (λ (s : State). s .model .checkpoint) stands ∙ old-page;
-  new = ap (λ (s : State). s .model .working) stands ∙ new-page;
+  permitted = (permitted, subst (λ (p : Point). PermittedAt (p .state .device) (ended p)) (sym stands) more);
+  old = ap (λ (p : Point). p .state .model .checkpoint) stands ∙ old-page;
+  new = ap (λ (p : Point). p .state .model .working) stands ∙ new-page;
   served =
-      ap (λ (s : State). openStatus l211 (imageAt (s .device) ended) longTrace) stands
-      ∙ ap (λ (J : Image). openStatus l211 J longTrace) ends ∙ reopens;
+      ap (λ (p : Point). openStatus l211 (imageAt (p .state .device) (ended p)) (lentLong l211)) stands
+      ∙ ap (λ (J : Image). openStatus l211 J (lentLong l211)) ends ∙ reopens;
   left = board 1 (aWord ++ replicate 248 40);
-  crash = subst (λ (s : State). CrashImage (s .device .durable)
-      (playedAt (s .device) ended ++ openOutcome l211 (imageAt (s .device) ended) longTrace .ops) (board 1 (aWord ++ replicate 248 40)))
+  crash = subst (λ (p : Point). CrashImage (p .state .device .durable)
+      (playedAt (p .state .device) (ended p) ++ openOutcome l211 (imageAt (p .state .device) (ended p)) (lentLong l211) .ops) (board 1 (aWord ++ replicate 248 40)))
       (sym stands) crash;
   shown = mixed;
 }

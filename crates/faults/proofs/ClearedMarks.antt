@@ -11,27 +11,27 @@ use Rattle.model.specs.Words.{Image}
 use Rattle.model.specs.Ops.{Ops}
 use Rattle.model.specs.Session.{freshSession}
 use Rattle.model.specs.Reference.{Page}
-use Rattle.model.specs.History.{State, start, run, calledOps, openedImage}
+use Rattle.model.specs.History.{calledOps}
 use Rattle.model.specs.Crash.{CrashImage}
-use Rattle.model.specs.CrashSafety.{during}
-use Rattle.cases.specs.Table.{longTrace, write, aWord}
-use Rattle.faults.specs.Faults.{l111, one, CalledShowsOther, twoCalls, marksCleared, ClearedMarks}
+use Rattle.cases.specs.Turns.{Point, begin, callAt, turns}
+use Rattle.cases.specs.Table.{write, aWord}
+use Rattle.faults.specs.Faults.{lentLong, l111, one, twoCalls, marksCleared, ShowsStale, ClearedMarks}
 use Rattle.model.proofs.Laws.Crash.Images.{newest}
 use Rattle.cases.proofs.Compute.{model-rules, same, same-equal}
 use Rattle.cases.proofs.Shown.{no-checkpoint}
 use Rattle.faults.proofs.TwoCalls.{image, old, new, before, saved, stands, a-word, calls-permitted, old-shown}
 
-abbrev cleared : State
+abbrev cleared : Point
 cleared = saved (image 1 2 1 new) (freshSession l111)
 
-clears : marksCleared (run (start l111 (one 0) longTrace) twoCalls) ≡ cleared
+clears : marksCleared (turns (begin l111 (one 0) (lentLong l111)) twoCalls) ≡ cleared
 unfolding marksCleared
 clears = ap marksCleared stands
 
 abbrev played : Ops
-played = before ++ calledOps (cleared .device) (write 0 8 aWord) 2
+played = before ++ calledOps (cleared .state .device) (callAt cleared (write 0 8 aWord)) 2
 
-wrong : CalledShowsOther (λ H. openedImage l111 H longTrace) cleared (during (write 0 8 aWord) 2)
+wrong : ShowsStale cleared
 unfolding model-rules same
 wrong = record {
   permitted = (a-word, lit< tt);
@@ -43,5 +43,5 @@ wrong = record {
   wrong = ⊎-elim (λ e. let z : _≡_ {A = ℕ} 40 1 = ap (λ (P : Page). getD P 0 0) e in omega arith) (λ w. no-checkpoint (w .0 .0));
 }
 
-pub cleared-marks : ClearedMarks (start l111 (one 0) longTrace)
-cleared-marks = (calls-permitted, subst (λ (s : State). CalledShowsOther (λ H. openedImage l111 H longTrace) s (during (write 0 8 aWord) 2)) (sym clears) wrong)
+pub cleared-marks : ClearedMarks (begin l111 (one 0) (lentLong l111))
+cleared-marks = (calls-permitted (begin l111 (one 0) (lentLong l111)), subst ShowsStale (sym clears) wrong)

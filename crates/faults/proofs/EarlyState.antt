@@ -11,13 +11,13 @@ use lib.ListN.{take, getD, replicate}
 use Rattle.model.specs.Words.{Image}
 use Rattle.model.specs.Layout.{wordSize, lineSize, unpaired}
 use Rattle.model.specs.Ops.{Ops, store, apply, replay}
-use Rattle.model.specs.Session.{freshSession}
 use Rattle.model.specs.Reference.{Page}
-use Rattle.model.specs.History.{State, start}
 use Rattle.model.specs.Crash.{KeepsDurable, CrashImage}
 use Rattle.model.specs.CrashExact.{hasFence}
-use Rattle.cases.specs.Table.{longTrace, writes, aWord}
-use Rattle.faults.specs.Faults.{l111, one, earlyStateOps, earlyWriteOps, EarlyState, ShowsBackup, EarlyStateUnseen}
+use Rattle.model.specs.Shares.{alone}
+use Rattle.cases.specs.Turns.{Point, pointOf, begin}
+use Rattle.cases.specs.Table.{writes, aWord}
+use Rattle.faults.specs.Faults.{lentLong, l111, one, earlyStateOps, earlyWriteOps, earlyAt, EarlyState, ShowsBackup, EarlyStateUnseen}
 use Rattle.model.proofs.Argument.Settled.{Off}
 use Rattle.model.proofs.Laws.Crash.Images.{durable-unfenced, crash-after}
 use Rattle.cases.proofs.Compute.{model-rules, same, same-equal}
@@ -37,29 +37,32 @@ last-alone I A p w unfenced a whole = arrives-alone I A (store p w ∷ []) (λ �
 
 -- ---- from an unpaired main segment
 
-starts : start l111 (one unpaired) longTrace .device ≡ standing l111 (one unpaired) (replicate 256 40) .device
-unfolding model-rules same
-starts = ap (λ (s : State). s .device) (started l111 (one unpaired) (one unpaired) longTrace (replicate 256 40) refl (same-equal _ _ refl) (same-equal _ _ refl))
+abbrev opened : Point
+opened = pointOf (standing l111 (one unpaired) (replicate 256 40)) (alone l111 0)
 
-refused : EarlyState (standing l111 (one unpaired) (replicate 256 40) .device)
+starts : begin l111 (one unpaired) (lentLong l111) ≡ opened
+unfolding model-rules same
+starts = started l111 (one unpaired) (one unpaired) (lentLong l111) (replicate 256 40) refl (same-equal _ _ refl) (same-equal _ _ refl)
+
+refused : EarlyState opened
 unfolding model-rules earlyWriteOps earlyStateOps hasFence avoids elsewhere
 refused = (
   a-word,
   record {
     accepted = refl;
     left = apply (store 128 2) (one unpaired);
-    crash = last-alone (one unpaired) (take 38 (earlyWriteOps (freshSession l111) (one unpaired) (writes 0 0 aWord))) 128 2 refl refl refl;
+    crash = last-alone (one unpaired) (take 38 (earlyAt opened (writes 0 0 aWord))) 128 2 refl refl refl;
     refused = refl;
   },
 )
 
-pub early-state : EarlyState (start l111 (one unpaired) longTrace .device)
+pub early-state : EarlyState (begin l111 (one unpaired) (lentLong l111))
 early-state = subst EarlyState (sym starts) refused
 
 -- ---- from a paired one
 
 abbrev early : ℕ → Ops
-early n = take n (earlyWriteOps marked (image 1 2 1 new) (writes 0 8 aWord))
+early n = take n (earlyAt (saved (image 1 2 1 new) marked) (writes 0 8 aWord))
 
 -- the state's line arrives, the copied lines do not
 left-behind : CrashImage (image 0 1 0 old) (before ++ early 37) (image 1 2 2 new)
@@ -82,5 +85,5 @@ unseen = record {
   wrong = ⊎-elim (λ e. let z : _≡_ {A = ℕ} 40 1 = ap (λ (P : Page). getD P 0 0) e in omega arith) (λ w. no-checkpoint (w .0 .0));
 }
 
-pub early-state-unseen : EarlyStateUnseen (start l111 (one 0) longTrace)
-early-state-unseen = (calls-permitted, subst ShowsBackup (sym stands) unseen)
+pub early-state-unseen : EarlyStateUnseen (begin l111 (one 0) (lentLong l111))
+early-state-unseen = (calls-permitted (begin l111 (one 0) (lentLong l111)), subst ShowsBackup (sym stands) unseen)

@@ -13,15 +13,16 @@ use Rattle.model.specs.Open.{openStatus}
 use Rattle.model.specs.Crash.{CrashImage}
 use Rattle.model.specs.CrashExact.{hasFence, floorFrom}
 use Rattle.model.specs.Reference.{Page}
-use Rattle.model.specs.History.{State, outcome, start, step, run, Permitted}
+use Rattle.model.specs.History.{Permitted}
 use Rattle.model.specs.CrashSafety.{Recovers}
-use Rattle.cases.specs.Table.{longTrace, checkpoint, aWord}
-use Rattle.faults.specs.Faults.{l112, writeTwo, firstSession, firstMarked, FirstMarked, BothMarked}
+use Rattle.model.specs.Shares.{alone}
+use Rattle.cases.specs.Turns.{Point, pointOf, begin, callAt, answerAt, turn, turns, made}
+use Rattle.cases.specs.Table.{checkpoint, aWord}
+use Rattle.faults.specs.Faults.{lentLong, l112, writeTwo, firstSession, firstMarked, FirstMarked, BothMarked}
 use Rattle.model.proofs.Laws.Crash.Images.{crash-after}
-use Rattle.model.proofs.CrashSafety.{history-stands}
 use Rattle.cases.proofs.Compute.{model-rules, same, same-equal, small, small-bytes}
 use Rattle.cases.proofs.Shown.{shows, shows-between}
-use Rattle.cases.proofs.Starts.{standing, started}
+use Rattle.cases.proofs.Starts.{standing, started, turns-stand}
 use Rattle.faults.proofs.Alone.{elsewhere, avoids, first-lost}
 
 abbrev F : Image
@@ -37,23 +38,26 @@ new = replicate 248 0 ++ aWord ++ aWord ++ replicate 248 0
 abbrev half : Page
 half = replicate 248 0 ++ aWord ++ replicate 256 0
 
-opens : openStatus l112 F longTrace ≡ 0
+opens : openStatus l112 F (lentLong l112) ≡ 0
 unfolding model-rules
 opens = refl
 
-starts : start l112 F longTrace ≡ standing l112 F zeros
-unfolding model-rules same
-starts = started l112 F F longTrace zeros opens (same-equal _ _ refl) (same-equal _ _ refl)
+abbrev opened : Point
+opened = pointOf (standing l112 F zeros) (alone l112 0)
 
-permitted : Permitted writeTwo
+starts : begin l112 F (lentLong l112) ≡ opened
+unfolding model-rules same
+starts = started l112 F F (lentLong l112) zeros opens (same-equal _ _ refl) (same-equal _ _ refl)
+
+permitted : (p : Point) → Permitted (callAt p writeTwo)
 unfolding small
-permitted = small-bytes (aWord ++ aWord) refl
+permitted p = small-bytes (aWord ++ aWord) refl
 
 -- ---- with the fault
 
--- the state after the checkpoint
-abbrev saved : State
-saved = step (firstMarked (standing l112 F zeros)) checkpoint
+-- after the checkpoint
+abbrev saved : Point
+saved = turn (firstMarked opened) checkpoint
 
 -- the first word; and what comes after the second
 abbrev word : Ops
@@ -65,12 +69,12 @@ later =
     ∷ store 192 1 ∷ store 200 0 ∷ store 208 0 ∷ store 216 0 ∷ store 224 0 ∷ store 232 0 ∷ store 240 0 ∷ store 248 0 ∷ clwb 192 ∷ sfence
     ∷ store 0 1 ∷ clwb 0 ∷ sfence ∷ []
 
-plays : saved .device .played ≡ word ++ store 768 0x0807060504030201 ∷ later
-unfolding model-rules firstSession firstMarked
+plays : saved .state .device .played ≡ word ++ store 768 0x0807060504030201 ∷ later
+unfolding model-rules turn firstSession firstMarked
 plays = refl
 
-count : length (outcome (firstMarked (standing l112 F zeros) .device) checkpoint .ops) ≡ 18
-unfolding model-rules firstSession firstMarked
+count : length (answerAt (firstMarked opened) checkpoint .ops) ≡ 18
+unfolding model-rules turn firstSession firstMarked
 count = refl
 
 abbrev left : Image
@@ -89,18 +93,18 @@ lost =
     (subst (CrashImage (replay word F) (store 768 0x0807060504030201 ∷ later)) leaves
     (first-lost (replay word F) 768 0x0807060504030201 later refl refl refl))
 
-shows-half : Recovers l112 left longTrace half
+shows-half : Recovers l112 left (lentLong l112) half
 unfolding model-rules same small
-shows-half = shows l112 left longTrace half refl refl refl
+shows-half = shows l112 left (lentLong l112) half refl refl refl
 
-differs : half ≡ saved .model .checkpoint → ⊥
-unfolding model-rules firstSession firstMarked
+differs : half ≡ saved .state .model .checkpoint → ⊥
+unfolding model-rules turn firstSession firstMarked
 differs e = let z : _≡_ {A = ℕ} 0 1 = ap (λ (P : Page). getD P 256 0) e in omega arith
 
-wrong : FirstMarked (standing l112 F zeros)
-unfolding model-rules firstSession firstMarked
+wrong : FirstMarked opened
+unfolding model-rules turn firstSession firstMarked
 wrong = record {
-  permitted = permitted;
+  permitted = permitted opened;
   count = count;
   shows = record {
     permitted = tt;
@@ -114,7 +118,7 @@ wrong = record {
   mixed = λ e. let z : _≡_ {A = ℕ} 1 0 = ap (λ (P : Page). getD P 248 0) e in omega arith;
 }
 
-pub first-marked : FirstMarked (start l112 F longTrace)
+pub first-marked : FirstMarked (begin l112 F (lentLong l112))
 first-marked = subst FirstMarked (sym starts) wrong
 
 -- ---- with both blocks dirty
@@ -123,15 +127,16 @@ bytes : small F ≡ true
 unfolding model-rules small
 bytes = refl
 
-page : run (standing l112 F zeros) (writeTwo ∷ checkpoint ∷ []) .model .checkpoint ≡ new
-unfolding model-rules
+page : turns opened (writeTwo ∷ checkpoint ∷ []) .state .model .checkpoint ≡ new
+unfolding model-rules turn turns
 page = refl
 
-pub both-marked : BothMarked (start l112 F longTrace)
-unfolding run
-both-marked = (
-  (permitted, (tt, tt)),
-  shows-between (run (start l112 F longTrace) (writeTwo ∷ checkpoint ∷ []))
-      (history-stands l112 F longTrace (small-bytes F bytes) opens (writeTwo ∷ checkpoint ∷ []) (permitted, (tt, tt))) new
-      (ap (λ (s : State). run s (writeTwo ∷ checkpoint ∷ []) .model .checkpoint) starts ∙ page),
-)
+pub both-marked : BothMarked (begin l112 F (lentLong l112))
+unfolding made
+both-marked =
+    let p : Point = begin l112 F (lentLong l112) in (
+      (permitted p, (tt, tt)),
+      shows-between (turns p (writeTwo ∷ checkpoint ∷ []) .state)
+          (turns-stand l112 F (lentLong l112) (small-bytes F bytes) opens (writeTwo ∷ checkpoint ∷ []) (permitted p, (tt, tt))) new
+          (ap (λ (p : Point). turns p (writeTwo ∷ checkpoint ∷ []) .state .model .checkpoint) starts ∙ page),
+    )

@@ -1,5 +1,5 @@
 -- Fault 4: the backup segment of a main segment in state 2 is taken away from it.
-use mathlib.Core.Path.{_≡_, refl, sym, ap, subst}
+use mathlib.Core.Path.{_≡_, refl, sym, subst}
 use mathlib.Core.List.{[], _∷_, _++_}
 use lib.ListN.{replicate}
 use Rattle.model.specs.Words.{Image}
@@ -7,9 +7,10 @@ use Rattle.model.specs.Layout.{unpaired}
 use Rattle.model.specs.Ops.{store, apply}
 use Rattle.model.specs.Format.{container}
 use Rattle.model.specs.Reference.{Page}
-use Rattle.model.specs.History.{State, start}
-use Rattle.cases.specs.Table.{l211, longTrace}
-use Rattle.faults.specs.Faults.{two, inactivePlan, inactiveWriteOps, InactiveLine}
+use Rattle.model.specs.Shares.{alone}
+use Rattle.cases.specs.Turns.{Point, pointOf, begin}
+use Rattle.cases.specs.Table.{l211}
+use Rattle.faults.specs.Faults.{lentLong, two, inactivePlan, inactiveOps, inactiveStatus, inactiveWriteOps, InactiveLine}
 use Rattle.model.proofs.Laws.Crash.Images.{newest}
 use Rattle.cases.proofs.Compute.{model-rules, same, same-equal}
 use Rattle.cases.proofs.Starts.{standing, started}
@@ -23,12 +24,15 @@ opened =
 abbrev page : Page
 page = replicate 256 90 ++ replicate 256 41
 
-starts : start l211 two longTrace .device ≡ standing l211 opened page .device
-unfolding model-rules same
-starts = ap (λ (s : State). s .device) (started l211 two opened longTrace page refl (same-equal _ _ refl) (same-equal _ _ refl))
+abbrev restored : Point
+restored = pointOf (standing l211 opened page) (alone l211 0)
 
-refused : InactiveLine (standing l211 opened page .device)
-unfolding model-rules inactivePlan inactiveWriteOps
+starts : begin l211 two (lentLong l211) ≡ restored
+unfolding model-rules same
+starts = started l211 two opened (lentLong l211) page refl (same-equal _ _ refl) (same-equal _ _ refl)
+
+refused : InactiveLine restored
+unfolding model-rules inactivePlan inactiveOps inactiveStatus inactiveWriteOps
 refused = (
   refl,
   record {
@@ -39,5 +43,5 @@ refused = (
   },
 )
 
-pub inactive-line : InactiveLine (start l211 two longTrace .device)
+pub inactive-line : InactiveLine (begin l211 two (lentLong l211))
 inactive-line = subst InactiveLine (sym starts) refused

@@ -11,8 +11,10 @@ use Rattle.model.specs.Layout.{unpaired}
 use Rattle.model.specs.Ops.{store, apply}
 use Rattle.model.specs.Format.{container}
 use Rattle.model.specs.Reference.{Page}
-use Rattle.model.specs.History.{State, calledOps}
+use Rattle.model.specs.History.{calledOps}
 use Rattle.model.specs.CrashSafety.{Reads}
+use Rattle.model.specs.Shares.{alone}
+use Rattle.cases.specs.Turns.{Point, pointOf, callAt}
 use Rattle.cases.specs.Table.{write, aWord}
 use Rattle.faults.specs.Faults.{l111, one, skippingAction, skippingOps, skippingOpened, skippingStart, SkippedCopy}
 use Rattle.model.proofs.Laws.Crash.Images.{newest}
@@ -22,8 +24,8 @@ use Rattle.cases.proofs.Starts.{standing}
 use Rattle.faults.proofs.Shown.{only-block}
 use Rattle.faults.proofs.TwoCalls.{a-word}
 
-abbrev stale : State
-stale = standing l111 (one 0) (replicate 256 40)
+abbrev stale : Point
+stale = pointOf (standing l111 (one 0) (replicate 256 40)) (alone l111 0)
 
 starts : skippingStart l111 (one 0) ≡ stale
 unfolding model-rules skippingAction skippingOps skippingStart
@@ -49,7 +51,7 @@ unfolding model-rules
 wrong = record {
   permitted = (a-word, lit< tt);
   left = left;
-  crash = newest (one 0) (calledOps (stale .device) (write 0 0 aWord) 2);
+  crash = newest (one 0) (calledOps (stale .state .device) (callAt stale (write 0 0 aWord)) 2);
   accepted = refl;
   page = replicate 256 90;
   shown = subst (λ (I : Image). Reads l111 I (replicate 256 90) (replicate 256 90)) (sym recovers) shown;

@@ -14,10 +14,12 @@ use Rattle.model.specs.Format.{container}
 use Rattle.model.specs.Write.{writeOps}
 use Rattle.model.specs.Checkpoint.{checkpointOps}
 use Rattle.model.specs.Reference.{Page}
-use Rattle.model.specs.History.{State, start, step, run, openedImage, AllPermitted}
+use Rattle.model.specs.History.{openedImage, AllPermitted}
 use Rattle.model.specs.CrashSafety.{Reads}
-use Rattle.cases.specs.Table.{longTrace, writes, write, checkpoint, aWord}
-use Rattle.faults.specs.Faults.{l111, one, twoCalls}
+use Rattle.model.specs.Shares.{alone}
+use Rattle.cases.specs.Turns.{Point, pointOf, begin, turn, turns, made}
+use Rattle.cases.specs.Table.{writes, write, checkpoint, aWord}
+use Rattle.faults.specs.Faults.{lentLong, l111, one, twoCalls}
 use Rattle.cases.proofs.Compute.{model-rules, same, same-equal, small, small-bytes}
 use Rattle.cases.proofs.Starts.{standing, started}
 use Rattle.faults.proofs.Shown.{only-block}
@@ -47,35 +49,39 @@ first = writeOps (freshSession l111) (image 0 1 0 old) (writes 0 0 aWord)
 abbrev pub before : Ops
 before = first ++ checkpointOps dirty (image 0 2 0 new)
 
-abbrev written : Image → State
-written I = record {
+-- the write is charged, and the checkpoint clears that
+abbrev written : Image → Point
+written I = pointOf (record {
   device = record { layout = l111; durable = image 0 1 0 old; played = first; image = I; session = dirty };
   model = record { working = new; checkpoint = old };
-}
+}) (alone l111 1)
 
 -- after the two calls, with this image and this session
-abbrev pub saved : Image → Session → State
-saved I s = record {
+abbrev pub saved : Image → Session → Point
+saved I s = pointOf (record {
   device = record { layout = l111; durable = image 0 1 0 old; played = before; image = I; session = s };
   model = record { working = new; checkpoint = new };
-}
+}) (alone l111 0)
 
-starts : start l111 (one 0) longTrace ≡ standing l111 (image 0 1 0 old) old
-unfolding model-rules same
-starts = started l111 (one 0) (image 0 1 0 old) longTrace old refl (same-equal _ _ refl) (same-equal _ _ refl)
+abbrev opened : Point
+opened = pointOf (standing l111 (image 0 1 0 old) old) (alone l111 0)
 
-writes-first : step (standing l111 (image 0 1 0 old) old) (write 0 0 aWord) ≡ written (image 0 2 0 new)
+starts : begin l111 (one 0) (lentLong l111) ≡ opened
 unfolding model-rules same
+starts = started l111 (one 0) (image 0 1 0 old) (lentLong l111) old refl (same-equal _ _ refl) (same-equal _ _ refl)
+
+writes-first : turn opened (write 0 0 aWord) ≡ written (image 0 2 0 new)
+unfolding model-rules turn same
 writes-first = ap written (same-equal _ _ refl)
 
-saves : step (written (image 0 2 0 new)) checkpoint ≡ saved (image 1 2 1 new) marked
-unfolding model-rules same
+saves : turn (written (image 0 2 0 new)) checkpoint ≡ saved (image 1 2 1 new) marked
+unfolding model-rules turn same
 saves = ap (λ (I : Image). saved I marked) (same-equal _ _ refl)
 
-pub stands : run (start l111 (one 0) longTrace) twoCalls ≡ saved (image 1 2 1 new) marked
-unfolding run
+pub stands : turns (begin l111 (one 0) (lentLong l111)) twoCalls ≡ saved (image 1 2 1 new) marked
+unfolding turns
 stands =
-    ap (λ (s : State). step (step s (write 0 0 aWord)) checkpoint) starts ∙ ap (λ (s : State). step s checkpoint) writes-first ∙ saves
+    ap (λ (p : Point). turn (turn p (write 0 0 aWord)) checkpoint) starts ∙ ap (λ (p : Point). turn p checkpoint) writes-first ∙ saves
 
 -- the image that their operations leave
 pub replayed : replay before (image 0 1 0 old) ≡ image 1 2 1 new
@@ -87,12 +93,13 @@ pub a-word : Bytes aWord
 unfolding small
 a-word = small-bytes aWord refl
 
-pub calls-permitted : AllPermitted twoCalls
-calls-permitted = (a-word, (tt, tt))
+pub calls-permitted : (p : Point) → AllPermitted (made p twoCalls)
+unfolding made
+calls-permitted p = (a-word, (tt, tt))
 
 -- ---- state 2 again, with the new bytes in the main segment and the old ones in its backup
 
-recovers : openedImage l111 (image 1 2 2 new) longTrace ≡ image 1 2 2 old
+recovers : openedImage l111 (image 1 2 2 new) (lentLong l111) ≡ image 1 2 2 old
 unfolding model-rules same
 recovers = same-equal _ _ refl
 
@@ -100,5 +107,5 @@ old-reads : Reads l111 (image 1 2 2 old) old old
 unfolding model-rules
 old-reads = only-block (record { status = refl; working = refl; checkpoint = inl refl })
 
-pub old-shown : Reads l111 (openedImage l111 (image 1 2 2 new) longTrace) old old
+pub old-shown : Reads l111 (openedImage l111 (image 1 2 2 new) (lentLong l111)) old old
 old-shown = subst (λ (I : Image). Reads l111 I old old) (sym recovers) old-reads

@@ -18,10 +18,11 @@ use Rattle.model.specs.Open.{openStatus, openOutcome}
 use Rattle.model.specs.Crash.{KeepsDurable, AgreeOn, CrashImage}
 use Rattle.model.specs.CrashExact.{hasFence, floorFrom, floor}
 use Rattle.model.specs.Reference.{Page}
-use Rattle.model.specs.History.{State, run}
 use Rattle.model.specs.FlushDurable.{formatStores}
-use Rattle.cases.specs.Table.{l211, longTrace, aWord}
-use Rattle.faults.specs.Faults.{twoCalls}
+use Rattle.model.specs.Shares.{alone}
+use Rattle.cases.specs.Turns.{Point, pointOf, turn, turns}
+use Rattle.cases.specs.Table.{l211, aWord}
+use Rattle.faults.specs.Faults.{lentLong, twoCalls}
 use Rattle.faults.specs.Unflushed.{all255, firstOpening, RefusedLater, older, HalfOld, Unflushed}
 use Rattle.model.proofs.Laws.Words.{word-cong}
 use Rattle.model.proofs.Laws.Crash.Floor.{floor-durable, durable-floor, durable-all}
@@ -64,24 +65,27 @@ formats : formatOutcome l211 all255 .status ≡ 0
 unfolding model-rules
 formats = refl
 
-opens : openStatus l211 (formatted l211) longTrace ≡ 0
+opens : openStatus l211 (formatted l211) (lentLong l211) ≡ 0
 unfolding model-rules
 opens = refl
 
-starts : firstOpening ≡ standing l211 (formatted l211) zeros
-unfolding model-rules same
-starts = started l211 (formatted l211) (formatted l211) longTrace zeros opens (same-equal _ _ refl) (same-equal _ _ refl)
+abbrev opened : Point
+opened = pointOf (standing l211 (formatted l211) zeros) (alone l211 0)
 
-plays : run (standing l211 (formatted l211) zeros) twoCalls .device .played ≡ called
-unfolding model-rules
+starts : firstOpening ≡ opened
+unfolding model-rules same
+starts = started l211 (formatted l211) (formatted l211) (lentLong l211) zeros opens (same-equal _ _ refl) (same-equal _ _ refl)
+
+plays : turns opened twoCalls .state .device .played ≡ called
+unfolding model-rules turn turns
 plays = refl
 
-saves : run (standing l211 (formatted l211) zeros) twoCalls .model .checkpoint ≡ aWord ++ replicate 504 0
-unfolding model-rules
+saves : turns opened twoCalls .state .model .checkpoint ≡ aWord ++ replicate 504 0
+unfolding model-rules turn turns
 saves = refl
 
 abbrev played : Ops
-played = formatStores l211 ++ openOutcome l211 (formatted l211) longTrace .ops ++ called
+played = formatStores l211 ++ openOutcome l211 (formatted l211) (lentLong l211) .ops ++ called
 
 sizes-lost : floor 1 played ≡ 0
 unfolding model-rules formatStores floorFrom hasFence
@@ -92,7 +96,7 @@ unfolding wordOf littleEndian
 other-sizes = refl
 
 -- what the line of the sizes holds decides, wherever the rest stands
-refused : (H : Image) → length H ≡ 1280 → AgreeOn 1 H all255 → openStatus l211 H longTrace ≡ 3
+refused : (H : Image) → length H ≡ 1280 → AgreeOn 1 H all255 → openStatus l211 H (lentLong l211) ≡ 3
 unfolding openStatus firstError sizesOk inRange imageSize headerOk
 refused H long lost =
     let sizes : wordAt H mainsAt ≡ 0xffffffffffffffff = word-cong (byteAt H) (byteAt all255) mainsAt (λ i low high. lost i (omega arith)) ∙ other-sizes in
@@ -102,11 +106,11 @@ refused-later : RefusedLater
 refused-later = record {
   formats = format-by-stores l211 all255 formats;
   opens = opens;
-  permitted = calls-permitted;
-  saved = ap (λ (s : State). run s twoCalls .model .checkpoint) starts ∙ saves;
+  permitted = calls-permitted firstOpening;
+  saved = ap (λ (p : Point). turns p twoCalls .state .model .checkpoint) starts ∙ saves;
   left = oldest all255 played .0;
-  crash = subst (λ (X : Ops). CrashImage all255 (formatStores l211 ++ openOutcome l211 (formatted l211) longTrace .ops ++ X) (oldest all255 played .0))
-      (sym (ap (λ (s : State). run s twoCalls .device .played) starts ∙ plays)) (oldest all255 played .1);
+  crash = subst (λ (X : Ops). CrashImage all255 (formatStores l211 ++ openOutcome l211 (formatted l211) (lentLong l211) .ops ++ X) (oldest all255 played .0))
+      (sym (ap (λ (p : Point). turns p twoCalls .state .device .played) starts ∙ plays)) (oldest all255 played .1);
   refused = refused (oldest all255 played .0) (oldest all255 played .1 .long) (line-lost all255 played 1 sizes-lost);
 }
 
@@ -149,10 +153,10 @@ half-old : HalfOld
 unfolding model-rules same small
 half-old = record {
   formats = format-by-stores l211 older refl;
-  before = shows l211 older longTrace _ refl refl refl;
+  before = shows l211 older (lentLong l211) _ refl refl refl;
   left = left;
   crash = subst (λ (X : Ops). CrashImage older X left) (sym parts) (subst (CrashImage older (metadata ++ block)) arrives (arrives-alone older metadata block apart));
-  shown = shows l211 left longTrace _ refl refl refl;
+  shown = shows l211 left (lentLong l211) _ refl refl refl;
 }
 
 pub unflushed : Unflushed

@@ -1,6 +1,7 @@
 -- Faults that a reader could mistake for good work (SPECIFICATION 18.1). Each fault is model's own definition with one change,
 -- and each statement says that demand 3 then fails: a crash may leave an image that opening refuses, or of which it shows a
--- page that is not permitted, which nobody notices. Proved in proofs/.
+-- page that is not permitted, which nobody notices. One client writes, whose share and limit are all backup segments, and what a faulty
+-- call does with its record is right. Proved in proofs/.
 use Prim.Native.Nat.{ℕ, _+_}
 use mathlib.Core.Path.{_≡_}
 use mathlib.Core.Bool.{Bool, true, false, cond}
@@ -15,28 +16,35 @@ use Rattle.model.specs.declared.Plan.the-variants.{NoCopy, OwnBackup, NewBackup
 use Rattle.model.specs.Range.{cat}
 use Rattle.model.specs.Words.{Image}
 use Rattle.model.specs.Layout.{lineSize, unpaired, ssBackup}
-use Rattle.model.specs.Status.{served}
-use Rattle.model.specs.Container.{activeLine, inactiveLine, segState, backupToMain, isPaired, pairedBackup, anyFree, newBackup, byState, checkpointBytes}
+use Rattle.model.specs.Status.{firstError, served}
+use Rattle.model.specs.Container.{activeLine, inactiveLine, segState, backupToMain, isPaired, pairedBackup, anyFree, freeBackups, newBackup, byState, checkpointBytes}
 use Rattle.model.specs.Session.{dirtyWord, freshSession, withDirty}
 use Rattle.model.specs.Ops.{clwb, sfence, Ops, replay, storeByte}
+use Rattle.model.specs.Outcome.{Lent, lent}
 use Rattle.model.specs.Format.{container, formatted}
 use Rattle.model.specs.Open.{actionOps, openStatus}
-use Rattle.model.specs.Write.{WriteArgs, needsCopy, copyPlan, copies, noneFree, backupOps, copyOnWriteOps, spanOps, writeStatus}
+use Rattle.model.specs.Write.{WriteArgs, needsCopy, copyPlan, copies, backupOps, copyOnWriteOps, spanOps, earlyErrors, lateErrors, writeStatus}
 use Rattle.model.specs.Crash.{CrashImage}
 use Rattle.model.specs.Reference.{Page}
-use Rattle.model.specs.History.{Call, Device, State, outcome, start, step, run, openedImage, Permitted, AllPermitted}
+use Rattle.model.specs.History.{Device, State, openedImage, Permitted, AllPermitted}
 use Rattle.model.specs.CrashSafety.{Reads, Moment, between, during, PermittedAt, playedAt, MayShow}
-use Rattle.cases.specs.Table.{sizes, l211, longTrace, writes, write, checkpoint, aWord}
+use Rattle.model.specs.Shares.{alone}
+use Rattle.cases.specs.Turns.{Point, pointOf, begin, Turn, callAt, answerAt, turn, turns, made}
+use Rattle.cases.specs.Table.{sizes, l211, longTrace, lentAlone, writes, write, checkpoint, aWord}
 use Rattle.cases.specs.Cut.{OnlyShows}
 
 -- ---- how demand 3 fails
 
+-- what an opening is lent
+abbrev pub lentLong : Layout → Lent
+lentLong l = lentAlone l longTrace
+
 -- what was durable on the device d is accepted, and a crash after the operations O may leave an image that opening refuses
 pub record Refuses (d : Device) (O : Ops) : Type 0 where
-  pub accepted : openStatus (d .layout) (d .durable) longTrace ≡ 0
+  pub accepted : openStatus (d .layout) (d .durable) (lentLong (d .layout)) ≡ 0
   pub left : Image
   pub crash : CrashImage (d .durable) (d .played ++ O) left
-  pub refused : openStatus (d .layout) left longTrace ≡ 4
+  pub refused : openStatus (d .layout) left (lentLong (d .layout)) ≡ 4
 
 -- a crash at this moment of the state s, where O was played since all was durable, may leave an image that opening accepts and
 -- `recover` takes to one whose reads show a page, and it is none of those that demand 3 permits
@@ -44,7 +52,7 @@ pub record ShowsOther (recover : Image → Image) (s : State) (m : Moment) (O : 
   pub permitted : PermittedAt (s .device) m
   pub left : Image
   pub crash : CrashImage (s .device .durable) O left
-  pub accepted : openStatus (s .device .layout) left longTrace ≡ 0
+  pub accepted : openStatus (s .device .layout) left (lentLong (s .device .layout)) ≡ 0
   pub page : Page
   pub shown : Reads (s .device .layout) (recover left) page page
   pub wrong : MayShow s m page → ⊥
@@ -53,18 +61,18 @@ pub record ShowsOther (recover : Image → Image) (s : State) (m : Moment) (O : 
 abbrev pub CalledShowsOther : (Image → Image) → State → Moment → Type 0
 CalledShowsOther recover s m = ShowsOther recover s m (playedAt (s .device) m)
 
--- a state with another session
-abbrev pub withSession : State → Session → State
-withSession s x = record {
+-- a history that stands there with another session
+abbrev pub withSession : Point → Session → Point
+withSession p x = pointOf (record {
   device = record {
-    layout = s .device .layout;
-    durable = s .device .durable;
-    played = s .device .played;
-    image = s .device .image;
+    layout = p .state .device .layout;
+    durable = p .state .device .durable;
+    played = p .state .device .played;
+    image = p .state .device .image;
     session = x;
   };
-  model = s .model;
-}
+  model = p .state .model;
+}) (p .clients)
 
 -- ---- start images: main segments hold 40 and 41, the backup segment 90
 
@@ -83,39 +91,46 @@ earlyStateOps l I word i p =
     cond (copies p) (backupOps l I word i p ++ storeByte I (activeLine I + i) ssBackup ∷ sfence ∷ clwb (activeLine I) ∷ sfence ∷ []) []
 
 -- the operations of a write with this fault; what it refuses is not changed
-unfoldable pub earlyWriteOps : Session → Image → WriteArgs → Ops
-earlyWriteOps s I w =
-    cond (served (writeStatus s I w longTrace))
+unfoldable pub earlyWriteOps : Session → Image → WriteArgs → Lent → Ops
+earlyWriteOps s I w k =
+    cond (served (writeStatus s I w k))
     (earlyStateOps (s .layout) I (dirtyWord s (w .main)) (w .main) (copyPlan s I (w .main)) ++ spanOps (s .layout) I w)
     []
 
+-- so where a history stands
+abbrev pub earlyAt : Point → WriteArgs → Ops
+earlyAt p w = earlyWriteOps (p .state .device .session) (p .state .device .image) w (lent (p .clients) longTrace)
+
 -- from an unpaired main segment: a word written, cut after 39 of its 43 operations
-abbrev pub EarlyState : Device → Type 0
-EarlyState d = Permitted (write 0 0 aWord) × Refuses d (take 39 (earlyWriteOps (d .session) (d .image) (writes 0 0 aWord)))
+abbrev pub EarlyState : Point → Type 0
+EarlyState p = Permitted (callAt p (write 0 0 aWord)) × Refuses (p .state .device) (take 39 (earlyAt p (writes 0 0 aWord)))
 
 -- a word written and a checkpoint, for what follows
-abbrev pub twoCalls : List Call
+abbrev pub twoCalls : List Turn
 twoCalls = write 0 0 aWord ∷ checkpoint ∷ []
 
 -- a word written where these leave a paired main segment, in state 1 with its block dirty and its backup behind, and cut
 -- after 37 of its 41 operations: opening accepts what is left and shows the backup's old bytes
-abbrev pub ShowsBackup : State → Type 0
-ShowsBackup s =
-    ShowsOther (λ H. openedImage l111 H longTrace) s (during (write 0 8 aWord) 37)
-    (s .device .played ++ take 37 (earlyWriteOps (s .device .session) (s .device .image) (writes 0 8 aWord)))
+abbrev pub ShowsBackup : Point → Type 0
+ShowsBackup p =
+    ShowsOther (λ H. openedImage l111 H (lentLong l111)) (p .state) (during (callAt p (write 0 8 aWord)) 37)
+    (p .state .device .played ++ take 37 (earlyAt p (writes 0 8 aWord)))
 
-abbrev pub EarlyStateUnseen : State → Type 0
-EarlyStateUnseen s = AllPermitted twoCalls × ShowsBackup (run s twoCalls)
+abbrev pub EarlyStateUnseen : Point → Type 0
+EarlyStateUnseen p = AllPermitted (made p twoCalls) × ShowsBackup (turns p twoCalls)
 
 -- ---- 2. marks cleared at a checkpoint
 
-unfoldable pub marksCleared : State → State
-marksCleared s = withSession s (freshSession (s .device .session .layout))
+unfoldable pub marksCleared : Point → Point
+marksCleared p = withSession p (freshSession (p .state .device .session .layout))
 
--- from a paired main segment: the two calls, another word written, this cut after 2 of its 5 operations
-abbrev pub ClearedMarks : State → Type 0
-ClearedMarks s =
-    AllPermitted twoCalls × CalledShowsOther (λ H. openedImage l111 H longTrace) (marksCleared (run s twoCalls)) (during (write 0 8 aWord) 2)
+-- another word written and cut after 2 of its 5 operations: opening accepts what is left and shows the backup's old bytes
+abbrev pub ShowsStale : Point → Type 0
+ShowsStale p = CalledShowsOther (λ H. openedImage l111 H (lentLong l111)) (p .state) (during (callAt p (write 0 8 aWord)) 2)
+
+-- from a paired main segment: the two calls, then that
+abbrev pub ClearedMarks : Point → Type 0
+ClearedMarks p = AllPermitted (made p twoCalls) × ShowsStale (marksCleared (turns p twoCalls))
 
 -- ---- 3. opening skips the copy to the backup segment
 
@@ -131,19 +146,19 @@ skippingOps l I =
 abbrev pub skippingOpened : Layout → Image → Image
 skippingOpened l I = replay (skippingOps l I) I
 
-unfoldable pub skippingStart : Layout → Image → State
-skippingStart l I = record {
+unfoldable pub skippingStart : Layout → Image → Point
+skippingStart l I = pointOf (record {
   device = record { layout = l; durable = skippingOpened l I; played = []; image = skippingOpened l I; session = freshSession l };
   model = record { working = checkpointBytes l I (activeLine I); checkpoint = checkpointBytes l I (activeLine I) };
-}
+}) (alone l 0)
 
 -- from a paired main segment whose backup is stale: a word written, cut after 2 of its 5 operations
-abbrev pub SkippedCopy : State → Type 0
-SkippedCopy s = CalledShowsOther (skippingOpened l111) s (during (write 0 0 aWord) 2)
+abbrev pub SkippedCopy : Point → Type 0
+SkippedCopy p = CalledShowsOther (skippingOpened l111) (p .state) (during (callAt p (write 0 0 aWord)) 2)
 
--- ---- 4. whether a backup segment is free, and which is the new one, judged by the inactive line
+-- ---- 4. whether a backup segment is free, how many are, and which is the new one, judged by the inactive line
 
--- the right plan with the states of this line in the place of the active line's, and the operations of a write by it
+-- the right plan with the states of this line in the place of the active line's
 unfoldable pub inactivePlan : Session → Image → ℕ → Plan
 inactivePlan s I i =
     cond (needsCopy s I i)
@@ -152,10 +167,19 @@ inactivePlan s I i =
     (NewBackup (newBackup (s .layout) (segState I (inactiveLine I)) (backupToMain I))) NoneFree))
     NoCopy
 
-unfoldable pub inactiveWriteOps : Session → Image → WriteArgs → Ops
-inactiveWriteOps s I w =
-    cond (noneFree (inactivePlan s I (w .main))) []
-    (copyOnWriteOps (s .layout) I (dirtyWord s (w .main)) (w .main) (inactivePlan s I (w .main)) ++ spanOps (s .layout) I w)
+-- the operations of a write by it, and what that refuses
+unfoldable pub inactiveOps : Session → Image → WriteArgs → Ops
+inactiveOps s I w =
+    copyOnWriteOps (s .layout) I (dirtyWord s (w .main)) (w .main) (inactivePlan s I (w .main)) ++ spanOps (s .layout) I w
+
+unfoldable pub inactiveStatus : Session → Image → WriteArgs → Lent → ℕ
+inactiveStatus s I w k =
+    firstError (earlyErrors s I (k .clients) w
+    ++ lateErrors (inactivePlan s I (w .main)) (k .clients) (w .client) (freeBackups (s .layout) (segState I (inactiveLine I)) (backupToMain I))
+    (inactiveOps s I w) (k .trace))
+
+unfoldable pub inactiveWriteOps : Session → Image → WriteArgs → Lent → Ops
+inactiveWriteOps s I w k = cond (served (inactiveStatus s I w k)) (inactiveOps s I w) []
 
 -- main segment 0 in state 2 with the only backup, but not so on the inactive line, and main segment 1 in state 1
 abbrev pub two : Image
@@ -164,10 +188,11 @@ two =
     (replicate 256 40 ++ replicate 256 41 ++ replicate 256 90)
 
 -- a word written to main segment 1, which a right write refuses with 9; this one, cut after its first operation
-abbrev pub InactiveLine : Device → Type 0
-InactiveLine d =
-    (writeStatus (d .session) (d .image) (writes 1 0 aWord) longTrace ≡ 9)
-    × Refuses d (take 1 (inactiveWriteOps (d .session) (d .image) (writes 1 0 aWord)))
+abbrev pub InactiveLine : Point → Type 0
+InactiveLine p =
+    let d : Device = p .state .device in
+    (answerAt p (write 1 0 aWord) .status ≡ 9)
+    × Refuses d (take 1 (inactiveWriteOps (d .session) (d .image) (writes 1 0 aWord) (lent (p .clients) longTrace)))
 
 -- ---- 5. only the first block of a span becomes dirty
 
@@ -178,36 +203,36 @@ l112 = sizes 1 1 2
 abbrev pub twoWords : WriteArgs
 twoWords = writes 0 248 (aWord ++ aWord)
 
-abbrev pub writeTwo : Call
+abbrev pub writeTwo : Turn
 writeTwo = write 0 248 (aWord ++ aWord)
 
 -- the session after a write with this fault
 unfoldable pub firstSession : Session → Image → WriteArgs → Session
 firstSession s I w = withDirty s (w .main) (w .block) 1 (cond (needsCopy s I (w .main)) 0 (dirtyWord s (w .main)))
 
-unfoldable pub firstMarked : State → State
-firstMarked s = withSession (step s writeTwo) (firstSession (s .device .session) (s .device .image) twoWords)
+unfoldable pub firstMarked : Point → Point
+firstMarked p = withSession (turn p writeTwo) (firstSession (p .state .device .session) (p .state .device .image) twoWords)
 
 -- the two words written, and a checkpoint, played whole, which writes back block 0 alone: opening then shows a page that is neither
 -- this checkpoint nor the one before
-pub record FirstMarked (s : State) : Type 0 where
-  pub permitted : Permitted writeTwo
-  pub count : length (outcome (firstMarked s .device) checkpoint .ops) ≡ 18
-  pub shows : CalledShowsOther (λ H. openedImage l112 H longTrace) (step (firstMarked s) checkpoint) between
-  pub mixed : shows .page ≡ s .model .checkpoint → ⊥
+pub record FirstMarked (p : Point) : Type 0 where
+  pub permitted : Permitted (callAt p writeTwo)
+  pub count : length (answerAt (firstMarked p) checkpoint .ops) ≡ 18
+  pub shows : CalledShowsOther (λ H. openedImage l112 H (lentLong l112)) (turn (firstMarked p) checkpoint .state) between
+  pub mixed : shows .page ≡ p .state .model .checkpoint → ⊥
 
 -- with both blocks dirty the same calls leave what shows this checkpoint alone
-abbrev pub BothMarked : State → Type 0
-BothMarked s =
-    AllPermitted (writeTwo ∷ checkpoint ∷ [])
-    × OnlyShows (run s (writeTwo ∷ checkpoint ∷ [])) between (replicate 248 0 ++ aWord ++ aWord ++ replicate 248 0)
+abbrev pub BothMarked : Point → Type 0
+BothMarked p =
+    AllPermitted (made p (writeTwo ∷ checkpoint ∷ []))
+    × OnlyShows (turns p (writeTwo ∷ checkpoint ∷ []) .state) between (replicate 248 0 ++ aWord ++ aWord ++ replicate 248 0)
 
 -- THE FIVE FAULTS, the first both ways, and the last beside what is right
 pub record Faults : Type 0 where
-  pub earlyState : EarlyState (start l111 (one unpaired) longTrace .device)
-  pub earlyStateUnseen : EarlyStateUnseen (start l111 (one 0) longTrace)
-  pub clearedMarks : ClearedMarks (start l111 (one 0) longTrace)
+  pub earlyState : EarlyState (begin l111 (one unpaired) (lentLong l111))
+  pub earlyStateUnseen : EarlyStateUnseen (begin l111 (one 0) (lentLong l111))
+  pub clearedMarks : ClearedMarks (begin l111 (one 0) (lentLong l111))
   pub skippedCopy : SkippedCopy (skippingStart l111 (one 0))
-  pub inactiveLine : InactiveLine (start l211 two longTrace .device)
-  pub firstMarked : FirstMarked (start l112 (formatted l112) longTrace)
-  pub bothMarked : BothMarked (start l112 (formatted l112) longTrace)
+  pub inactiveLine : InactiveLine (begin l211 two (lentLong l211))
+  pub firstMarked : FirstMarked (begin l112 (formatted l112) (lentLong l112))
+  pub bothMarked : BothMarked (begin l112 (formatted l112) (lentLong l112))
