@@ -4,6 +4,7 @@
 // was measured. The file `stdout` has the expected lines, worked out by hand from the specification. The cuts of P4, and those of a
 // restart like this one, are tried by the second program (rust/, `bench cases` and `restored levels`), over every permitted image, and
 // those of the long writes (`long writes`) over every image where there are 256 or fewer, and over samples where there are more.
+use clients::CLIENT_WORDS;
 use libc::STDOUT_FILENO;
 use model::Answer;
 use model::Layout;
@@ -321,6 +322,13 @@ fn back(image: &[u8], layout: Layout, saved: bool, call: Call) -> u64 {
 
 // ---- histories
 
+// Where a history stands: the card, and the record of its one console, which makes every write and whose share and limit are all
+// spares.
+struct Stand {
+    session: Session,
+    client: [u64; CLIENT_WORDS],
+}
+
 // A call: a save, or a write of so many bytes.
 struct Call {
     case: u64,
@@ -400,11 +408,18 @@ fn row(i: usize) -> Call {
     }
 }
 
-// Makes a call.
-fn make(image: &mut [u8], trace: &mut [u64], session: Session, call: Call, bytes: &[u8]) -> Answer {
+// Makes a call, which is lent a run of one record.
+fn make(
+    image: &mut [u8],
+    trace: &mut [u64],
+    session: Session,
+    clients: &mut [[u64; CLIENT_WORDS]],
+    call: Call,
+    bytes: &[u8],
+) -> Answer {
     print_case(call.case);
     if call.checkpoint {
-        let saved = driver::step_checkpoint(image, session, trace);
+        let saved = driver::step_checkpoint(image, session, clients, trace);
         print_answer(b" save=", saved);
         return saved;
     }
@@ -415,6 +430,8 @@ fn make(image: &mut [u8], trace: &mut [u64], session: Session, call: Call, bytes
     let written = driver::step_write(
         image,
         session,
+        clients,
+        0,
         call.main,
         call.block,
         call.offset,
@@ -426,25 +443,53 @@ fn make(image: &mut [u8], trace: &mut [u64], session: Session, call: Call, bytes
 }
 
 // A call of a history, made and looked at.
-fn step(image: &mut [u8], trace: &mut [u64], session: Session, call: Call) -> Session {
+fn step(image: &mut [u8], trace: &mut [u64], stand: Stand, call: Call) -> Stand {
     let mut bytes = [0u8; MOST_BYTES];
     fill(&mut bytes, call.case);
     let given = first_of(&bytes, call.length);
-    let answer = make(image, trace, session, call, given);
+    let session = stand.session;
+    let client = stand.client;
+    let mut clients = [client];
+    let answer = make(image, trace, session, &mut clients, call, given);
     print_ops(trace, answer.ops);
     print_image(image, session.layout, call.case);
-    answer.session
+    let next = answer.session;
+    let left = clients[0];
+    Stand {
+        session: next,
+        client: left,
+    }
 }
 
-// The calls of the table from one on and below another, with a session; the session afterwards.
-fn history(image: &mut [u8], trace: &mut [u64], given: Session, from: usize, to: usize) -> Session {
-    let mut session = given;
+// The calls of the table from one on and below another, from where a history stands; where it stands afterwards.
+fn history(image: &mut [u8], trace: &mut [u64], given: Stand, from: usize, to: usize) -> Stand {
+    let mut stand = given;
     let mut i = from;
     while i < to {
-        session = step(image, trace, session, row(i));
+        stand = step(image, trace, stand, row(i));
         i += 1;
     }
-    session
+    stand
+}
+
+// What stands is opened, with the record of a console that has taken nothing.
+fn start(image: &mut [u8], layout: Layout, trace: &mut [u64]) -> Stand {
+    let mut clients = [[layout.backups, layout.backups, 0]];
+    let answer = driver::step_open(
+        image,
+        layout.mains,
+        layout.backups,
+        layout.blocks,
+        &mut clients,
+        trace,
+    );
+    print_answer(b" open=", answer);
+    let session = answer.session;
+    let client = clients[0];
+    Stand {
+        session: session,
+        client: client,
+    }
 }
 
 // ---- the other cases
@@ -485,24 +530,22 @@ fn p1() {
 }
 
 // A fresh opening with a tape.
-fn open(image: &mut [u8], layout: Layout, trace: &mut [u64]) -> Session {
+fn open(image: &mut [u8], layout: Layout, trace: &mut [u64]) -> Stand {
     format::crpm_format(image, layout.mains, layout.backups, layout.blocks);
     print_number(b" tape=", trace.len() as u64);
-    let answer = driver::step_open(image, layout.mains, layout.backups, layout.blocks, trace);
-    print_answer(b" open=", answer);
-    answer.session
+    start(image, layout, trace)
 }
 
 // P2: a tape too short by one, and one that is just long enough.
-fn p2(image: &mut [u8]) -> Session {
+fn p2(image: &mut [u8]) -> Stand {
     let mut short = [0u64; OPENING - 1];
     let mut fitting = [0u64; OPENING];
     let layout = Layout::new(MAINS, BACKUPS, BLOCKS);
     print(b"P2");
     open(image, layout, &mut short);
-    let session = open(image, layout, &mut fitting);
+    let stand = open(image, layout, &mut fitting);
     print(b"\n");
-    session
+    stand
 }
 
 // P10: before the last call of its history the level is paired, in state 1 and untouched, with one mark.
@@ -510,19 +553,18 @@ fn p10() {
     let mut image = [7u8; IMAGE_LONG];
     let mut trace = [0u64; TAPE];
     print(b"P10");
-    let session = open(&mut image, Layout::new(1, 1, 4), &mut trace);
+    let stand = open(&mut image, Layout::new(1, 1, 4), &mut trace);
     print(b"\n");
-    history(&mut image, &mut trace, session, 11, 16);
+    history(&mut image, &mut trace, stand, 11, 16);
 }
 
 // ---- the restart
 
-// What stands is opened.
-fn reopen(image: &mut [u8], layout: Layout, trace: &mut [u64], case: u64) -> Session {
-    let answer = driver::step_open(image, layout.mains, layout.backups, layout.blocks, trace);
-    print_answer(b" open=", answer);
+// What stands is opened and looked at.
+fn reopen(image: &mut [u8], layout: Layout, trace: &mut [u64], case: u64) -> Stand {
+    let stand = start(image, layout, trace);
     print_image(image, layout, case);
-    answer.session
+    stand
 }
 
 // The save of R5 cut after n orders, every store of which has arrived. What stands is opened, then come a save (R6) and the write of
@@ -532,15 +574,15 @@ fn cut(before: [u8; BOARD], layout: Layout, saved: &[u64], n: u64) {
     let mut trace = [0u64; TAPE];
     let played = replay::crpm_replay(&mut image, saved, n);
     print_number(b"R5 cut=", played.played);
-    let session = reopen(&mut image, layout, &mut trace, 15);
-    history(&mut image, &mut trace, session, 29, 31);
+    let stand = reopen(&mut image, layout, &mut trace, 15);
+    history(&mut image, &mut trace, stand, 29, 31);
 }
 
 // R3 to R7: the calls after the restart, and the cuts of their save.
-fn restarted(opened: [u8; BOARD], layout: Layout, session: Session) {
+fn restarted(opened: [u8; BOARD], layout: Layout, stand: Stand) {
     let mut image = opened;
     let mut trace = [0u64; TAPE];
-    let touched = history(&mut image, &mut trace, session, 26, 28);
+    let touched = history(&mut image, &mut trace, stand, 26, 28);
     let before = image;
     let saved = history(&mut image, &mut trace, touched, 28, 29);
     cut(before, layout, &trace, 15);
@@ -554,9 +596,9 @@ fn restart() {
     let mut image = [7u8; BOARD];
     let mut trace = [0u64; TAPE];
     print(b"R1");
-    let session = open(&mut image, layout, &mut trace);
+    let stand = open(&mut image, layout, &mut trace);
     print(b"\n");
-    history(&mut image, &mut trace, session, 16, 26);
+    history(&mut image, &mut trace, stand, 16, 26);
     print(b"R2");
     let restored = reopen(&mut image, layout, &mut trace, 12);
     restarted(image, layout, restored);
@@ -579,12 +621,14 @@ fn cut_long(before: [u8; IMAGE_LONG], layout: Layout, saved: &[u64], n: u64) {
 fn keeps(before: [u8; IMAGE_LONG], layout: Layout, written: &[u64], n: u64) -> bool {
     let mut image = before;
     let mut trace = [0u64; TAPE];
+    let mut clients = [[layout.backups, layout.backups, 0]];
     replay::crpm_replay(&mut image, written, n);
     driver::step_open(
         &mut image,
         layout.mains,
         layout.backups,
         layout.blocks,
+        &mut clients,
         &mut trace,
     );
     let working = back(&image, layout, false, row(31));
@@ -608,20 +652,20 @@ fn cuts_kept(before: [u8; IMAGE_LONG], layout: Layout, written: &[u64]) -> u64 {
 }
 
 // L4 to L7: the calls after the save of L3, and the cuts of their first write.
-fn long_again(saved: [u8; IMAGE_LONG], layout: Layout, session: Session) {
+fn long_again(saved: [u8; IMAGE_LONG], layout: Layout, stand: Stand) {
     let mut image = saved;
     let mut trace = [0u64; TAPE];
-    let touched = history(&mut image, &mut trace, session, 33, 34);
+    let touched = history(&mut image, &mut trace, stand, 33, 34);
     print_number(b"L4 cuts=240 shown=", cuts_kept(saved, layout, &trace));
     print(b"\n");
     history(&mut image, &mut trace, touched, 34, 40);
 }
 
 // L3: the save and its cuts; and what follows.
-fn long_saved(written: [u8; IMAGE_LONG], layout: Layout, session: Session) {
+fn long_saved(written: [u8; IMAGE_LONG], layout: Layout, stand: Stand) {
     let mut image = written;
     let mut trace = [0u64; TAPE];
-    let saved = history(&mut image, &mut trace, session, 32, 33);
+    let saved = history(&mut image, &mut trace, stand, 32, 33);
     cut_long(written, layout, &trace, 23);
     cut_long(written, layout, &trace, 24);
     cut_long(written, layout, &trace, 25);
@@ -635,9 +679,9 @@ fn long() {
     let mut image = [7u8; IMAGE_LONG];
     let mut trace = [0u64; TAPE];
     print(b"L1");
-    let session = open(&mut image, layout, &mut trace);
+    let stand = open(&mut image, layout, &mut trace);
     print(b"\n");
-    let touched = history(&mut image, &mut trace, session, 31, 32);
+    let touched = history(&mut image, &mut trace, stand, 31, 32);
     long_saved(image, layout, touched);
 }
 
@@ -645,8 +689,8 @@ fn main() {
     let mut image = [7u8; IMAGE];
     let mut trace = [0u64; TAPE];
     p1();
-    let session = p2(&mut image);
-    history(&mut image, &mut trace, session, 0, 11);
+    let stand = p2(&mut image);
+    history(&mut image, &mut trace, stand, 0, 11);
     p10();
     restart();
     long();

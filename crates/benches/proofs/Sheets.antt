@@ -1,4 +1,4 @@
--- The two sheets, computed: what they print, and the pairs, are made another way, with the image of each device computed once before the
+-- The two sheets, computed: what they print, and the pairs, are made another way, with the image of each board computed once before the
 -- next call reads it.
 use Prim.Native.Nat.{ℕ, suc}
 use mathlib.Core.Path.{_≡_, refl, sym, _∙_}
@@ -7,62 +7,62 @@ use mathlib.Core.List.{List, [], _∷_, _++_}
 use Rattle.model.specs.Range.{cat}
 use Rattle.model.specs.Layout.{unpaired}
 use Rattle.model.specs.Container.{committedEpoch}
-use Rattle.model.specs.Format.{formatted}
-use Rattle.model.specs.History.{Device, outcome, deviceStep, start}
 use Rattle.text.specs.Text.{text, startsWith, linesOf, numberOf, hexPairs, hexBytes}
 use Rattle.lines.specs.Line.{key, named, valueOf, goodLine}
 use Rattle.parser.specs.Script.{Script, bad, good, Group, firstBad, groupOf, firstGroups, groupsOf, defaultBackups, blocksLine, sizesOf, parse}
 use Rattle.printer.specs.Decimal.{decimalIn, decimal}
-use Rattle.calls.specs.Printed.{blank, answerText, writeOf, checkpointed, checkpointText, afterGroup, groupText, groupsText, openText, scriptText, printed}
+use Rattle.calls.specs.Printed.{blank, Board, answerOn, boardStep, answerText, writeOf, checkpointed, checkpointText, afterGroup, groupText, groupsText, openedBoard, openText, scriptText, printed}
 use Rattle.model.proofs.Laws.Range.{and-left, and-right}
 use Rattle.cases.proofs.Compute.{model-rules, same, same-equal, known, known-same}
 use Rattle.benches.specs.Sheets.{example, examplePrinted, twoBenches, twoBenchesPrinted, pairsOf, groupsPairs, sheetPairs, twoBenchesPairs, Sheets}
 
--- ---- the image of a device, computed before it is handed on
+-- ---- the image of a board, computed before it is handed on
 
-abbrev withImage : Device → List ℕ → Device
-withImage d I = record { layout = d .layout; durable = d .durable; played = d .played; image = I; session = d .session }
+abbrev withImage : Board → List ℕ → Board
+withImage b I =
+    let d = b .device in
+    record { device = record { layout = d .layout; durable = d .durable; played = d .played; image = I; session = d .session }; clients = b .clients }
 
-abbrev knownDevice : {A : Type 0} → Device → (Device → A) → A
-knownDevice d k = known (d .image) (λ I. k (withImage d I))
+abbrev knownBoard : {A : Type 0} → Board → (Board → A) → A
+knownBoard b k = known (b .device .image) (λ I. k (withImage b I))
 
--- the line of a group that takes the device d to e by its write and to f by its checkpoint
-abbrev lineOf : Device → Device → Device → ℕ → Group → List ℕ
-lineOf d e f n g =
+-- the line of a group that takes the board b to e by its write and to f by its checkpoint
+abbrev lineOf : Board → Board → Board → ℕ → Group → List ℕ
+lineOf b e f n g =
     text "step=" ++ decimal n
-    ++ text " " ++ answerText "write=" (outcome d (writeOf g))
+    ++ text " " ++ answerText "write=" (answerOn b (writeOf g))
     ++ text " " ++ checkpointText e (g .checkpoint)
-    ++ text " epoch=" ++ decimal (committedEpoch (f .image))
+    ++ text " epoch=" ++ decimal (committedEpoch (f .device .image))
     ++ text "\n"
 
 -- the lines and the pairs of some groups, handed on together
-ranKnown : {A : Type 0} → Device → ℕ → List Group → (List ℕ → List ℕ → A) → A
-ranKnown d n [] k = k [] []
-ranKnown d n (g ∷ gs) k =
-    knownDevice (deviceStep d (writeOf g)) (λ e. knownDevice (checkpointed e (g .checkpoint)) (λ f.
-    ranKnown f (suc n) gs (λ t ps. k (lineOf d e f n g ++ t) (pairsOf f ++ ps))))
+ranKnown : {A : Type 0} → Board → ℕ → List Group → (List ℕ → List ℕ → A) → A
+ranKnown b n [] k = k [] []
+ranKnown b n (g ∷ gs) k =
+    knownBoard (boardStep b (writeOf g)) (λ e. knownBoard (checkpointed e (g .checkpoint)) (λ f.
+    ranKnown f (suc n) gs (λ t ps. k (lineOf b e f n g ++ t) (pairsOf f ++ ps))))
 
-ran-same : {A : Type 0} (d : Device) (n : ℕ) (gs : List Group) (k : List ℕ → List ℕ → A) → ranKnown d n gs k ≡ k (groupsText d n gs) (groupsPairs d gs)
+ran-same : {A : Type 0} (b : Board) (n : ℕ) (gs : List Group) (k : List ℕ → List ℕ → A) → ranKnown b n gs k ≡ k (groupsText b n gs) (groupsPairs b gs)
 unfolding ranKnown groupsText groupText afterGroup groupsPairs
-ran-same d n [] k = refl
-ran-same d n (g ∷ gs) k =
-    let e = deviceStep d (writeOf g) in
+ran-same b n [] k = refl
+ran-same b n (g ∷ gs) k =
+    let e = boardStep b (writeOf g) in
     let f = checkpointed e (g .checkpoint) in
-    known-same (e .image) (λ I. knownDevice (checkpointed (withImage e I) (g .checkpoint)) (λ f. ranKnown f (suc n) gs (λ t ps. k (lineOf d (withImage e I) f n g ++ t) (pairsOf f ++ ps))))
-    ∙ known-same (f .image) (λ I. ranKnown (withImage f I) (suc n) gs (λ t ps. k (lineOf d e (withImage f I) n g ++ t) (pairsOf (withImage f I) ++ ps)))
-    ∙ ran-same f (suc n) gs (λ t ps. k (lineOf d e f n g ++ t) (pairsOf f ++ ps))
+    known-same (e .device .image) (λ I. knownBoard (checkpointed (withImage e I) (g .checkpoint)) (λ f. ranKnown f (suc n) gs (λ t ps. k (lineOf b (withImage e I) f n g ++ t) (pairsOf f ++ ps))))
+    ∙ known-same (f .device .image) (λ I. ranKnown (withImage f I) (suc n) gs (λ t ps. k (lineOf b e (withImage f I) n g ++ t) (pairsOf (withImage f I) ++ ps)))
+    ∙ ran-same f (suc n) gs (λ t ps. k (lineOf b e f n g ++ t) (pairsOf f ++ ps))
 
 -- and of a sheet
 sheetKnown : {A : Type 0} → Script → (List ℕ → List ℕ → A) → A
 sheetKnown (bad n) k = k (scriptText (bad n)) []
-sheetKnown (good l gs) k = knownDevice (start l (formatted l) blank .device) (λ d. ranKnown d 1 gs (λ t ps. k (openText l ++ t) ps))
+sheetKnown (good l gs) k = knownBoard (openedBoard l) (λ b. ranKnown b 1 gs (λ t ps. k (openText l ++ t) ps))
 
 sheet-same : {A : Type 0} (s : Script) (k : List ℕ → List ℕ → A) → sheetKnown s k ≡ k (scriptText s) (sheetPairs s)
 unfolding sheetKnown scriptText sheetPairs
 sheet-same (bad n) k = refl
 sheet-same (good l gs) k =
-    let d = start l (formatted l) blank .device in
-    known-same (d .image) (λ I. ranKnown (withImage d I) 1 gs (λ t ps. k (openText l ++ t) ps)) ∙ ran-same d 1 gs (λ t ps. k (openText l ++ t) ps)
+    let b = openedBoard l in
+    known-same (b .device .image) (λ I. ranKnown (withImage b I) 1 gs (λ t ps. k (openText l ++ t) ps)) ∙ ran-same b 1 gs (λ t ps. k (openText l ++ t) ps)
 
 -- ---- the two sheets
 
@@ -72,7 +72,7 @@ agrees expected pairs t ps = same t expected && same ps pairs
 
 -- every definition of the sheet
 unfoldable sheet-rules : Unit {0}
-unfolding model-rules cat text startsWith linesOf numberOf hexPairs hexBytes key named valueOf goodLine firstBad groupOf firstGroups groupsOf defaultBackups blocksLine sizesOf parse decimalIn decimal blank answerText checkpointed checkpointText openText known ranKnown sheetKnown same agrees
+unfolding model-rules cat text startsWith linesOf numberOf hexPairs hexBytes key named valueOf goodLine firstBad groupOf firstGroups groupsOf defaultBackups blocksLine sizesOf parse decimalIn decimal blank boardStep answerText checkpointed checkpointText openedBoard openText known ranKnown sheetKnown same agrees
 sheet-rules = tt
 
 -- what the test means

@@ -8,11 +8,9 @@ use mathlib.Core.Path.{_≡_}
 use mathlib.Core.List.{List, [], _∷_, _++_}
 use lib.ListN.{take, drop}
 use Rattle.model.specs.Layout.{pairsAt, unpaired}
-use Rattle.model.specs.Format.{formatted}
-use Rattle.model.specs.History.{Device, start}
 use Rattle.text.specs.Text.{text}
 use Rattle.parser.specs.Script.{Script, bad, good, Group, parse}
-use Rattle.calls.specs.Printed.{blank, afterGroup, printed}
+use Rattle.calls.specs.Printed.{Board, afterGroup, openedBoard, printed}
 
 -- ---- the example
 
@@ -30,17 +28,17 @@ twoBenches = "mains=3\nspares=2\nframes=1\nlevel=0\nframe=0\nat=0\nbytes=01\nsav
 abbrev pub twoBenchesPrinted : String
 twoBenchesPrinted = "open=0 orders=109\nstep=1 write=0 orders=1 save=- orders=0 epoch=0\nstep=2 write=0 orders=1 save=- orders=0 epoch=0\nstep=3 write=0 orders=1 save=0 orders=26 epoch=1\nstep=4 write=0 orders=43 save=0 orders=26 epoch=2\nstep=5 write=0 orders=43 save=0 orders=26 epoch=3\nstep=6 write=0 orders=41 save=0 orders=26 epoch=4\nstep=7 write=0 orders=43 save=- orders=0 epoch=4\nstep=8 write=0 orders=43 save=- orders=0 epoch=4\nstep=9 write=9 orders=0 save=0 orders=26 epoch=5\nstep=10 write=0 orders=43 save=- orders=0 epoch=5\n"
 
--- the pairs of the backup segments where a module stands; after each of some groups; and after each group of a sheet
-abbrev pub pairsOf : Device → List ℕ
-pairsOf d = take (d .layout .backups) (drop pairsAt (d .image))
+-- the pairs of the backup segments where a sheet stands; after each of some groups; and after each group of a sheet
+abbrev pub pairsOf : Board → List ℕ
+pairsOf b = take (b .device .layout .backups) (drop pairsAt (b .device .image))
 
-unfoldable pub groupsPairs : Device → List Group → List ℕ
-groupsPairs d [] = []
-groupsPairs d (g ∷ gs) = pairsOf (afterGroup d g) ++ groupsPairs (afterGroup d g) gs
+unfoldable pub groupsPairs : Board → List Group → List ℕ
+groupsPairs b [] = []
+groupsPairs b (g ∷ gs) = pairsOf (afterGroup b g) ++ groupsPairs (afterGroup b g) gs
 
 unfoldable pub sheetPairs : Script → List ℕ
 sheetPairs (bad n) = []
-sheetPairs (good l gs) = groupsPairs (start l (formatted l) blank .device) gs
+sheetPairs (good l gs) = groupsPairs (openedBoard l) gs
 
 abbrev pub twoBenchesPairs : List ℕ
 twoBenchesPairs =

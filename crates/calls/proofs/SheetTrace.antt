@@ -5,10 +5,12 @@ use native.Mathlib.Omega.{arith}
 use native.Mathlib.Nat.{mul-le-mul}
 use lib.ListN.{length, length-replicate}
 use Rattle.model.specs.declared.Layout.{Layout}
+use Rattle.model.specs.Outcome.{lent}
 use Rattle.model.proofs.Laws.Format.{formatted-accepted}
 use Rattle.model.proofs.Laws.TraceLength.{write-trace-suffices, checkpoint-trace-suffices}
+use Rattle.model.proofs.Shares.{alone-ok}
 use Rattle.lines.specs.Line.{mostSize}
-use Rattle.calls.specs.Printed.{traceNumbers, blank}
+use Rattle.calls.specs.Printed.{traceNumbers, blank, firstLent}
 use Rattle.calls.specs.SheetTrace.{SheetSizes, SheetTraceSuffices}
 
 blank-long : length blank ≡ traceNumbers
@@ -20,7 +22,7 @@ blocks-most l h = mul-le-mul {n₁ = l .blocks} {m₁ = l .mains} {n₂ = mostSi
 
 pub sheet-trace-suffices : SheetTraceSuffices
 sheet-trace-suffices = record {
-  opening = λ l h. formatted-accepted l (omega (arith, h .mains, h .backups, h .blocks)) blank (omega (arith, blank-long, blocks-most l h));
-  write = λ s I w h. write-trace-suffices s I w blank (omega (arith, blank-long, h .blocks));
-  checkpoint = λ s I h. checkpoint-trace-suffices s I blank (omega (arith, blank-long, blocks-most (s .layout) h));
+  opening = λ l h. formatted-accepted l (omega (arith, h .mains, h .backups, h .blocks)) (firstLent l) (alone-ok l 0 (omega arith)) (omega (arith, blank-long, blocks-most l h));
+  write = λ s I w R h. write-trace-suffices s I w (lent R blank) (omega (arith, blank-long, h .blocks));
+  checkpoint = λ s I R h. checkpoint-trace-suffices s I (lent R blank) (omega (arith, blank-long, blocks-most (s .layout) h));
 }

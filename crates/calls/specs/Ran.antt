@@ -1,22 +1,21 @@
--- What the contracts of the calls of a sheet say; a helper's, nothing that users rely on is said in its terms. Wherever a module
--- stands with the image I and the session of `a`, and the buffer `out` holds a text up to the place of `a`: I′, `out′` and `r` are
--- the image, the buffer, and the session and place afterwards. Assumes nothing.
+-- What the contracts of the calls of a sheet say; a helper's, nothing that users rely on is said in its terms. Wherever a sheet
+-- stands with the image I and the session and the record of `a`, and the buffer `out` holds a text up to the place of `a`: I′, `out′`
+-- and `r` are the image, the buffer, and the session, the record and the place afterwards. Assumes nothing.
 use Prim.Native.Nat.{ℕ, _+_}
 use Prim.Native.String.{String}
 use mathlib.Core.Path.{_≡_}
 use mathlib.Core.Bool.{Bool}
-use mathlib.Core.List.{List, _++_}
+use mathlib.Core.List.{List, [], _∷_, _++_}
 use Rattle.model.specs.declared.Layout.{Layout}
-use Rattle.model.specs.declared.Session.{Session}
 use Rattle.model.specs.Words.{Image}
-use Rattle.model.specs.Format.{formatted}
-use Rattle.model.specs.History.{Device, Call, outcome, deviceStep, start}
+use Rattle.model.specs.Reference.{CallArgs}
+use Rattle.clients.specs.Words.{clientIn}
 use Rattle.text.specs.Text.{text}
 use Rattle.parser.specs.Script.{Group}
 use Rattle.printer.specs.Decimal.{numberSize, decimal, Appended}
 use Rattle.calls.specs.declared.Ran.{Ran}
 use Rattle.calls.specs.declared.GroupParts.{GroupParts}
-use Rattle.calls.specs.Printed.{blank, answerText, checkpointed, checkpointText, openText}
+use Rattle.calls.specs.Printed.{Board, answerOn, boardStep, answerText, checkpointed, checkpointText, openedBoard, openText}
 
 -- ---- sizes
 
@@ -40,22 +39,21 @@ groupOfParts g bytes = record { main = g .main; block = g .block; offset = g .of
 
 -- ---- calls
 
--- a module has this image and this session
-abbrev pub DeviceAt : Device → Image → Session → Type 0
-DeviceAt d I s = (d .image ≡ I) × (d .session ≡ s)
+-- a sheet stands with this image, and with the session and the record of `a`
+abbrev pub BoardAt : Board → Image → Ran → Type 0
+BoardAt b I a = (b .device .image ≡ I) × (b .device .session ≡ a .session) × (b .clients ≡ clientIn (a .client) ∷ [])
 
 -- the opening of a formatted image, and its line
 abbrev pub Opened : Layout → List ℕ → Image → List ℕ → Ran → Type 0
-Opened l out I′ out′ r = Appended out 0 (openText l) out′ (r .place) × DeviceAt (start l (formatted l) blank .device) I′ (r .session)
+Opened l out I′ out′ r = Appended out 0 (openText l) out′ (r .place) × BoardAt (openedBoard l) I′ r
 
 -- a call, made and replayed, and its answer
-abbrev pub CallRan : Image → Ran → Call → String → List ℕ → Image → List ℕ → Ran → Type 0
+abbrev pub CallRan : Image → Ran → CallArgs → String → List ℕ → Image → List ℕ → Ran → Type 0
 CallRan I a c key out I′ out′ r =
-    (d : Device) → DeviceAt d I (a .session)
-    → Appended out (a .place) (answerText key (outcome d c)) out′ (r .place) × DeviceAt (deviceStep d c) I′ (r .session)
+    (b : Board) → BoardAt b I a → Appended out (a .place) (answerText key (answerOn b c)) out′ (r .place) × BoardAt (boardStep b c) I′ r
 
 -- a checkpoint, if it is wanted, and its text behind a space
 abbrev pub CheckpointRan : Image → Ran → Bool → List ℕ → Image → List ℕ → Ran → Type 0
 CheckpointRan I a wanted out I′ out′ r =
-    (d : Device) → DeviceAt d I (a .session)
-    → Appended out (a .place) (text " " ++ checkpointText d wanted) out′ (r .place) × DeviceAt (checkpointed d wanted) I′ (r .session)
+    (b : Board) → BoardAt b I a
+    → Appended out (a .place) (text " " ++ checkpointText b wanted) out′ (r .place) × BoardAt (checkpointed b wanted) I′ r

@@ -1,5 +1,6 @@
-// The calls of a bench sheet (SPECIFICATION 16). Each gets a trace of its own, is replayed, and its answer is
-// appended to the printed text.
+// The calls of a bench sheet (SPECIFICATION 16). Each gets a trace of its own and the record of the one client that the last one
+// left, is replayed, and its answer is appended to the printed text.
+use clients::CLIENT_WORDS;
 use model::Layout;
 use model::Session;
 ghost use Prim.Native.Nat.{_+_, _≤_};
@@ -15,9 +16,13 @@ ghost use Rattle.calls.specs.Ran.{answerSize, callSize, answerOf, groupO
 const TRACE_NUMBERS: usize = trace::OP_NUMBERS
     * (Layout::BLOCK_OPS * lines::MOST_SIZE * lines::MOST_SIZE + 1) as usize;
 
-// What a part of a sheet's run leaves: the session, and the place behind the printed text.
+// The one client of a sheet (the trade: console), which makes every write.
+const CLIENT: u64 = 0;
+
+// What a part of a sheet's run leaves: the session, the record of the one client, and the place behind the printed text.
 pub struct Ran {
     pub session: Session,
+    pub client: [u64; CLIENT_WORDS],
     pub place: usize,
 }
 
@@ -47,20 +52,24 @@ pub fn run_open(image: &mut [u8], layout: Layout, out: &mut [u8]) -> Ran
     ensures { λ r. ⌜ r .place ≤ callSize ⌝ }
 {
     format::crpm_format(image, layout.mains, layout.backups, layout.blocks);
+    let mut clients = [[layout.backups, layout.backups, 0]];
     let mut trace = [0u64; TRACE_NUMBERS];
     let opened = driver::step_open(
         image,
         layout.mains,
         layout.backups,
         layout.blocks,
+        &mut clients,
         &mut trace,
     );
     let status = opened.status;
     let next = opened.session;
+    let left = clients[CLIENT as usize];
     let end = append_answer(out, 0, b"open=", status.code(), opened.ops);
     let place = printer::append_text(out, end, b"\n");
     Ran {
         session: next,
+        client: left,
         place: place,
     }
 }
@@ -71,10 +80,14 @@ pub fn run_write(image: &mut [u8], ran: Ran, parts: GroupParts, bytes: &[u8], ou
     ensures { λ r. ⌜ CallRan (now (image .entry)) ran (writeOf (groupOfParts parts (now (bytes .entry)))) "write=" (now (out .entry)) (now (image .exit)) (now (out .exit)) r ⌝ }
     ensures { λ r. ⌜ r .place ≤ ran .place + callSize ⌝ }
 {
+    let client = ran.client;
+    let mut clients = [client];
     let mut trace = [0u64; TRACE_NUMBERS];
     let written = driver::step_write(
         image,
         ran.session,
+        &mut clients,
+        CLIENT,
         parts.main,
         parts.block,
         parts.offset,
@@ -83,9 +96,11 @@ pub fn run_write(image: &mut [u8], ran: Ran, parts: GroupParts, bytes: &[u8], ou
     );
     let status = written.status;
     let next = written.session;
+    let left = clients[CLIENT as usize];
     let place = append_answer(out, ran.place, b"write=", status.code(), written.ops);
     Ran {
         session: next,
+        client: left,
         place: place,
     }
 }
@@ -98,19 +113,25 @@ pub fn run_checkpoint(image: &mut [u8], ran: Ran, wanted: bool, out: &mut [u8]) 
 {
     if !wanted {
         let session = ran.session;
+        let client = ran.client;
         let end = printer::append_text(out, ran.place, b" save=- orders=0");
         return Ran {
             session: session,
+            client: client,
             place: end,
         };
     }
+    let client = ran.client;
+    let mut clients = [client];
     let mut trace = [0u64; TRACE_NUMBERS];
-    let checkpointed = driver::step_checkpoint(image, ran.session, &mut trace);
+    let checkpointed = driver::step_checkpoint(image, ran.session, &mut clients, &mut trace);
     let status = checkpointed.status;
     let next = checkpointed.session;
+    let left = clients[CLIENT as usize];
     let place = append_answer(out, ran.place, b" save=", status.code(), checkpointed.ops);
     Ran {
         session: next,
+        client: left,
         place: place,
     }
 }

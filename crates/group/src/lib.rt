@@ -32,17 +32,21 @@ pub fn run_group(
     ensures { λ r. ⌜ r .place ≤ ran .place + groupSize ⌝ }
 {
     let session = ran.session;
+    let client = ran.client;
     let start = printer::append_number(out, ran.place, b"step=", n, b" ");
     let begun = Ran {
         session: session,
+        client: client,
         place: start,
     };
     let called = run_calls(image, begun, parts, bytes, out);
     let epoch = words::word_at(image, Layout::EPOCH_AT as usize);
     let place = printer::append_number(out, called.place, b" epoch=", epoch, b"\n");
     let next = called.session;
+    let left = called.client;
     Ran {
         session: next,
+        client: left,
         place: place,
     }
 }

@@ -6,14 +6,13 @@ use mathlib.Core.List.{List, _∷_}
 use lib.ListN.{length, drop}
 use Rattle.model.specs.Words.{Image}
 use Rattle.model.specs.Layout.{metadataSize, blockSize}
-use Rattle.model.specs.History.{Device}
 use Rattle.text.specs.Text.{linesOf}
 use Rattle.lines.specs.Line.{mostSize}
 use Rattle.parser.specs.Script.{mostBytes, Script, Group, groupKey, firstBad, groupsOf}
 use Rattle.printer.specs.Decimal.{Appended}
 use Rattle.calls.specs.declared.Ran.{Ran}
-use Rattle.calls.specs.Printed.{groupsText, scriptText}
-use Rattle.calls.specs.Ran.{DeviceAt}
+use Rattle.calls.specs.Printed.{Board, groupsText, scriptText}
+use Rattle.calls.specs.Ran.{BoardAt}
 use Rattle.group.specs.GroupRan.{groupSize, GroupRan}
 use Rattle.script.specs.declared.Progress.{Progress}
 
@@ -52,7 +51,7 @@ pub record NextRan (input : List ℕ) (p : Progress) (I : Image) (out : List ℕ
 
 -- all are
 abbrev pub GroupsRan : Image → Ran → List Group → List ℕ → List ℕ → ℕ → Type 0
-GroupsRan I a gs out out′ q = (d : Device) → DeviceAt d I (a .session) → Appended out (a .place) (groupsText d 1 gs) out′ q
+GroupsRan I a gs out out′ q = (b : Board) → BoardAt b I a → Appended out (a .place) (groupsText b 1 gs) out′ q
 
 -- ---- a sheet
 

@@ -6,10 +6,10 @@ use Rattle.bench.proofs.history.Statement.{statement}
 use Rattle.bench.proofs.history.Tie as tie
 
 abbrev Inv-loop : tie.InvT-loop
-Inv-loop image₀ trace₀ from to session₀ i₀ image trace session i = (length image ≡ length image₀) × (length trace ≡ length trace₀)
+Inv-loop image₀ trace₀ from to stand₀ i₀ image trace stand i = (length image ≡ length image₀) × (length trace ≡ length trace₀)
 
 abbrev μ-loop : tie.MeasureT-loop
-μ-loop image₀ trace₀ from to session₀ i₀ image trace session i = to - i
+μ-loop image₀ trace₀ from to stand₀ i₀ image trace stand i = to - i
 
 loop-holds : tie.Need-loop-holds Inv-loop μ-loop
 loop-holds c = search needs

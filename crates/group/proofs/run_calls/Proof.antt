@@ -26,7 +26,7 @@ returns c =
     let e = w .run-write .ensures .0 in
     let out = w .run-write .last .1 .1 .1 .1 .0 in
     let last : CheckpointRan (w .run-write .last .0) (w .run-write .result) (a .parts .checkpoint) out (k .run-checkpoint .last .0) (k .run-checkpoint .last .1 .1 .1 .0) (k .run-checkpoint .result) = k .run-checkpoint .ensures .0 in
-    (calls-ran _ (a .ran) g _ _ _ (w .run-write .result) _ _ _ e last, omega arith)
+    (calls-ran _ (a .ran) g _ _ _ (w .run-write .result) _ _ (k .run-checkpoint .result) e last, omega arith)
 
 pub run-calls-spec : {M : Type 1} → statement M
 run-calls-spec =

@@ -4,6 +4,7 @@ use native.Mathlib.Omega.{arith}
 use borrow.Author.Needs.{needs}
 use Rattle.printer.specs.Decimal.{decimal, Appended}
 use Rattle.printer.proofs.AppendedLaws.{appended-as, number-text}
+use Rattle.calls.specs.declared.Ran.{Ran}
 use Rattle.calls.specs.Ran.{groupOfParts}
 use Rattle.calls.proofs.Texts.{lineEndBytes, line-end-text}
 use Rattle.group.proofs.Texts.{epochBytes, step-text, space-text, epoch-text}
@@ -36,7 +37,7 @@ append-number-requires-2 : tie.Need-append-number-requires-2
 append-number-requires-2 c κs =
     let v = c .before .before .before .before .before .before .before .before .before in
     let t = v .before .before .before .before .before in
-    omega (arith, t .append-number .ensures .0 .size, t .append-number .ensures .1, v .run-calls .ensures .1, t .before .before .before .before .before .before .before .before .pre .1)
+    omega (arith, t .append-number .ensures .0 .size, t .append-number .ensures .1, v .run-calls .ensures .1, t .before .before .before .before .before .before .before .before .before .pre .1)
 
 same-length : tie.Need-same-length
 same-length c = search needs
@@ -46,16 +47,17 @@ same-length-2 c = search needs
 
 returns : tie.Need-returns
 returns c =
-    let e = c .before .before .before in
+    let e = c .before .before .before .before in
     let w = e .before .before .before .before in
     let v = w .before .before .before .before .before .before in
     let t = v .before .before .before .before .before in
-    let a = t .before .before .before .before .before .before .before .before .args in
+    let a = t .before .before .before .before .before .before .before .before .before .args in
     let epoch = w .word-at .result in
+    let r : Ran = record { session = v .run-calls .result .session; client = v .run-calls .result .client; place = e .append-number2 .result } in
     let last : Appended (v .run-calls .last .1 .1 .1 .1 .0) (v .run-calls .result .place) (epochBytes ++ decimal epoch ++ lineEndBytes) (e .append-number2 .last .0) (e .append-number2 .result) = e .append-number2 .ensures .0 in (
-      group-ran _ (a .ran) (a .n) (groupOfParts (a .parts) (a .bytes .now)) _ _ _ _ epoch (record { session = a .ran .session; place = t .append-number .result }) (v .run-calls .result) _ _ refl
+      group-ran _ (a .ran) (a .n) (groupOfParts (a .parts) (a .bytes .now)) _ _ _ _ epoch (record { session = a .ran .session; client = a .ran .client; place = t .append-number .result }) (v .run-calls .result) _ r (refl, refl)
           (appended-as (number-text (a .n) _ _ _ _ step-text space-text) (t .append-number .ensures .0)) (v .run-calls .ensures .0) (w .word-at .ensures)
-          (appended-as (number-text epoch _ _ _ _ epoch-text line-end-text) last) refl,
+          (appended-as (number-text epoch _ _ _ _ epoch-text line-end-text) last) (refl, refl),
       omega (arith, t .append-number .ensures .1, v .run-calls .ensures .1),
     )
 

@@ -21,7 +21,7 @@ abbrev μ-loop : tie.MeasureT-loop
 μ-loop input start image₀ out₀ p₀ image out p = length input - p .«at»
 
 loop-holds : tie.Need-loop-holds Inv-loop μ-loop
-loop-holds c = (c .before .before .before .pre .0 .1, omega arith, omega arith, omega arith, refl, refl, story-none _ _ _ _)
+loop-holds c = (c .before .before .before .pre .0 .1, omega arith, omega arith, omega arith, refl, refl, story-none _ (c .before .before .before .args .ran) _ _)
 
 run-next-requires : tie.Need-run-next-requires Inv-loop μ-loop
 run-next-requires c κs = let b = c .before .before .before .before .loop in ((c .before .before .before .before .before .before .before .before .pre .0 .0, c .before .before .if1 .taken, b .inv .0, b .inv .2), omega arith)
