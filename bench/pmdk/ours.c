@@ -31,15 +31,15 @@ uint64_t ours_open(struct ours *ours)
 {
     uint64_t ops;
     served("crpm_open", crpm_open(ours->image, ours->length, ours->sizes.mains, ours->sizes.backups, ours->sizes.blocks,
-                                  &ours->session, ours->trace, ours->trace_length, &ops));
+                                  &ours->session, &ours->client, 1, ours->trace, ours->trace_length, &ops));
     return ops;
 }
 
 uint64_t ours_write(struct ours *ours, uint64_t main, uint64_t block, uint64_t offset, const uint8_t *bytes, size_t length)
 {
     uint64_t ops;
-    served("crpm_write", crpm_write(ours->image, ours->length, &ours->session, main, block, offset, bytes, length,
-                                    ours->trace, ours->trace_length, &ops));
+    served("crpm_write", crpm_write(ours->image, ours->length, &ours->session, &ours->client, 1, 0, main, block, offset,
+                                    bytes, length, ours->trace, ours->trace_length, &ops));
     return ops;
 }
 
@@ -47,7 +47,8 @@ uint64_t ours_checkpoint(struct ours *ours)
 {
     uint64_t ops;
     served("crpm_checkpoint",
-           crpm_checkpoint(ours->image, ours->length, &ours->session, ours->trace, ours->trace_length, &ops));
+           crpm_checkpoint(ours->image, ours->length, &ours->session, &ours->client, 1, ours->trace, ours->trace_length,
+                           &ops));
     return ops;
 }
 
@@ -89,6 +90,7 @@ void *ours_setup(struct sizes sizes)
 {
     struct ours *ours = allocate(sizeof *ours);
     ours->sizes = sizes;
+    ours->client = (struct crpm_client){sizes.backups, sizes.backups, 0};
     ours->length = CRPM_IMAGE_SIZE(sizes.mains, sizes.backups, sizes.blocks);
     ours->image = map_file(ours->length);
     ours->trace_length = CRPM_TRACE(sizes.mains, sizes.blocks);

@@ -12,6 +12,7 @@ struct ours {
     uint8_t *image;
     size_t length;
     struct crpm_session session;
+    struct crpm_client client; /* the only one: every backup segment is reserved for it */
     uint64_t *trace;
     size_t trace_length;
     uint8_t *edits;         /* AF: the board in ordinary memory */

@@ -1,5 +1,6 @@
 /*
- * Running on a module of persistent memory, and what a killed process leaves.
+ * Running on a module of persistent memory, with two consoles that edit the same
+ * levels, and what a killed process leaves.
  *
  *     module format FILE      makes FILE an empty image
  *     module run FILE [N]     opens the image and makes what is still to be
@@ -15,6 +16,10 @@
  * All lines are flushed after a format and at each start, before the opening.
  * With a FILE on persistent memory (a file system with DAX) this is all that a
  * program has to do. Another FILE stands in for the module.
+ *
+ * The stage console and the gallery console are lent to every call as one run of
+ * records. One of the two backup segments is reserved for each, so that neither
+ * takes both: once, the gallery hears that the one that is free is the stage's.
  *
  * A killed process leaves in FILE all that it has stored, since the kernel
  * keeps the pages: also what is not durable yet. So killing alone shows only
@@ -53,9 +58,16 @@
 #include <string.h>
 #include <unistd.h>
 
-enum { MAINS = 2, BACKUPS = 1, BLOCKS = 2 };
+enum { MAINS = 3, BACKUPS = 2, BLOCKS = 2 };
 
 #define IMAGE_SIZE CRPM_IMAGE_SIZE(MAINS, BACKUPS, BLOCKS)
+
+/* The consoles, by their places in the run that is lent to every call. Only the
+   calls change it. It belongs to this process, like the session: a run lent after
+   a restart starts with nothing used. */
+enum { STAGE, GALLERY, CONSOLES };
+
+static struct crpm_client consoles[CONSOLES] = {{1, 2, 0}, {1, 2, 0}};
 
 static void fail(const char *what, const char *why)
 {
@@ -76,43 +88,50 @@ static void served(const char *call, uint64_t status)
 
 enum { CHECKPOINTS = 4 };
 
-/* Each write with the number of the checkpoint that it comes before. Two run on
-   over the end of a block. No checkpoint comes after the last write: no opening
-   shows it. */
+/* Each write with the number of the checkpoint that it comes before, and what it
+   hears. Two run on over the end of a block. One is refused: the gallery has taken
+   its backup segment, and the other is reserved for the stage, which writes next.
+   No checkpoint comes after the last write: no opening shows it. */
 static const struct write {
     int checkpoint;
-    uint64_t main, block, offset;
+    uint64_t console, main, block, offset;
     size_t length;
+    uint64_t status;
 } writes[] = {
-    {1, 0, 0, 6, 4},
-    {2, 0, 0, 244, 24}, {2, 1, 1, 248, 8},
-    {3, 0, 0, 250, 12},
-    {4, 1, 0, 100, 20}, {4, 1, 0, 0, 8},
-    {CHECKPOINTS + 1, 1, 1, 0, 8},
+    {1, STAGE, 0, 0, 6, 4, CRPM_SERVED},
+    {2, STAGE, 0, 0, 244, 24, CRPM_SERVED},
+    {2, GALLERY, 1, 1, 248, 8, CRPM_SERVED},
+    {3, GALLERY, 1, 0, 250, 12, CRPM_SERVED},
+    {3, STAGE, 0, 1, 0, 8, CRPM_SERVED},
+    {3, GALLERY, 2, 0, 100, 20, CRPM_SERVED},
+    {4, GALLERY, 2, 0, 0, 8, CRPM_SERVED},
+    {4, GALLERY, 0, 0, 0, 8, CRPM_BACKUPS_RESERVED},
+    {4, STAGE, 1, 1, 8, 8, CRPM_SERVED},
+    {CHECKPOINTS + 1, STAGE, 1, 0, 0, 8, CRPM_SERVED},
 };
 
-enum { WRITES = sizeof writes / sizeof writes[0] };
+enum { WRITES = sizeof writes / sizeof writes[0], LONGEST = 24 };
 
-/* The bytes that write w stores; no two writes share one. */
+/* The bytes that write w stores; no two writes share one, and none is zero. */
 static const uint8_t *bytes_of(size_t w)
 {
-    static uint8_t bytes[CRPM_BLOCK_SIZE];
+    static uint8_t bytes[LONGEST];
     size_t i;
     for (i = 0; i < writes[w].length; i++)
-        bytes[i] = (uint8_t)(32 * (w + 1) + i);
+        bytes[i] = (uint8_t)(LONGEST * w + i + 1);
     return bytes;
 }
 
 typedef uint8_t page[MAINS][BLOCKS][CRPM_BLOCK_SIZE];
 
 /* Every block as checkpoint k holds it: zeros, and on them all writes that came
-   before. The library has no part in this. */
+   before and were served. The library has no part in this. */
 static void make_page(int k, page blocks)
 {
     size_t w;
     memset(blocks, 0, sizeof(page));
     for (w = 0; w < WRITES; w++)
-        if (writes[w].checkpoint <= k)
+        if (writes[w].checkpoint <= k && writes[w].status == CRPM_SERVED)
             memcpy((uint8_t *)blocks[writes[w].main] + CRPM_BLOCK_SIZE * writes[w].block + writes[w].offset,
                    bytes_of(w), writes[w].length);
 }
@@ -227,22 +246,31 @@ static void open_image(uint8_t *image, struct crpm_session *session)
 {
     uint64_t ops;
     crpm_flush_all(image, IMAGE_SIZE);
-    served("open", crpm_open(image, IMAGE_SIZE, MAINS, BACKUPS, BLOCKS, session, trace, TRACE, &ops));
+    served("open", crpm_open(image, IMAGE_SIZE, MAINS, BACKUPS, BLOCKS, session, consoles, CONSOLES,
+                             trace, TRACE, &ops));
     carry_out(image, "open", ops);
 }
 
+/* A write that is refused leaves everything as it was. A program for a board would
+   tell the console why: a checkpoint frees every backup segment. */
 static void write_bytes(uint8_t *image, struct crpm_session *session, size_t w)
 {
     uint64_t ops;
-    served("write", crpm_write(image, IMAGE_SIZE, session, writes[w].main, writes[w].block, writes[w].offset,
-                               bytes_of(w), writes[w].length, trace, TRACE, &ops));
+    const uint64_t status = crpm_write(image, IMAGE_SIZE, session, consoles, CONSOLES, writes[w].console,
+                                       writes[w].main, writes[w].block, writes[w].offset, bytes_of(w),
+                                       writes[w].length, trace, TRACE, &ops);
+    if (status == CRPM_BACKUPS_RESERVED && status == writes[w].status) {
+        printf("write: %" PRIu64 " operations, refused with %" PRIu64 "\n", ops, status);
+        return;
+    }
+    served("write", status);
     carry_out(image, "write", ops);
 }
 
 static void make_checkpoint(uint8_t *image, struct crpm_session *session)
 {
     uint64_t ops;
-    served("checkpoint", crpm_checkpoint(image, IMAGE_SIZE, session, trace, TRACE, &ops));
+    served("checkpoint", crpm_checkpoint(image, IMAGE_SIZE, session, consoles, CONSOLES, trace, TRACE, &ops));
     carry_out(image, "checkpoint", ops);
 }
 
@@ -280,12 +308,16 @@ static int shown(const uint8_t *image)
     return k;
 }
 
-/* Goes on where the checkpoint that is shown left off. */
+/* Goes on where the checkpoint that is shown left off. Main segments that the
+   opening restored keep their backup segments until the next checkpoint, so one is
+   made first, of the same bytes: from there on each console has what is reserved
+   for it. */
 static void run(uint8_t *image, struct crpm_session *session)
 {
-    int k;
+    int k = shown(image) + 1;
     size_t w;
-    for (k = shown(image) + 1; k <= CHECKPOINTS + 1; k++) {
+    make_checkpoint(image, session);
+    for (; k <= CHECKPOINTS + 1; k++) {
         for (w = 0; w < WRITES; w++)
             if (writes[w].checkpoint == k)
                 write_bytes(image, session, w);

@@ -33,6 +33,10 @@ enum { MAINS = 2, BACKUPS = 1, BLOCKS = 1 };
 /* Enough for any call on the image. */
 #define TRACE_LENGTH CRPM_TRACE(MAINS, BLOCKS)
 
+/* The only client, before it has used a backup segment: all are reserved for it.
+   A run lent after a restart starts so. */
+static const struct crpm_client CLIENT = {BACKUPS, BACKUPS, 0};
+
 /* What is written, and where in block 0 of main segment 0. */
 static const uint8_t BYTES[] = {0xa1, 0xb2, 0xc3, 0xd4};
 enum { OFFSET = 6 };
@@ -63,20 +67,20 @@ static void replay(uint8_t *image, const uint64_t *trace, uint64_t ops, uint64_t
 }
 
 /* Opens an image and carries out the operations. How many they were. */
-static uint64_t reopen(uint8_t *image, struct crpm_session *session)
+static uint64_t reopen(uint8_t *image, struct crpm_session *session, struct crpm_client *client)
 {
     uint64_t trace[TRACE_LENGTH], ops;
-    served("open", crpm_open(image, IMAGE_SIZE, MAINS, BACKUPS, BLOCKS, session,
+    served("open", crpm_open(image, IMAGE_SIZE, MAINS, BACKUPS, BLOCKS, session, client, 1,
                              trace, TRACE_LENGTH, &ops));
     replay(image, trace, ops, ops);
     return ops;
 }
 
 /* Writes the bytes and carries out the operations. */
-static void write_bytes(uint8_t *image, struct crpm_session *session)
+static void write_bytes(uint8_t *image, struct crpm_session *session, struct crpm_client *client)
 {
     uint64_t trace[TRACE_LENGTH], ops;
-    served("write", crpm_write(image, IMAGE_SIZE, session, 0, 0, OFFSET, BYTES, sizeof BYTES,
+    served("write", crpm_write(image, IMAGE_SIZE, session, client, 1, 0, 0, 0, OFFSET, BYTES, sizeof BYTES,
                                trace, TRACE_LENGTH, &ops));
     if (ops != 2 || trace[0] != CRPM_OP_STORE || trace[CRPM_OP_NUMBERS] != CRPM_OP_STORE)
         fail("the write is not two stores");
@@ -140,11 +144,12 @@ static void lose_power(const uint8_t *before, const uint64_t *trace, uint64_t op
 {
     uint8_t image[IMAGE_SIZE];
     struct crpm_session session;
+    struct crpm_client client = CLIENT;
     memcpy(image, before, IMAGE_SIZE);
     replay(image, trace, ops, n);
     if (!arrived)
         memcpy(image + CRPM_EPOCH_AT, before + CRPM_EPOCH_AT, CRPM_LINE_SIZE);
-    reopen(image, &session);
+    reopen(image, &session, &client);
     show_checkpoint(before, image);
 }
 
@@ -152,13 +157,14 @@ int main(void)
 {
     static uint8_t image[IMAGE_SIZE];
     struct crpm_session session;
+    struct crpm_client client = CLIENT;
     uint64_t trace[TRACE_LENGTH], ops, n;
 
     served("format", crpm_format(image, IMAGE_SIZE, MAINS, BACKUPS, BLOCKS));
     printf("format: %zu bytes\n", IMAGE_SIZE);
-    printf("open: %" PRIu64 " operations\n", reopen(image, &session));
-    write_bytes(image, &session);
-    served("checkpoint", crpm_checkpoint(image, IMAGE_SIZE, &session, trace, TRACE_LENGTH, &ops));
+    printf("open: %" PRIu64 " operations\n", reopen(image, &session, &client));
+    write_bytes(image, &session, &client);
+    served("checkpoint", crpm_checkpoint(image, IMAGE_SIZE, &session, &client, 1, trace, TRACE_LENGTH, &ops));
     printf("checkpoint: %" PRIu64 " operations\n", ops);
 
     printf("power lost after 15 operations: ");

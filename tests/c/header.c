@@ -4,8 +4,8 @@
  *     header VERSION        VERSION: that of the pkg-config file
  *
  * Every size, place, state, kind, number, macro and field of crpm.h is used
- * here as a caller uses it, on real images, sessions and traces, and what comes
- * of it is compared with numbers written out from docs/SPECIFICATION.md.
+ * here as a caller uses it, on real images, sessions, clients and traces, and
+ * what comes of it is compared with numbers written out from docs/SPECIFICATION.md.
  * tests/c/spoil changes each of them in turn and sees that this program no
  * longer compiles or no longer passes. It is C99 and C++11 at once.
  */
@@ -69,7 +69,10 @@ static int all(const uint8_t *bytes, size_t length, uint8_t value)
     return 1;
 }
 
-/* ---- a bench: an image, the session of it and a trace */
+/* ---- a bench: an image, the session of it, its clients and a trace */
+
+/* Records behind the longest run, where nobody writes. */
+enum { RECORDS = CRPM_MOST_CLIENTS + 2 };
 
 struct bench {
     uint64_t mains, backups, blocks;
@@ -77,16 +80,19 @@ struct bench {
     size_t image_length;
     struct crpm_session session;
     uint64_t behind_session; /* nobody writes here */
+    struct crpm_client clients[RECORDS];
+    size_t clients_length;
     uint64_t *trace;
     size_t trace_length;
     uint64_t ops;
     /* the write that is to be made */
-    uint64_t main, block, offset;
+    uint64_t client, main, block, offset;
     const uint8_t *bytes;
     size_t bytes_length;
-    /* as allocated; a copy of the image */
+    /* as allocated; a copy of the image and of the clients */
     size_t image_room, trace_room;
     uint8_t *copy;
+    struct crpm_client lent[RECORDS];
 };
 
 /* Room behind image and trace, where nobody writes. */
@@ -102,7 +108,17 @@ static void *allocated(size_t size)
     return made;
 }
 
-/* A bench with a formatted image; it was full of other bytes before. */
+static struct crpm_client client(uint64_t reserved, uint64_t quota, uint64_t used)
+{
+    struct crpm_client made;
+    made.reserved = reserved;
+    made.quota = quota;
+    made.used = used;
+    return made;
+}
+
+/* A bench with a formatted image; it was full of other bytes before. It has one
+   client, for which every backup segment is reserved. */
 static void start(struct bench *t, uint64_t mains, uint64_t backups, uint64_t blocks)
 {
     memset(t, 0, sizeof *t);
@@ -117,6 +133,9 @@ static void start(struct bench *t, uint64_t mains, uint64_t backups, uint64_t bl
     t->trace_room = t->trace_length + BEHIND;
     t->trace = (uint64_t *)allocated(t->trace_room * sizeof *t->trace);
     t->bytes = t->copy;
+    memset(t->clients, 0xee, sizeof t->clients);
+    t->clients[0] = client(backups, backups, 0);
+    t->clients_length = 1;
     memset(t->image, 0xee, t->image_room);
     SERVED(crpm_format(t->image, t->image_length, mains, backups, blocks));
     CHECK(all(t->image + t->image_length, BEHIND, 0xee));
@@ -130,8 +149,9 @@ static void finish(struct bench *t)
 }
 
 /* ---- the calls that write a trace, and what holds of each: the image is as it
-   was, numbers behind the operations keep their contents, and a refused call
-   writes 0 operations and leaves the session that it should */
+   was, numbers behind the operations and clients behind the run keep their
+   contents, and a refused call writes 0 operations, leaves the clients as they
+   were and the session that it should */
 
 typedef uint64_t bench_call(struct bench *);
 
@@ -139,6 +159,7 @@ static void before_call(struct bench *t)
 {
     size_t i;
     memcpy(t->copy, t->image, t->image_room);
+    memcpy(t->lent, t->clients, sizeof t->clients);
     for (i = 0; i < t->trace_room; i++)
         t->trace[i] = UNWRITTEN;
     t->behind_session = UNWRITTEN;
@@ -153,10 +174,24 @@ static uint64_t after_call(const struct bench *t, uint64_t status, const struct 
     if (status != CRPM_SERVED) {
         CHECK(t->ops == 0);
         CHECK(memcmp(&t->session, if_refused, sizeof t->session) == 0);
+        CHECK(memcmp(t->clients, t->lent, sizeof t->lent) == 0);
+    }
+    for (i = 0; i < RECORDS; i++) {
+        CHECK(t->clients[i].reserved == t->lent[i].reserved && t->clients[i].quota == t->lent[i].quota);
+        CHECK(i < t->clients_length || t->clients[i].used == t->lent[i].used);
     }
     for (i = CRPM_OP_NUMBERS * (size_t)t->ops; i < t->trace_room && t->trace[i] == UNWRITTEN; i++)
         ;
     CHECK(i == t->trace_room);
+    return status;
+}
+
+/* What a served opening and a served checkpoint leave of the clients. */
+static uint64_t all_unused(const struct bench *t, uint64_t status)
+{
+    size_t i;
+    for (i = 0; status == CRPM_SERVED && i < t->clients_length; i++)
+        CHECK(t->clients[i].used == 0);
     return status;
 }
 
@@ -166,28 +201,36 @@ static uint64_t open_image(struct bench *t)
     memset(&zeros, 0, sizeof zeros);
     memset(&t->session, 0xff, sizeof t->session);
     before_call(t);
-    return after_call(t, crpm_open(t->image, t->image_length, t->mains, t->backups, t->blocks,
-                                   &t->session, t->trace, t->trace_length, &t->ops), &zeros);
+    return all_unused(t, after_call(t, crpm_open(t->image, t->image_length, t->mains, t->backups, t->blocks,
+                                                 &t->session, t->clients, t->clients_length, t->trace,
+                                                 t->trace_length, &t->ops), &zeros));
 }
 
+/* A served write changes no client but its own, by 1 at most. */
 static uint64_t write_bytes(struct bench *t)
 {
     struct crpm_session as_it_came = t->session;
+    uint64_t status;
+    size_t i;
     before_call(t);
-    return after_call(t, crpm_write(t->image, t->image_length, &t->session, t->main, t->block, t->offset,
-                                    t->bytes, t->bytes_length, t->trace, t->trace_length, &t->ops),
-                      &as_it_came);
+    status = after_call(t, crpm_write(t->image, t->image_length, &t->session, t->clients, t->clients_length,
+                                      t->client, t->main, t->block, t->offset, t->bytes, t->bytes_length,
+                                      t->trace, t->trace_length, &t->ops), &as_it_came);
+    for (i = 0; i < t->clients_length; i++)
+        CHECK(t->clients[i].used - t->lent[i].used <= (i == t->client ? 1 : 0));
+    return status;
 }
 
 static uint64_t checkpoint(struct bench *t)
 {
     struct crpm_session as_it_came = t->session;
     before_call(t);
-    return after_call(t, crpm_checkpoint(t->image, t->image_length, &t->session, t->trace, t->trace_length,
-                                         &t->ops), &as_it_came);
+    return all_unused(t, after_call(t, crpm_checkpoint(t->image, t->image_length, &t->session, t->clients,
+                                                       t->clients_length, t->trace, t->trace_length,
+                                                       &t->ops), &as_it_came));
 }
 
-/* Names the write that comes next. */
+/* Names the write that comes next, of the same client. */
 static struct bench *at(struct bench *t, uint64_t main, uint64_t block, uint64_t offset,
                         const uint8_t *bytes, size_t length)
 {
@@ -629,19 +672,23 @@ static void places(void)
     finish(&t);
 }
 
-/* The fields of a session: places and sizes, in bytes. */
-#define FIELD(name, place, size) \
-    CHECK(offsetof(struct crpm_session, name) == (place)); \
-    CHECK(sizeof(((struct crpm_session *)0)->name) == (size))
+/* The fields of a session and of a client: places and sizes, in bytes. */
+#define FIELD(of, name, place, size) \
+    CHECK(offsetof(struct of, name) == (place)); \
+    CHECK(sizeof(((struct of *)0)->name) == (size))
 
-static void session_fields(void)
+static void fields(void)
 {
-    FIELD(mains, 0, 8);
-    FIELD(backups, 8, 8);
-    FIELD(blocks, 16, 8);
-    FIELD(dirty_segments, 24, 8);
-    FIELD(dirty_blocks, 32, 512);
+    FIELD(crpm_session, mains, 0, 8);
+    FIELD(crpm_session, backups, 8, 8);
+    FIELD(crpm_session, blocks, 16, 8);
+    FIELD(crpm_session, dirty_segments, 24, 8);
+    FIELD(crpm_session, dirty_blocks, 32, 512);
     CHECK(sizeof(struct crpm_session) == 544);
+    FIELD(crpm_client, reserved, 0, 8);
+    FIELD(crpm_client, quota, 8, 8);
+    FIELD(crpm_client, used, 16, 8);
+    CHECK(sizeof(struct crpm_client) == 24);
 }
 
 /* ---- lengths of a trace: with so many numbers a call is served, and uses them
@@ -650,6 +697,7 @@ static void session_fields(void)
 static void needs(struct bench *t, bench_call *call, size_t length, size_t numbers)
 {
     struct crpm_session as_it_came = t->session;
+    struct crpm_client lent = t->clients[0];
     size_t whole = t->trace_length;
     CHECK(length == numbers);
     t->trace_length = length - 1;
@@ -659,6 +707,7 @@ static void needs(struct bench *t, bench_call *call, size_t length, size_t numbe
     SERVED(call(t));
     CHECK(CRPM_OP_NUMBERS * t->ops == numbers);
     t->session = as_it_came;
+    t->clients[0] = lent;
     t->trace_length = whole;
 }
 
@@ -723,8 +772,8 @@ static void trace_lengths_of(const struct lengths *of)
     /* a checkpoint of which every block is dirty */
     for (i = 0; i < of->mains; i++)
         for (b = 0; b < of->blocks; b++) {
-            SERVED(crpm_write(t.image, t.image_length, &t.session, i, b, 0, ONE, 1, t.trace, 3,
-                              &t.ops));
+            SERVED(crpm_write(t.image, t.image_length, &t.session, t.clients, t.clients_length, 0, i, b, 0,
+                              ONE, 1, t.trace, 3, &t.ops));
             SERVED(crpm_replay(t.image, t.image_length, t.trace, 3, 1, &played));
         }
     CHECK(t.session.dirty_segments == UINT64_MAX >> (64 - of->mains));
@@ -1026,6 +1075,191 @@ static void epoch_limit(void)
     finish(&t);
 }
 
+/* ---- clients: two of them at five main segments, three backup segments and one
+   block. One backup segment is reserved for each; client 0 may take two, client 1
+   all three. */
+
+enum { OPEN, WRITE, CHECKPOINT };
+
+static const struct step {
+    int call;
+    uint64_t client, main; /* of a write, of the first 8 bytes */
+    uint64_t status, ops;
+    uint64_t used[2]; /* after it */
+} STEPS[] = {
+    {OPEN, 0, 0, CRPM_SERVED, 181, {0, 0}},
+    {WRITE, 1, 0, CRPM_SERVED, 1, {0, 0}}, /* in state 0 nothing is copied */
+    {WRITE, 1, 1, CRPM_SERVED, 1, {0, 0}},
+    {WRITE, 1, 2, CRPM_SERVED, 1, {0, 0}},
+    {WRITE, 1, 3, CRPM_SERVED, 1, {0, 0}},
+    {WRITE, 1, 4, CRPM_SERVED, 1, {0, 0}},
+    {CHECKPOINT, 0, 0, CRPM_SERVED, 34, {0, 0}},
+    {WRITE, 1, 0, CRPM_SERVED, 43, {0, 1}}, /* to a new backup segment */
+    {WRITE, 1, 0, CRPM_SERVED, 1, {0, 1}},  /* dirty: not copied again */
+    {WRITE, 1, 1, CRPM_SERVED, 43, {0, 2}}, /* two are free, one is client 0's */
+    {WRITE, 1, 2, CRPM_BACKUPS_RESERVED, 0, {0, 2}},
+    {WRITE, 0, 2, CRPM_SERVED, 43, {1, 2}},
+    {WRITE, 0, 3, CRPM_NO_FREE_BACKUP, 0, {1, 2}},
+    {WRITE, 0, 0, CRPM_SERVED, 1, {1, 2}}, /* client 1 had it copied */
+    {CHECKPOINT, 0, 0, CRPM_SERVED, 34, {0, 0}},
+    {WRITE, 0, 0, CRPM_SERVED, 41, {1, 0}}, /* its dirty block to its own backup segment */
+    {WRITE, 0, 1, CRPM_SERVED, 41, {2, 0}},
+    {WRITE, 0, 2, CRPM_QUOTA_REACHED, 0, {2, 0}}, /* 15 applies too */
+    {WRITE, 1, 3, CRPM_SERVED, 43, {2, 1}},       /* client 0 has used more than its own */
+    {OPEN, 0, 0, CRPM_SERVED, 109, {0, 0}},
+    {WRITE, 0, 2, CRPM_NO_FREE_BACKUP, 0, {0, 0}}, /* three are still in use */
+    {WRITE, 1, 0, CRPM_SERVED, 1, {0, 0}},         /* in state 2 nothing is copied */
+    {CHECKPOINT, 0, 0, CRPM_SERVED, 18, {0, 0}},
+    {OPEN, 0, 0, CRPM_SERVED, 109, {0, 0}},
+    {WRITE, 0, 1, CRPM_SERVED, 5, {1, 0}}, /* charged, though no block is dirty */
+    {WRITE, 1, 3, CRPM_SERVED, 5, {1, 1}},
+    {WRITE, 1, 0, CRPM_SERVED, 5, {1, 2}},
+    {CHECKPOINT, 0, 0, CRPM_SERVED, 26, {0, 0}},
+};
+
+static void two_clients(void)
+{
+    static bench_call *const CALLS[] = {open_image, write_bytes, checkpoint};
+    struct bench t;
+    uint64_t played;
+    size_t i;
+    start(&t, 5, 3, 1);
+    t.clients[0] = client(1, 2, 0);
+    t.clients[1] = client(1, 3, 3);
+    t.clients_length = 2;
+    for (i = 0; i < sizeof STEPS / sizeof STEPS[0]; i++) {
+        const struct step *s = &STEPS[i];
+        t.client = s->client;
+        CHECK(CALLS[s->call](at(&t, s->main, 0, 0, i % 2 ? ONE : TWO, 8)) == s->status);
+        CHECK(t.ops == s->ops);
+        CHECK(t.clients[0].used == s->used[0] && t.clients[1].used == s->used[1]);
+        SERVED(crpm_replay(t.image, t.image_length, t.trace, CRPM_OP_NUMBERS * (size_t)t.ops, t.ops, &played));
+    }
+    finish(&t);
+}
+
+/* Lends a run of so many records, all alike, with others in its first two places. */
+static struct bench *lend(struct bench *t, size_t length, struct crpm_client first, struct crpm_client second,
+                          struct crpm_client rest)
+{
+    size_t i;
+    for (i = 0; i < RECORDS; i++)
+        t->clients[i] = rest;
+    t->clients[0] = first;
+    t->clients[1] = second;
+    t->clients_length = length;
+    t->client = 0;
+    return t;
+}
+
+/* 13, of runs that every call refuses and of runs that none refuses, where there
+   are two backup segments. */
+static void refused_runs(bench_call *call, struct bench *t)
+{
+    const uint64_t most = UINT64_MAX;
+    const struct crpm_client none = client(0, 1, 0), one = client(1, 1, 0), half = client((uint64_t)1 << 63, most, 0);
+    const struct bench kept = *t;
+#define REFUSED(length, first, second, rest) \
+    RETURNS(call(lend(t, length, first, second, rest)), CRPM_BAD_CLIENTS, 13)
+#define TAKEN(length, first, second, rest) \
+    do { \
+        SERVED(call(lend(t, length, first, second, rest))); \
+        t->session = kept.session; \
+    } while (0)
+    REFUSED(CRPM_MOST_CLIENTS + 1, none, none, none);
+    REFUSED(2, client(2, 1, 0), none, none);
+    REFUSED(2, none, client(2, 1, 0), none);
+    REFUSED(CRPM_MOST_CLIENTS, none, client(0, 0, most), none);
+    REFUSED(2, client(0, 3, 4), none, none);
+    REFUSED(2, one, client(2, 2, 0), none);
+    REFUSED(3, one, one, one);
+    REFUSED(2, half, half, none);
+    REFUSED(2, client(most, most, 0), client(3, 3, 0), none);
+    REFUSED(CRPM_MOST_CLIENTS, client((uint64_t)1 << 61, most, 0), client((uint64_t)1 << 61, most, 0),
+            client((uint64_t)1 << 61, most, 0));
+    REFUSED(CRPM_MOST_CLIENTS, client(most, most, most), client(most, most, most), client(most, most, most));
+    TAKEN(CRPM_MOST_CLIENTS, none, none, none);
+    TAKEN(2, one, one, client(most, 0, most));
+    TAKEN(1, client(2, most, most), none, none);
+    TAKEN(2, client(0, 3, 0), client(2, 2, 2), none);
+#undef REFUSED
+#undef TAKEN
+    *t = kept;
+}
+
+static void runs(void)
+{
+    struct bench t;
+    start_written(&t);
+    CHECK(CRPM_MOST_CLIENTS == 8);
+    at(&t, 0, 0, 0, ONE, 8); /* dirty: no client is charged */
+    STEP(refused_runs(open_image, &t));
+    STEP(refused_runs(write_bytes, &t));
+    STEP(refused_runs(checkpoint, &t));
+
+    /* no record, and the number of none */
+    t.client = 1;
+    RETURNS(write_bytes(&t), CRPM_BAD_CLIENTS, 13);
+    t.client = UINT64_MAX;
+    RETURNS(write_bytes(&t), CRPM_BAD_CLIENTS, 13);
+    t.client = 0;
+    SERVED(write_bytes(&t));
+    t.clients_length = 0;
+    RETURNS(write_bytes(&t), CRPM_BAD_CLIENTS, 13);
+    SERVED(checkpoint(&t));
+    SERVED(open_image(&t));
+    finish(&t);
+}
+
+/* Where 13, 14 and 15 come: 13 after 4 or 5 and before all others, 14 and 15 after
+   9 and before 11. */
+static void refusals_in_order(void)
+{
+    const struct crpm_client none = client(0, 0, 0), any = client(0, 9, 0), two = client(2, 2, 0);
+    struct bench t, short_of;
+    start_written(&t);
+
+    /* a run that is refused, besides each of the others */
+    lend(&t, 1, client(1, 0, 0), none, none);
+    STEP(refused_layouts(write_with_sizes, at(&t, 0, 0, 0, ONE, 8)));
+    STEP(refused_layouts(checkpoint_with_sizes, &t));
+    STEP(refused_sessions(write_bytes, &t));
+    STEP(refused_sessions(checkpoint, &t));
+    RETURNS(write_bytes(at(&t, 3, 0, 0, ONE, 8)), CRPM_BAD_CLIENTS, 13);
+    RETURNS(write_bytes(at(&t, 0, 2, 0, ONE, 8)), CRPM_BAD_CLIENTS, 13);
+    RETURNS(write_bytes(at(&t, 0, 0, 0, ONE, 0)), CRPM_BAD_CLIENTS, 13);
+    short_of = t;
+    short_of.trace_length = 0;
+    RETURNS(write_bytes(at(&short_of, 0, 0, 0, ONE, 8)), CRPM_BAD_CLIENTS, 13);
+    RETURNS(checkpoint(&short_of), CRPM_BAD_CLIENTS, 13);
+    put_word(t.image, 0, UINT64_MAX); /* the states of an odd epoch stay */
+    RETURNS(checkpoint(&t), CRPM_BAD_CLIENTS, 13);
+    put_word(t.image, 0, 1);
+    RETURNS(open_image(&short_of), CRPM_BAD_CLIENTS, 13);
+    short_of = t;
+    STEP(refused_layouts(open_image, &short_of));
+
+    /* a write that copies main segment 1, with one backup segment free and a trace too short */
+    short_of = t;
+    short_of.trace_length = 0;
+    at(&short_of, 1, 0, 0, ONE, 8);
+    RETURNS(write_bytes(lend(&short_of, 2, none, two, none)), CRPM_QUOTA_REACHED, 14);
+    RETURNS(write_bytes(lend(&short_of, 1, none, none, none)), CRPM_QUOTA_REACHED, 14);
+    RETURNS(write_bytes(lend(&short_of, 2, any, client(1, 1, 0), none)), CRPM_BACKUPS_RESERVED, 15);
+    RETURNS(write_bytes(lend(&short_of, 2, any, client(2, 2, 1), none)), CRPM_BACKUPS_RESERVED, 15);
+    RETURNS(write_bytes(lend(&short_of, 2, any, client(2, 2, 2), none)), CRPM_TRACE_SHORT, 11);
+    RETURNS(write_bytes(lend(&short_of, 2, client(2, 2, 0), any, none)), CRPM_TRACE_SHORT, 11);
+    RETURNS(write_bytes(at(lend(&short_of, 1, none, none, none), 1, 0, 256, ONE, 8)), CRPM_BAD_SPAN, 8);
+
+    /* and with none free */
+    SERVED(write_bytes(at(lend(&t, 1, any, none, none), 1, 0, 0, ONE, 8)));
+    CHECK(t.clients[0].used == 1);
+    STEP(play(&t, 67, 10, 2));
+    RETURNS(write_bytes(at(lend(&t, 2, none, two, none), 2, 0, 0, ONE, 8)), CRPM_NO_FREE_BACKUP, 9);
+    SERVED(write_bytes(at(lend(&t, 2, none, two, none), 1, 0, 0, ONE, 8))); /* dirty: not charged */
+    finish(&t);
+}
+
 /* ---- replay: 2 and 12, and how many operations are played */
 
 static uint64_t replay(uint8_t *image, size_t length, const uint64_t *trace, size_t numbers, uint64_t n,
@@ -1094,7 +1328,7 @@ int main(int count, char **arguments)
         return 2;
     }
     CHECK(strcmp(CRPM_VERSION, arguments[1]) == 0);
-    session_fields();
+    fields();
     worked_examples();
     dirty_block_example();
     long_writes();
@@ -1104,6 +1338,9 @@ int main(int count, char **arguments)
     trace_lengths();
     refusals();
     epoch_limit();
+    two_clients();
+    runs();
+    refusals_in_order();
     replays();
     printf("header: %lu checks, %lu failed\n", checks, failures);
     return failures == 0 ? EXIT_SUCCESS : EXIT_FAILURE;

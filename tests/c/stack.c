@@ -19,9 +19,11 @@ static uint8_t image[CRPM_IMAGE_SIZE(MAINS, BACKUPS, BLOCKS)];
 static uint64_t trace[CRPM_TRACE(MAINS, BLOCKS)];
 static const uint8_t bytes[CRPM_BLOCK_SIZE - 2] = {1};
 static struct crpm_session session;
+static struct crpm_client clients[CRPM_MOST_CLIENTS] = {{BACKUPS, BACKUPS, 0}};
 static uint64_t status, ops, played, start, size, same;
 
 #define LENT_TRACE trace, sizeof trace / sizeof trace[0], &ops
+#define SESSION_AND_CLIENTS &session, clients, CRPM_MOST_CLIENTS
 
 /* The calls, each with the caller's stack pointer noted before it. */
 static uintptr_t entered;
@@ -34,9 +36,9 @@ static uintptr_t entered;
     }
 
 CALL(format, MAINS, BACKUPS, BLOCKS)
-CALL(open, MAINS, BACKUPS, BLOCKS, &session, LENT_TRACE)
-CALL(write, &session, 1, 1, 1, bytes, sizeof bytes, LENT_TRACE)
-CALL(checkpoint, &session, LENT_TRACE)
+CALL(open, MAINS, BACKUPS, BLOCKS, SESSION_AND_CLIENTS, LENT_TRACE)
+CALL(write, SESSION_AND_CLIENTS, 0, 1, 1, 1, bytes, sizeof bytes, LENT_TRACE)
+CALL(checkpoint, SESSION_AND_CLIENTS, LENT_TRACE)
 CALL(replay, trace, CRPM_OP_NUMBERS * (size_t)ops, ops, &played)
 CALL(read_working, MAINS, BACKUPS, BLOCKS, 1, 1, &start, &size)
 CALL(read_checkpoint, MAINS, BACKUPS, BLOCKS, 1, 1, &start, &size)

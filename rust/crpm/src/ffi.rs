@@ -27,6 +27,61 @@ impl Session {
         Session { mains: 0, backups: 0, blocks: 0, dirty_segments: 0, dirty_blocks: [0; 64] };
 }
 
+/// `struct crpm_client`: how many backup segments a client may take.
+///
+/// The clients of an image are numbered by their places in the run that its calls
+/// are lent, [`crate::MOST_CLIENTS`] at most. Reserved backup segments are at most
+/// those of the image, all clients' together, and at most the client's quota.
+///
+/// ```
+/// # fn main() -> Result<(), crpm::Refusal> {
+/// use crpm::{Client, Refusal};
+///
+/// // two backup segments, one for each client; each may take both
+/// let layout = crpm::Layout::new(3, 2, 1)?;
+/// let mut clients = [Client::new(1, 2); 2];
+/// # let (mut image, mut trace) = (vec![0; layout.image_size()], vec![0; layout.trace_length()]);
+/// crpm::format(&mut image, layout)?;
+/// let (mut session, ops) = crpm::open(&image, layout, &mut clients, &mut trace)?;
+/// crpm::replay(&mut image, ops, ops.len())?; // stands for carrying out
+/// for main in 0..3 {
+///     let ops = crpm::write(&image, &mut session, &mut clients, 0, main, 0, 0, b"oboe", &mut trace)?;
+///     crpm::replay(&mut image, ops, ops.len())?;
+/// }
+/// let ops = crpm::checkpoint(&image, &mut session, &mut clients, &mut trace)?;
+/// crpm::replay(&mut image, ops, ops.len())?;
+///
+/// // client 0 takes its own backup segment, and not that of client 1
+/// let ops = crpm::write(&image, &mut session, &mut clients, 0, 0, 0, 0, b"flue", &mut trace)?;
+/// crpm::replay(&mut image, ops, ops.len())?;
+/// assert_eq!(clients[0].used, 1);
+/// let refused = crpm::write(&image, &mut session, &mut clients, 0, 1, 0, 0, b"flue", &mut trace);
+/// assert_eq!(refused, Err(Refusal::BackupsReserved));
+/// let ops = crpm::write(&image, &mut session, &mut clients, 1, 1, 0, 0, b"reed", &mut trace)?;
+/// crpm::replay(&mut image, ops, ops.len())?;
+/// assert_eq!(clients[1].used, 1);
+/// # Ok(())
+/// # }
+/// ```
+#[repr(C)]
+#[derive(Clone, Copy, PartialEq, Eq, Debug)]
+pub struct Client {
+    /// Backup segments that are kept for it.
+    pub reserved: u64,
+    /// Backup segments that it may take between one checkpoint or opening and the
+    /// next.
+    pub quota: u64,
+    /// Backup segments that it has taken since the last checkpoint or opening.
+    pub used: u64,
+}
+
+impl Client {
+    /// A client that has taken nothing.
+    pub const fn new(reserved: u64, quota: u64) -> Client {
+        Client { reserved, quota, used: 0 }
+    }
+}
+
 extern "C" {
     /// Formats an image.
     pub fn crpm_format(image: *mut u8, image_length: usize, mains: u64, backups: u64, blocks: u64) -> u64;
@@ -38,6 +93,8 @@ extern "C" {
         backups: u64,
         blocks: u64,
         session: *mut Session,
+        clients: *mut Client,
+        clients_length: usize,
         trace: *mut u64,
         trace_length: usize,
         ops: *mut u64,
@@ -47,6 +104,9 @@ extern "C" {
         image: *const u8,
         image_length: usize,
         session: *mut Session,
+        clients: *mut Client,
+        clients_length: usize,
+        client: u64,
         main: u64,
         block: u64,
         offset: u64,
@@ -61,6 +121,8 @@ extern "C" {
         image: *const u8,
         image_length: usize,
         session: *mut Session,
+        clients: *mut Client,
+        clients_length: usize,
         trace: *mut u64,
         trace_length: usize,
         ops: *mut u64,

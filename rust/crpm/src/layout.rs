@@ -12,6 +12,8 @@ pub const BLOCK_SIZE: usize = 256;
 pub const METADATA_SIZE: usize = 512;
 /// Most main segments, backup segments and blocks.
 pub const MOST: usize = 64;
+/// Most clients of one image.
+pub const MOST_CLIENTS: usize = 8;
 
 /// Where the committed epoch stands: a word, the number of checkpoints.
 pub const EPOCH_AT: usize = 0;

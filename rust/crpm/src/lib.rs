@@ -14,20 +14,21 @@
 //! change an image.
 //!
 //! ```
-//! use crpm::{Layout, Op, Ops, Refusal};
+//! use crpm::{Client, Layout, Op, Ops, Refusal};
 //!
 //! fn main() -> Result<(), Refusal> {
 //!     let layout = Layout::new(2, 1, 1)?; // main segments, backup segments, blocks
 //!     let mut image = vec![0; layout.image_size()]; // stands for the module's memory
 //!     let mut trace = vec![0; layout.trace_length()];
+//!     let mut clients = [Client::new(1, 1)]; // one, for which every backup segment is kept
 //!     crpm::format(&mut image, layout)?; // on a module: flush every line, then fence
 //!
 //!     // a program's start; on a module: flush every line and fence before it
-//!     let (mut session, ops) = crpm::open(&image, layout, &mut trace)?;
+//!     let (mut session, ops) = crpm::open(&image, layout, &mut clients, &mut trace)?;
 //!     carry_out(&mut image, ops);
-//!     let ops = crpm::write(&image, &mut session, 0, 0, 6, b"oboe", &mut trace)?;
+//!     let ops = crpm::write(&image, &mut session, &mut clients, 0, 0, 0, 6, b"oboe", &mut trace)?;
 //!     carry_out(&mut image, ops);
-//!     let ops = crpm::checkpoint(&image, &mut session, &mut trace)?;
+//!     let ops = crpm::checkpoint(&image, &mut session, &mut clients, &mut trace)?;
 //!     carry_out(&mut image, ops);
 //!
 //!     let block = crpm::read_checkpoint(&image, layout, 0, 0)?.expect("it was written to");
@@ -67,7 +68,13 @@
 //! - The image is the module's memory, mapped so that a flush reaches it. Its
 //!   byte 0 stands at an address divisible by 64, and the processor's cache line
 //!   is 64 bytes. Each store of a trace is one aligned 8-byte store.
-//! - One image, one writer: nothing else stores into it.
+//! - One image, one writer: nothing else stores into it. Several clients that
+//!   write the same image are lent to its calls as one run of [`Client`]s, which
+//!   only the calls change; then a client below its reserved backup segments is
+//!   never refused with [`Refusal::NoFreeBackup`], [`Refusal::QuotaReached`] or
+//!   [`Refusal::BackupsReserved`], from the first served checkpoint after the
+//!   latest opening on, whatever the others write. The first opening of a program
+//!   is lent a run with nothing used.
 //!
 //! # Building
 //!
@@ -84,6 +91,7 @@ mod layout;
 mod refusal;
 mod trace;
 
+pub use ffi::Client;
 pub use layout::*;
 pub use refusal::Refusal;
 pub use trace::*;
@@ -141,12 +149,19 @@ pub fn format(image: &mut [u8], layout: Layout) -> Result<(), Refusal> {
 
 /// Opens an image, which recovers: once its operations are carried out, the
 /// working bytes are those of the last checkpoint. At a program's start flush
-/// every line of the image and fence before it.
+/// every line of the image and fence before it. Nothing is used by any client
+/// then.
 ///
 /// # Errors
 ///
-/// [`Refusal::BadLength`] to [`Refusal::Invalid`], [`Refusal::TraceShort`].
-pub fn open<'t>(image: &[u8], layout: Layout, trace: &'t mut [u64]) -> Result<(Session, Ops<'t>), Refusal> {
+/// In this order: [`Refusal::BadLength`] to [`Refusal::Invalid`],
+/// [`Refusal::BadClients`], [`Refusal::TraceShort`].
+pub fn open<'t>(
+    image: &[u8],
+    layout: Layout,
+    clients: &mut [Client],
+    trace: &'t mut [u64],
+) -> Result<(Session, Ops<'t>), Refusal> {
     let (mut session, mut ops) = (ffi::Session::ZEROS, 0);
     // SAFETY: each slice is valid for its length, each reference for what it
     // points to; what is lent for change is not shared.
@@ -158,6 +173,8 @@ pub fn open<'t>(image: &[u8], layout: Layout, trace: &'t mut [u64]) -> Result<(S
             layout.backups() as u64,
             layout.blocks() as u64,
             &mut session,
+            clients.as_mut_ptr(),
+            clients.len(),
             trace.as_mut_ptr(),
             trace.len(),
             &mut ops,
@@ -177,18 +194,23 @@ pub fn open<'t>(image: &[u8], layout: Layout, trace: &'t mut [u64]) -> Result<(S
 /// state 1. So the same calls on the same image always give the same operations.
 /// Every block that the write meets becomes dirty.
 ///
+/// `client` is the number of the writer's record. A write that copies its main
+/// segment, whether to a new backup segment or to its own, and even if no block of
+/// it is dirty, adds 1 to what that client has used.
+///
 /// ```
 /// # fn main() -> Result<(), crpm::Refusal> {
 /// let layout = crpm::Layout::new(1, 1, 4)?;
 /// let mut image = vec![0; layout.image_size()];
 /// let mut trace = vec![0; layout.trace_length()];
+/// let mut clients = [crpm::Client::new(1, 1)];
 /// crpm::format(&mut image, layout)?;
-/// let (mut session, ops) = crpm::open(&image, layout, &mut trace)?;
+/// let (mut session, ops) = crpm::open(&image, layout, &mut clients, &mut trace)?;
 /// crpm::replay(&mut image, ops, ops.len())?; // stands for carrying out
 ///
 /// // from byte 30 of block 0 over blocks 0, 1 and 2
 /// let bytes: Vec<u8> = (0..700).map(|i| i as u8).collect();
-/// let ops = crpm::write(&image, &mut session, 0, 0, 30, &bytes, &mut trace)?;
+/// let ops = crpm::write(&image, &mut session, &mut clients, 0, 0, 0, 30, &bytes, &mut trace)?;
 /// assert_eq!(ops.len(), 89); // one store for each word that it meets
 /// assert_eq!(session.words().dirty_blocks[0], 0b0111);
 /// crpm::replay(&mut image, ops, ops.len())?;
@@ -198,7 +220,7 @@ pub fn open<'t>(image: &[u8], layout: Layout, trace: &'t mut [u64]) -> Result<(S
 /// assert_eq!(blocks[2]?[..218], bytes[482..]);
 ///
 /// // one byte more than the main segment has from there on
-/// let refused = crpm::write(&image, &mut session, 0, 0, 30, &[0; 995], &mut trace);
+/// let refused = crpm::write(&image, &mut session, &mut clients, 0, 0, 0, 30, &[0; 995], &mut trace);
 /// assert_eq!(refused, Err(crpm::Refusal::BadSpan));
 /// # Ok(())
 /// # }
@@ -206,10 +228,16 @@ pub fn open<'t>(image: &[u8], layout: Layout, trace: &'t mut [u64]) -> Result<(S
 ///
 /// # Errors
 ///
-/// [`Refusal::BadLength`] to [`Refusal::NoFreeBackup`], [`Refusal::TraceShort`].
+/// In this order: [`Refusal::BadLength`] to [`Refusal::BadSession`],
+/// [`Refusal::BadClients`], [`Refusal::NoSuchMain`] to [`Refusal::NoFreeBackup`],
+/// [`Refusal::QuotaReached`], [`Refusal::BackupsReserved`],
+/// [`Refusal::TraceShort`].
+#[allow(clippy::too_many_arguments)] // those of the C interface
 pub fn write<'t>(
     image: &[u8],
     session: &mut Session,
+    clients: &mut [Client],
+    client: usize,
     main: usize,
     block: usize,
     offset: usize,
@@ -223,6 +251,9 @@ pub fn write<'t>(
             image.as_ptr(),
             image.len(),
             &mut session.0,
+            clients.as_mut_ptr(),
+            clients.len(),
+            client as u64,
             main as u64,
             block as u64,
             offset as u64,
@@ -237,13 +268,19 @@ pub fn write<'t>(
 }
 
 /// Makes the working bytes the checkpoint, in one step: a power cut shows the
-/// old checkpoint or the new one, whole. Every backup segment is free after it.
+/// old checkpoint or the new one, whole. Every backup segment is free after it, and
+/// nothing is used by any client.
 ///
 /// # Errors
 ///
-/// [`Refusal::BadLength`] to [`Refusal::BadSession`], [`Refusal::EpochLimit`],
-/// [`Refusal::TraceShort`].
-pub fn checkpoint<'t>(image: &[u8], session: &mut Session, trace: &'t mut [u64]) -> Result<Ops<'t>, Refusal> {
+/// In this order: [`Refusal::BadLength`] to [`Refusal::BadSession`],
+/// [`Refusal::BadClients`], [`Refusal::EpochLimit`], [`Refusal::TraceShort`].
+pub fn checkpoint<'t>(
+    image: &[u8],
+    session: &mut Session,
+    clients: &mut [Client],
+    trace: &'t mut [u64],
+) -> Result<Ops<'t>, Refusal> {
     let mut ops = 0;
     // SAFETY: as in `open`.
     served(unsafe {
@@ -251,6 +288,8 @@ pub fn checkpoint<'t>(image: &[u8], session: &mut Session, trace: &'t mut [u64])
             image.as_ptr(),
             image.len(),
             &mut session.0,
+            clients.as_mut_ptr(),
+            clients.len(),
             trace.as_mut_ptr(),
             trace.len(),
             &mut ops,

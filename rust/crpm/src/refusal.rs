@@ -3,8 +3,9 @@
 use core::error::Error;
 use core::fmt;
 
-/// Why a call was not served: the lowest number that applies. A refused call
-/// changes neither image nor trace and leaves the session as it came.
+/// Why a call was not served: the first that applies in the order that the call
+/// names them in. A refused call changes neither image, trace nor clients and
+/// leaves the session as it came.
 #[derive(Clone, Copy, PartialEq, Eq, Hash, Debug)]
 #[repr(u64)]
 pub enum Refusal {
@@ -34,11 +35,21 @@ pub enum Refusal {
     TraceShort = 11,
     /// Replay: the length is not divisible by 3, or an operation is ill formed.
     TraceBad = 12,
+    /// The run of clients: there is no client of that number, there are more than
+    /// 8, a client's reserved or used backup segments are above its quota, or the
+    /// reserved ones are more together than there are.
+    BadClients = 13,
+    /// A write copies its main segment, and its client has taken as many backup
+    /// segments as its quota says; a checkpoint sets the count to 0.
+    QuotaReached = 14,
+    /// A write copies its main segment, and the backup segments that are free are
+    /// all kept for other clients; a checkpoint frees every one.
+    BackupsReserved = 15,
 }
 
 impl Refusal {
     /// All of them, by their numbers.
-    pub const ALL: [Refusal; 12] = [
+    pub const ALL: [Refusal; 15] = [
         Refusal::BadSize,
         Refusal::BadLength,
         Refusal::Foreign,
@@ -51,6 +62,9 @@ impl Refusal {
         Refusal::EpochLimit,
         Refusal::TraceShort,
         Refusal::TraceBad,
+        Refusal::BadClients,
+        Refusal::QuotaReached,
+        Refusal::BackupsReserved,
     ];
 
     /// The number that the C interface returns.
@@ -74,6 +88,9 @@ impl fmt::Display for Refusal {
             Refusal::EpochLimit => "the epoch is at its limit",
             Refusal::TraceShort => "the trace is too short",
             Refusal::TraceBad => "the trace is ill formed",
+            Refusal::BadClients => "there is no such client, or the run of clients is not one of this image",
+            Refusal::QuotaReached => "the client has taken as many backup segments as it may",
+            Refusal::BackupsReserved => "the free backup segments are kept for other clients",
         };
         write!(f, "{text} (refusal {})", self.number())
     }

@@ -1,8 +1,9 @@
-//! Images, cards, tapes and calls of every kind, made from a fixed seed.
+//! Images, cards, runs, tapes and calls of every kind, made from a fixed seed.
 //!
 //! Sound images (section 3) have any states, pairs and epochs and rubbish in
 //! every byte that is not named; damage of each kind of refusal is put on top.
-//! Nothing here calls an implementation.
+//! Runs (section 5.7) likewise have any numbers that 13 does not refuse, or are
+//! spoiled. Nothing here calls an implementation.
 
 use crate::book::{saved_bytes, Call, Deed};
 use crate::calls::*;
@@ -259,9 +260,99 @@ pub fn odd_sizes(rng: &mut Rng, sizes: Sizes) -> Sizes {
     }
 }
 
-/// A write's target and bytes: mostly good, about half of them over several
-/// frames where a level has them, sometimes out of range: offsets behind the
-/// frame with every kind of length, no bytes, one byte more than is left of the
+/// A run that 13 does not refuse: up to eight consoles, whose shares together
+/// are no more than the spares. A limit may be above the spares; a taken count is
+/// often at the share or at the limit, or beside them.
+pub fn run(rng: &mut Rng, spares: u64) -> Vec<Console> {
+    let consoles = if rng.once_in(3) { rng.range(0, MOST_CONSOLES) } else { rng.range(1, 3) };
+    let mut left = spares;
+    let console = |_| {
+        let share = match rng.below(8) {
+            0..=2 => 0,
+            3 => left,
+            _ => rng.range(0, left.div_ceil(2) as usize) as u64,
+        };
+        left -= share;
+        let limit = rng.pick(&[share, share + 1, share + 2, spares, spares + 1, spares + 2, u64::MAX]);
+        let near = [0, 0, 0, share.saturating_sub(1), share, share + 1, limit.saturating_sub(1), limit];
+        Console { share, limit, taken: rng.pick(&near).min(limit) }
+    };
+    (0..consoles).map(console).collect()
+}
+
+/// The run of a history: one console for which every spare is kept; two or three
+/// that may take every spare, one of which is kept for the last; or any that 13 does
+/// not refuse.
+pub fn own_run(rng: &mut Rng, sizes: Sizes) -> Vec<Console> {
+    let spares = sizes.spares;
+    match rng.below(3) {
+        0 => vec![Console::alone(sizes)],
+        1 => {
+            let mut run = vec![Console::new(0, spares); rng.range(1, 2)];
+            run.push(Console::new(1, spares));
+            run
+        }
+        _ => run(rng, spares),
+    }
+}
+
+/// Any run: one in four is that of one console, one in four is refused with 13,
+/// mostly for one reason alone.
+pub fn any_run(rng: &mut Rng, sizes: Sizes) -> Vec<Console> {
+    let spares = sizes.spares.min(MOST);
+    let mut run = run(rng, spares);
+    match rng.below(4) {
+        0 => run = vec![Console::alone(sizes)],
+        1 => spoil_run(rng, &mut run, spares),
+        _ => {}
+    }
+    run
+}
+
+/// More than eight consoles, a share or a taken count above its limit, shares
+/// that sum above the spares, among them some whose sum in 64 bits does not.
+fn spoil_run(rng: &mut Rng, run: &mut Vec<Console>, spares: u64) {
+    run.resize(run.len().max(2), Console::new(0, 1));
+    let shares: u64 = run.iter().map(|console| console.share).sum();
+    let one = run.iter().position(|console| console.share > 0).unwrap_or(0);
+    let wrapping = Console::new(1 << 63 | rng.word(), u64::MAX);
+    match rng.below(7) {
+        0 => run.resize(rng.range(MOST_CONSOLES + 1, MOST_CONSOLES + 2), Console::new(0, 1)),
+        1 => {
+            let share = run[one].share.max(1);
+            run[one] = Console { share, limit: share - 1, taken: run[one].taken.min(share - 1) };
+        }
+        2 => {
+            let limit = run[one].limit.min(u64::MAX - 1);
+            run[one] = Console { limit, taken: rng.pick(&[limit + 1, limit + 1, u64::MAX]), ..run[one] };
+        }
+        3 => {
+            run[one].share += spares - shares + 1;
+            run[one].limit = run[one].limit.max(run[one].share);
+        }
+        4 => {
+            let others = shares - run[0].share - run[1].share;
+            let sum = rng.below(spares as usize + 1) as u64;
+            let share = sum.wrapping_sub(others).wrapping_sub(wrapping.share);
+            run[..2].copy_from_slice(&[wrapping, Console { share, ..wrapping }]);
+        }
+        5 => *run = vec![Console::new(1 << 61, u64::MAX); MOST_CONSOLES],
+        _ => run.fill_with(|| Console { share: rng.word(), limit: rng.word(), taken: rng.word() }),
+    }
+}
+
+/// The number of a console of this run, sometimes of none.
+pub fn console(rng: &mut Rng, run: &[Console]) -> u64 {
+    let consoles = run.len() as u64;
+    match run.is_empty() || rng.once_in(16) {
+        true => rng.pick(&[consoles, consoles + 1, 8, 1 << 32, u64::MAX]),
+        false => rng.below(run.len()) as u64,
+    }
+}
+
+/// A write's target and bytes, of console 0: mostly good, about half of them over
+/// several frames where a level has them, sometimes out of range: offsets behind
+/// the frame with every kind of length, no bytes, one byte more than is left of the
 /// level, as many bytes as a level has from any place on.
 pub fn writing(rng: &mut Rng, sizes: Sizes) -> (Target, Vec<u8>) {
     let frames = sizes.frames.clamp(1, 64) as usize;
@@ -275,6 +366,7 @@ pub fn writing(rng: &mut Rng, sizes: Sizes) -> (Target, Vec<u8>) {
     let (own, left) = (FRAME - offset, FRAME * (frames - frame) - offset);
     let length = if long { long_span(rng, own, left) } else { short_span(rng, own) };
     let mut target = Target {
+        console: 0,
         level: rng.below(sizes.levels.clamp(1, 64) as usize) as u64,
         frame: frame as u64,
         offset: offset as u64,
@@ -323,12 +415,15 @@ fn long_span(rng: &mut Rng, own: usize, left: usize) -> usize {
     .max(1)
 }
 
-/// Any call of a history: good ones mostly, refused ones of each kind too.
-pub fn call(rng: &mut Rng, sizes: Sizes) -> Call {
+/// Any call of a history with this run: good ones mostly, refused ones of each
+/// kind too, some lent another run.
+pub fn call(rng: &mut Rng, sizes: Sizes, own: &[Console]) -> Call {
+    let lent = rng.once_in(12).then(|| any_run(rng, sizes));
     let deed = match rng.below(20) {
         0..=12 => {
             let (target, bytes) = writing(rng, sizes);
-            Deed::Write(target, bytes)
+            let console = console(rng, lent.as_deref().unwrap_or(own));
+            Deed::Write(Target { console, ..target }, bytes)
         }
         13..=17 => Deed::Save,
         18 if rng.once_in(2) => Deed::Open(odd_sizes(rng, sizes)),
@@ -340,7 +435,7 @@ pub fn call(rng: &mut Rng, sizes: Sizes) -> Call {
         1 => rng.below(64),
         _ => room + rng.below(3),
     };
-    Call { deed, tape }
+    Call { deed, lent, tape }
 }
 
 /// A tape for the player, well formed for an image of this length or not.

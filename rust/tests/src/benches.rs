@@ -1,8 +1,8 @@
 //! Two benches, one sheet (section 17.6): nothing is left to choose, so what
 //! stood in memory beforehand makes no difference.
 //!
-//! A bench is a module with its card and a tape. Its image is laid out over
-//! rubbish, and its tape holds rubbish before every call. The sheet here is
+//! A bench is a module with its card, its run of consoles and a tape. Its image is
+//! laid out over rubbish, and its tape holds rubbish before every call. The sheet here is
 //! written with what it prints and with the pairs after each group; it runs on
 //! two benches, one of whose memory held zeros, the other's random numbers,
 //! and after every call both have the same orders, cards and dumps. So do
@@ -13,7 +13,7 @@ use crate::arbitrary;
 use crate::book::{Call, Deed};
 use crate::calls::*;
 use crate::groups::{due, laws_tried, plain};
-use crate::laws::{Tally, Tried};
+use crate::laws::{Seen, Tally, Tried};
 use crate::prng::Rng;
 use crate::report::{Found, Outcome};
 use crate::sheet;
@@ -40,12 +40,14 @@ impl Rubbish {
     }
 }
 
-/// A module with its card; what stands on its tape before a call is rubbish.
+/// A module with its card and its run; what stands on its tape before a call is
+/// rubbish.
 pub struct Bench<'a, C: Calls> {
     calls: &'a C,
     rubbish: Rubbish,
     image: Vec<u8>,
     card: Card,
+    run: Vec<Console>,
 }
 
 /// What a call answered, wrote and left on a bench.
@@ -55,33 +57,44 @@ pub struct Ran {
     /// The numbers of its orders.
     pub orders: Vec<u64>,
     pub card: Card,
+    /// The run as it was lent and as it was left.
+    pub lent: Vec<Console>,
+    pub left: Vec<Console>,
     /// The image before it, and after its orders were played.
     pub before: Vec<u8>,
     pub dump: Vec<u8>,
 }
 
+impl Ran {
+    /// The call as a tally is fed it.
+    pub fn seen<'a>(&'a self, call: &'a Call) -> Seen<'a> {
+        let Ran { answer, lent, left, before, dump, .. } = self;
+        Seen { deed: &call.deed, number: answer.number, lent, left, before, after: dump }
+    }
+}
+
 impl<'a, C: Calls> Bench<'a, C> {
-    /// A bench whose image is laid out over rubbish.
+    /// A bench of one console, whose image is laid out over rubbish.
     pub fn laid_out(calls: &'a C, sizes: Sizes, mut rubbish: Rubbish) -> Bench<'a, C> {
         let mut image = rubbish.bytes(sizes.image_length());
         calls.lay_out(&mut image, sizes);
-        Bench { calls, rubbish, image, card: Card::zeros() }
+        Bench { calls, rubbish, image, card: Card::zeros(), run: vec![Console::alone(sizes)] }
     }
 
     /// Runs a call, with rubbish on its tape, which is so many numbers longer than
     /// the call asks for, and plays its orders.
     pub fn run(&mut self, call: &Call, longer: usize) -> Ran {
         let mut tape = self.rubbish.numbers(call.tape + longer);
-        let (image, card) = (&self.image, &mut self.card);
-        let answer = match &call.deed {
-            Deed::Open(sizes) => self.calls.open(image, *sizes, card, &mut tape),
-            Deed::Write(target, bytes) => self.calls.write(image, card, *target, bytes, &mut tape),
-            Deed::Save => self.calls.save(image, card, &mut tape),
-        };
+        let lent = call.lent.as_ref().unwrap_or(&self.run).clone();
+        let mut left = lent.clone();
+        let answer = call.deed.make(self.calls, &self.image, &mut self.card, &mut left, &mut tape);
+        if call.lent.is_none() {
+            self.run.clone_from(&left);
+        }
         tape.truncate(answer.orders.saturating_mul(3) as usize);
         let before = self.image.clone();
         self.calls.play(&mut self.image, &tape, answer.orders);
-        Ran { answer, orders: tape, card: self.card, before, dump: self.image.clone() }
+        Ran { answer, orders: tape, card: self.card, lent, left, before, dump: self.image.clone() }
     }
 }
 
@@ -147,6 +160,7 @@ fn same(call: &str, first: &Ran, second: &Ran) -> Result<(), String> {
     alike("answers", first.answer == second.answer)?;
     alike("orders", first.orders == second.orders)?;
     alike("cards", first.card == second.card)?;
+    alike("runs", first.left == second.left)?;
     alike("dumps", first.before == second.before && first.dump == second.dump)
 }
 
@@ -163,9 +177,10 @@ pub fn one_sheet<C: Calls>(calls: &C) -> Outcome {
     Ok(Found::new(text, &[("calls on two benches", ran)]))
 }
 
-/// Random histories on two benches, from laid-out images and from sound ones,
-/// with the same orders and dumps after every call, whatever stood on their
-/// tapes and however long these are. Each law must be tried.
+/// Random histories on two benches, from laid-out images and from sound ones, of
+/// one console or of several, with the same orders and dumps after every call,
+/// whatever stood on their tapes and however long these are. Each law must be
+/// tried.
 pub fn random_histories<C: Calls>(calls: &C, seed: u64, histories: u64) -> Outcome {
     let mut rng = Rng::new(seed);
     let (mut tried, mut ran) = (Tried::default(), 0);
@@ -177,11 +192,14 @@ pub fn random_histories<C: Calls>(calls: &C, seed: u64, histories: u64) -> Outco
             one.image = arbitrary::sound_image(&mut rng, sizes);
             other.image.clone_from(&one.image);
         }
-        let mut tally = Tally::start(&one.image, sizes);
+        let run = arbitrary::own_run(&mut rng, sizes);
+        one.run.clone_from(&run);
+        other.run.clone_from(&run);
+        let mut tally = Tally::start(&one.image, sizes, &run);
         for place in 0..=CALLS {
             let call = match place {
                 0 => plain(Deed::Open(sizes), sizes),
-                _ => arbitrary::call(&mut rng, sizes),
+                _ => arbitrary::call(&mut rng, sizes, &run),
             };
             let first = one.run(&call, 0);
             // the second tape may be longer, where the first was long enough
@@ -189,7 +207,7 @@ pub fn random_histories<C: Calls>(calls: &C, seed: u64, histories: u64) -> Outco
             let second = other.run(&call, longer);
             let told = format!("history {number}, sizes {sizes}: {call}");
             same(&told, &first, &second)?;
-            let fed = tally.feed(&call.deed, first.answer.number, &first.before, &first.dump);
+            let fed = tally.feed(first.seen(&call));
             tried.add(fed.map_err(|what| format!("{told}: {what}"))?);
             ran += 1;
         }

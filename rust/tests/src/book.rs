@@ -1,13 +1,13 @@
 //! The book (section 8): what a history is compared with.
 //!
-//! The book is fed each call's arguments without image, card and tape, and of
-//! the answer only whether it was served. `pages_read` is what the two reads of
+//! The book is fed each call's arguments without image, card, run and tape, and
+//! of the answer only whether it was served. `pages_read` is what the two reads of
 //! the implementation under test give; the explorer compares the two.
 
 use crate::calls::*;
 use std::fmt;
 
-/// A call's arguments without image, card and tape.
+/// A call's arguments without image, card, run and tape.
 #[derive(Clone, PartialEq, Eq, Debug)]
 pub enum Deed {
     Open(Sizes),
@@ -15,24 +15,63 @@ pub enum Deed {
     Save,
 }
 
-/// One call of a history: its arguments and the length of its tape.
+impl Deed {
+    /// Makes the call.
+    pub fn make<C: Calls>(
+        &self,
+        calls: &C,
+        image: &[u8],
+        card: &mut Card,
+        run: &mut [Console],
+        tape: &mut [u64],
+    ) -> Answer {
+        match self {
+            Deed::Open(sizes) => calls.open(image, *sizes, card, run, tape),
+            Deed::Write(target, bytes) => calls.write(image, card, run, *target, bytes, tape),
+            Deed::Save => calls.save(image, card, run, tape),
+        }
+    }
+}
+
+impl fmt::Display for Deed {
+    fn fmt(&self, f: &mut fmt::Formatter) -> fmt::Result {
+        match self {
+            Deed::Open(sizes) => write!(f, "open {sizes}"),
+            Deed::Save => write!(f, "save"),
+            Deed::Write(target, bytes) => {
+                let (Target { console, level, frame, offset }, length) = (target, bytes.len());
+                write!(
+                    f,
+                    "console {console} writes {length} bytes to level {level} frame {frame} at {offset}"
+                )
+            }
+        }
+    }
+}
+
+/// One call of a history: its arguments, the run that it is lent, if that is not
+/// the history's own as the last call left it, and the length of its tape.
 #[derive(Clone, PartialEq, Eq, Debug)]
 pub struct Call {
     pub deed: Deed,
+    pub lent: Option<Vec<Console>>,
     pub tape: usize,
 }
 
 impl fmt::Display for Call {
     fn fmt(&self, f: &mut fmt::Formatter) -> fmt::Result {
-        match &self.deed {
-            Deed::Open(sizes) => write!(f, "open {sizes}"),
-            Deed::Save => write!(f, "save"),
-            Deed::Write(target, bytes) => {
-                let Target { level, frame, offset } = target;
-                write!(f, "write {} bytes to level {level} frame {frame} at {offset}", bytes.len())
-            }
+        write!(f, "{}", self.deed)?;
+        match &self.lent {
+            None => Ok(()),
+            Some(run) => write!(f, ", lent {}", told(run)),
         }
     }
+}
+
+/// A run in words: each record's share, limit and taken count.
+pub fn told(run: &[Console]) -> String {
+    let records: Vec<String> = run.iter().map(Console::to_string).collect();
+    format!("[{}]", records.join(" "))
 }
 
 /// A page: M×B frames, and which levels are set, bit by bit. A level is set by

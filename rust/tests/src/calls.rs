@@ -1,5 +1,6 @@
-//! The calls as an interface, with the layout (sections 1 and 2), the card
-//! (section 5) and the orders (section 6) that they speak of.
+//! The calls as an interface, with the layout (sections 1 and 2), the card and
+//! the consoles' records (section 5) and the orders (section 6) that they speak
+//! of.
 //!
 //! `Reference`, `Fast` and, through the C interface, the proved library all
 //! stand behind `Calls`, so that the same explorer and the same comparisons run
@@ -17,6 +18,7 @@ pub const ODD_STATES: usize = 192;
 pub const PAIRS: usize = 256;
 pub const DATA: usize = 512;
 pub const MOST: u64 = 64;
+pub const MOST_CONSOLES: usize = 8;
 pub const UNPAIRED: u8 = 255;
 
 /// M, S and B.
@@ -103,9 +105,38 @@ impl Card {
     }
 }
 
-/// Where a write starts; from there it may run on to the end of its level.
+/// The record of a console (section 5.7): how many spares are kept for it, how
+/// many it may take, and how many it has taken since the last save or opening.
+#[derive(Clone, Copy, PartialEq, Eq, Debug)]
+pub struct Console {
+    pub share: u64,
+    pub limit: u64,
+    pub taken: u64,
+}
+
+impl Console {
+    /// A console that has taken nothing.
+    pub const fn new(share: u64, limit: u64) -> Console {
+        Console { share, limit, taken: 0 }
+    }
+
+    /// The console of a module that has no other: every spare is kept for it.
+    pub const fn alone(sizes: Sizes) -> Console {
+        Console::new(sizes.spares, sizes.spares)
+    }
+}
+
+impl fmt::Display for Console {
+    fn fmt(&self, f: &mut fmt::Formatter) -> fmt::Result {
+        write!(f, "{}/{}/{}", self.share, self.limit, self.taken)
+    }
+}
+
+/// Who writes, by the number of its record, and where the write starts; from
+/// there it may run on to the end of its level.
 #[derive(Clone, Copy, PartialEq, Eq, Debug)]
 pub struct Target {
+    pub console: u64,
     pub level: u64,
     pub frame: u64,
     pub offset: u64,
@@ -186,12 +217,28 @@ pub enum Page {
     Saved,
 }
 
-/// The calls of sections 4, 6 and 9 to 13.
+/// The calls of sections 4, 6 and 9 to 13. A run is lent to those that know
+/// consoles.
 pub trait Calls {
     fn lay_out(&self, image: &mut [u8], sizes: Sizes) -> u64;
-    fn open(&self, image: &[u8], sizes: Sizes, card: &mut Card, tape: &mut [u64]) -> Answer;
-    fn write(&self, image: &[u8], card: &mut Card, target: Target, bytes: &[u8], tape: &mut [u64]) -> Answer;
-    fn save(&self, image: &[u8], card: &mut Card, tape: &mut [u64]) -> Answer;
+    fn open(
+        &self,
+        image: &[u8],
+        sizes: Sizes,
+        card: &mut Card,
+        run: &mut [Console],
+        tape: &mut [u64],
+    ) -> Answer;
+    fn write(
+        &self,
+        image: &[u8],
+        card: &mut Card,
+        run: &mut [Console],
+        target: Target,
+        bytes: &[u8],
+        tape: &mut [u64],
+    ) -> Answer;
+    fn save(&self, image: &[u8], card: &mut Card, run: &mut [Console], tape: &mut [u64]) -> Answer;
     fn play(&self, image: &mut [u8], tape: &[u64], n: u64) -> Answer;
     fn read(&self, page: Page, image: &[u8], sizes: Sizes, level: u64, frame: u64) -> Part;
     fn like(&self, first: &[u8], second: &[u8], sizes: Sizes) -> (u64, bool);

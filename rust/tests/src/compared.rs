@@ -1,14 +1,15 @@
 //! Two implementations of the calls run side by side on equal inputs.
 //!
-//! Every call goes to both; answer, card, tape and image are compared byte for
+//! Every call goes to both; answer, card, run, tape and image are compared byte for
 //! byte (the images of reads and likeness where they are small), and the first
 //! difference is kept. The caller gets what the tested one gave, so the explorer
 //! over a `Compared` is a history through the tested one, held against the other
 //! step by step. The numbers that each call knows are those of section 14.
-//! Writes are counted by their spans (`laws`).
+//! Writes are counted by their spans and calls by the records (`laws`).
 
+use crate::book::{told, Deed};
 use crate::calls::*;
-use crate::laws::{words_met, Spans};
+use crate::laws::{Charges, Spans};
 use std::cell::{Cell, RefCell};
 use std::collections::BTreeMap;
 
@@ -16,11 +17,11 @@ use std::collections::BTreeMap;
 const LISTED: [(&str, &[u64]); 7] = [
     ("lay_out", &[0, 1, 2]),
     ("like", &[0, 1, 2, 3, 4]),
-    ("open", &[0, 1, 2, 3, 4, 11]),
+    ("open", &[0, 1, 2, 3, 4, 11, 13]),
     ("play", &[0, 2, 12]),
     ("read", &[0, 1, 2, 3, 4, 6, 7]),
-    ("save", &[0, 1, 2, 3, 4, 5, 10, 11]),
-    ("write", &[0, 1, 2, 3, 4, 5, 6, 7, 8, 9, 11]),
+    ("save", &[0, 1, 2, 3, 4, 5, 10, 11, 13]),
+    ("write", &[0, 1, 2, 3, 4, 5, 6, 7, 8, 9, 11, 13, 14, 15]),
 ];
 
 /// The longest image that is kept beside each read and each likeness.
@@ -42,6 +43,15 @@ fn tapes(got: &[u64], due: &[u64]) -> String {
     }
 }
 
+/// The name of a call that writes a tape, as it is listed.
+fn name_of(deed: &Deed) -> &'static str {
+    match deed {
+        Deed::Open(_) => "open",
+        Deed::Write(..) => "write",
+        Deed::Save => "save",
+    }
+}
+
 fn unchanged(kept: Option<Vec<u8>>, image: &[u8]) -> bool {
     kept.is_none_or(|kept| kept == image)
 }
@@ -51,19 +61,26 @@ pub struct Compared<'a, G: Calls, T: Calls> {
     tested: &'a T,
     answers: RefCell<BTreeMap<(&'static str, u64), u64>>,
     spans: Cell<Spans>,
+    charges: Cell<Charges>,
     differences: Cell<u64>,
     first: RefCell<Option<String>>,
 }
 
 impl<'a, G: Calls, T: Calls> Compared<'a, G, T> {
     pub fn new(good: &'a G, tested: &'a T) -> Compared<'a, G, T> {
-        let (answers, first) = (RefCell::default(), RefCell::default());
-        Compared { good, tested, answers, spans: Cell::default(), differences: Cell::new(0), first }
+        let (answers, first, differences) = (RefCell::default(), RefCell::default(), Cell::new(0));
+        let (spans, charges) = (Cell::default(), Cell::default());
+        Compared { good, tested, answers, spans, charges, differences, first }
     }
 
     /// How many writes of each kind of span were compared.
     pub fn spans(&self) -> Spans {
         self.spans.get()
+    }
+
+    /// How many calls of each kind that the records decide were compared.
+    pub fn charges(&self) -> Charges {
+        self.charges.get()
     }
 
     /// How many calls were compared.
@@ -101,6 +118,55 @@ impl<'a, G: Calls, T: Calls> Compared<'a, G, T> {
         }
     }
 
+    /// Makes a call on both, on equal copies of what it is lent.
+    fn both(
+        &self,
+        deed: &Deed,
+        image: &[u8],
+        card: &mut Card,
+        run: &mut [Console],
+        tape: &mut [u64],
+    ) -> Answer {
+        let (kept, given, lent) = (image.to_vec(), *card, run.to_vec());
+        let (mut card_due, mut run_due, mut tape_due) = (given, lent.clone(), tape.to_vec());
+        let due = deed.make(self.good, image, &mut card_due, &mut run_due, &mut tape_due);
+        let got = deed.make(self.tested, image, card, run, tape);
+        self.count(deed, image, &given, &lent, due.number, run_due != lent);
+        let same = (got, &*card, &*run) == (due, &card_due, &run_due) && tape_due == tape && kept == image;
+        self.judge(name_of(deed), due.number, same, || {
+            let (told, lent) = (tapes(tape, &tape_due), told(&lent));
+            let got = format!("{got:?} {card:?} {run:?}");
+            format!(
+                "{deed}, lent {lent}, tape {}: {told}; {got}, due {due:?} {card_due:?} {run_due:?}",
+                tape.len()
+            )
+        });
+        got
+    }
+
+    /// Counts a call by its run, and a write by its span and by what it copies,
+    /// from the image and the card that it got.
+    fn count(&self, deed: &Deed, image: &[u8], card: &Card, lent: &[Console], number: u64, changes: bool) {
+        let (mut charges, mut spans) = (self.charges.get(), self.spans.get());
+        match deed {
+            Deed::Open(sizes) => charges.feed(None, lent, sizes.spares, number),
+            Deed::Save => charges.feed(None, lent, card.sizes.spares, number),
+            Deed::Write(target, bytes) => {
+                charges.feed(Some(target.console), lent, card.sizes.spares, number);
+                if [0, 14, 15].contains(&number) {
+                    let level = target.level as usize;
+                    let own = image[PAIRS..][..card.sizes.spares as usize].contains(&(level as u8));
+                    charges.feed_write(number, card.marks[level], own, changes);
+                }
+                if [0, 8].contains(&number) {
+                    spans.feed(*target, bytes.len(), card.sizes.frames, number, changes);
+                }
+            }
+        }
+        self.charges.set(charges);
+        self.spans.set(spans);
+    }
+
     fn judge(&self, call: &'static str, number: u64, same: bool, tell: impl Fn() -> String) {
         *self.answers.borrow_mut().entry((call, number)).or_default() += 1;
         if !same {
@@ -121,46 +187,31 @@ impl<G: Calls, T: Calls> Calls for Compared<'_, G, T> {
         got
     }
 
-    fn open(&self, image: &[u8], sizes: Sizes, card: &mut Card, tape: &mut [u64]) -> Answer {
-        let (kept, mut tape_due, mut card_due) = (image.to_vec(), tape.to_vec(), *card);
-        let due = self.good.open(image, sizes, &mut card_due, &mut tape_due);
-        let got = self.tested.open(image, sizes, card, tape);
-        let same = due == got && *card == card_due && tape_due == tape && kept == image;
-        self.judge("open", due.number, same, || {
-            let told = tapes(tape, &tape_due);
-            format!("open {sizes}, tape {}: {told}; {got:?} {card:?}, due {due:?} {card_due:?}", tape.len())
-        });
-        got
+    fn open(
+        &self,
+        image: &[u8],
+        sizes: Sizes,
+        card: &mut Card,
+        run: &mut [Console],
+        tape: &mut [u64],
+    ) -> Answer {
+        self.both(&Deed::Open(sizes), image, card, run, tape)
     }
 
-    fn write(&self, image: &[u8], card: &mut Card, target: Target, bytes: &[u8], tape: &mut [u64]) -> Answer {
-        let (kept, mut tape_due, mut card_due) = (image.to_vec(), tape.to_vec(), *card);
-        let due = self.good.write(image, &mut card_due, target, bytes, &mut tape_due);
-        let got = self.tested.write(image, card, target, bytes, tape);
-        if [0, 8].contains(&due.number) {
-            let mut spans = self.spans.get();
-            let copies = due.served() && due.orders > words_met(target, bytes.len());
-            spans.feed(target, bytes.len(), card_due.sizes.frames, due.number, copies);
-            self.spans.set(spans);
-        }
-        let same = due == got && *card == card_due && tape_due == tape && kept == image;
-        self.judge("write", due.number, same, || {
-            let (told, length) = (tapes(tape, &tape_due), bytes.len());
-            format!("write {target:?}, {length} bytes: {told}; {got:?} {card:?}, due {due:?} {card_due:?}")
-        });
-        got
+    fn write(
+        &self,
+        image: &[u8],
+        card: &mut Card,
+        run: &mut [Console],
+        target: Target,
+        bytes: &[u8],
+        tape: &mut [u64],
+    ) -> Answer {
+        self.both(&Deed::Write(target, bytes.to_vec()), image, card, run, tape)
     }
 
-    fn save(&self, image: &[u8], card: &mut Card, tape: &mut [u64]) -> Answer {
-        let (kept, mut tape_due, mut card_due) = (image.to_vec(), tape.to_vec(), *card);
-        let due = self.good.save(image, &mut card_due, &mut tape_due);
-        let got = self.tested.save(image, card, tape);
-        let same = due == got && *card == card_due && tape_due == tape && kept == image;
-        self.judge("save", due.number, same, || {
-            let told = tapes(tape, &tape_due);
-            format!("save, tape {}: {told}; {got:?} {card:?}, due {due:?} {card_due:?}", tape.len())
-        });
-        got
+    fn save(&self, image: &[u8], card: &mut Card, run: &mut [Console], tape: &mut [u64]) -> Answer {
+        self.both(&Deed::Save, image, card, run, tape)
     }
 
     fn play(&self, image: &mut [u8], tape: &[u64], n: u64) -> Answer {

@@ -2,8 +2,8 @@
 //! comparison reports it.
 //!
 //! `Corrupted` hands every call on and changes one thing that the n-th of its
-//! kind answers or leaves: the number, the orders, the card, the tape, the
-//! image, a part, a likeness. `differential` runs its groups over such calls;
+//! kind answers or leaves: the number, the orders, the card, the run, the tape,
+//! the image, a part, a likeness. `differential` runs its groups over such calls;
 //! each must fail.
 
 use crate::calls::*;
@@ -20,6 +20,9 @@ pub enum Spoil {
     CardSizes(CallKind),
     CardTouched(CallKind),
     CardMarks(CallKind),
+    RunShare(CallKind),
+    RunLimit(CallKind),
+    RunTaken(CallKind),
     TapeKind(CallKind),
     TapePlace(CallKind),
     TapeWord(CallKind),
@@ -49,6 +52,7 @@ impl Spoil {
         all.extend([ReadNumber, ReadStart, ReadLength, LikeNumber, Likeness]);
         for deed in [CallKind::Open, CallKind::Write, CallKind::Save] {
             all.extend([Number, Orders, CardSizes, CardTouched, CardMarks].map(|kind| kind(deed)));
+            all.extend([RunShare, RunLimit, RunTaken].map(|kind| kind(deed)));
             all.extend([TapeKind, TapePlace, TapeWord, TapeBehind].map(|kind| kind(deed)));
         }
         all
@@ -85,7 +89,14 @@ impl<'a, C: Calls> Corrupted<'a, C> {
     }
 
     /// Spoils what opening, write or save answers and leaves.
-    fn answered(&self, deed: CallKind, answer: Answer, card: &mut Card, tape: &mut [u64]) -> Answer {
+    fn answered(
+        &self,
+        deed: CallKind,
+        answer: Answer,
+        card: &mut Card,
+        run: &mut [Console],
+        tape: &mut [u64],
+    ) -> Answer {
         let end = (3 * answer.orders as usize).min(tape.len());
         let (last, behind) = (end.saturating_sub(3), end < tape.len());
         let mut tape_at = |spoil, at: usize, can| {
@@ -100,6 +111,11 @@ impl<'a, C: Calls> Corrupted<'a, C> {
         card.sizes.spares ^= u64::from(self.now(Spoil::CardSizes(deed), true));
         card.touched ^= u64::from(self.now(Spoil::CardTouched(deed), true));
         card.marks[63] ^= u64::from(self.now(Spoil::CardMarks(deed), true));
+        if let Some(last) = run.last_mut() {
+            last.share ^= u64::from(self.now(Spoil::RunShare(deed), true));
+            last.limit ^= u64::from(self.now(Spoil::RunLimit(deed), true));
+            last.taken ^= u64::from(self.now(Spoil::RunTaken(deed), true));
+        }
         let number = answer.number + u64::from(self.now(Spoil::Number(deed), true));
         Answer { number, orders: self.orders(Spoil::Orders(deed), answer.orders) }
     }
@@ -122,19 +138,34 @@ impl<C: Calls> Calls for Corrupted<'_, C> {
         number + u64::from(self.now(Spoil::LaidOutNumber, true))
     }
 
-    fn open(&self, image: &[u8], sizes: Sizes, card: &mut Card, tape: &mut [u64]) -> Answer {
-        let answer = self.calls.open(image, sizes, card, tape);
-        self.answered(CallKind::Open, answer, card, tape)
+    fn open(
+        &self,
+        image: &[u8],
+        sizes: Sizes,
+        card: &mut Card,
+        run: &mut [Console],
+        tape: &mut [u64],
+    ) -> Answer {
+        let answer = self.calls.open(image, sizes, card, run, tape);
+        self.answered(CallKind::Open, answer, card, run, tape)
     }
 
-    fn write(&self, image: &[u8], card: &mut Card, target: Target, bytes: &[u8], tape: &mut [u64]) -> Answer {
-        let answer = self.calls.write(image, card, target, bytes, tape);
-        self.answered(CallKind::Write, answer, card, tape)
+    fn write(
+        &self,
+        image: &[u8],
+        card: &mut Card,
+        run: &mut [Console],
+        target: Target,
+        bytes: &[u8],
+        tape: &mut [u64],
+    ) -> Answer {
+        let answer = self.calls.write(image, card, run, target, bytes, tape);
+        self.answered(CallKind::Write, answer, card, run, tape)
     }
 
-    fn save(&self, image: &[u8], card: &mut Card, tape: &mut [u64]) -> Answer {
-        let answer = self.calls.save(image, card, tape);
-        self.answered(CallKind::Save, answer, card, tape)
+    fn save(&self, image: &[u8], card: &mut Card, run: &mut [Console], tape: &mut [u64]) -> Answer {
+        let answer = self.calls.save(image, card, run, tape);
+        self.answered(CallKind::Save, answer, card, run, tape)
     }
 
     fn play(&self, image: &mut [u8], tape: &[u64], n: u64) -> Answer {

@@ -1,13 +1,13 @@
 //! The explorer: demand 3 (section 15) over a history, for every cut in it.
 //!
 //! It runs over any implementation of the calls. A history (section 8) threads
-//! one image, one card, one book and the module behind its cache; at a cut
-//! (section 7) every permitted image (or the extreme ones and samples) is
-//! opened again, also after openings that were themselves cut, and the first
-//! opening that finishes must be served and show a permitted page. The faults
-//! of section 18 are caught by it (`selftest`). After each call both reads must
-//! give the book's pages, and the laws of sections 11.5, 10.9 and 3.4 must hold
-//! (`laws`).
+//! one image, one card, one run of consoles, one book and the module behind its
+//! cache; at a cut (section 7) every permitted image (or the extreme ones and
+//! samples) is opened again, also after openings that were themselves cut, each
+//! lent any run that 13 does not refuse, and the first opening that finishes must
+//! be served and show a permitted page. The faults of section 18 are caught by it
+//! (`selftest`). After each call both reads must give the book's pages, and the
+//! laws of sections 11.5, 10.9, 3.4, 10.10 and 15.7 must hold (`laws`).
 //!
 //! A page is shown only if the levels that were never set, and no others, are
 //! empty: a little more than the demand asks, as a level of zeros would do.
@@ -26,10 +26,11 @@
 //! a history the *distinct* images are fewer than the images, and only these are
 //! opened again.
 
+use crate::arbitrary;
 use crate::book::*;
 use crate::calls::*;
 use crate::crash::Module;
-use crate::laws::{Tally, Tried};
+use crate::laws::{Seen, Tally, Tried};
 use crate::prng::Rng;
 use std::collections::{BTreeSet, HashMap};
 use std::hash::{BuildHasherDefault, Hasher};
@@ -73,7 +74,7 @@ pub struct Counts {
     pub distinct: u64,
     /// Openings that finished, each checked by both reads.
     pub openings: u64,
-    /// How often each law of section 11.5 and each kind of span was tried.
+    /// How often each law and each kind of span was tried.
     pub tried: Tried,
 }
 
@@ -83,14 +84,16 @@ ways: choices of how many of its waiting stores reached each line; several ways 
 distinct: images that differ, over all cuts; each is opened again once
 restored levels settled, empty levels kept: those in state 2 and in state 0 that nobody had touched, at served saves
 spares taken: by writes that needed a new one; passed over: with a lower one whose level was in state 2
-long writes: served writes over several frames; refusals 8: those by one of its conditions alone";
+long writes: served writes over several frames; refusals 8: those by one of its conditions alone
+shares needed: copying writes of a console below its share, since a save, while another was above its own";
 
-/// A history in progress: what stands, the card last answered, the book, and
-/// the tally of the laws.
+/// A history in progress: what stands, the card last answered, the consoles'
+/// records as the last call left them, the book, and the tally of the laws.
 #[derive(Clone)]
 pub struct History {
     pub module: Module,
     pub card: Card,
+    pub run: Vec<Console>,
     pub book: Book,
     tally: Tally,
 }
@@ -170,20 +173,26 @@ impl<'a, C: Calls> Explorer<'a, C> {
         })
     }
 
-    /// Starts a history at an image that opening must serve. Cuts in the
-    /// starting opening itself are looked at too.
+    /// Starts a history of one console at an image that opening must serve. Cuts
+    /// in the starting opening itself are looked at too.
     pub fn start(&mut self, image: &[u8], plan: Plan) -> Result<History, String> {
+        self.start_lent(image, &[Console::alone(self.sizes)], plan)
+    }
+
+    /// The same with this run, which 13 does not refuse.
+    pub fn start_lent(&mut self, image: &[u8], run: &[Console], plan: Plan) -> Result<History, String> {
         let book = Book::start(image, self.sizes);
         let saved = self.page_number(&book.saved);
         self.look_at(&Module::held(image), plan, &[saved])?;
-        let orders = self.opening(image)?;
+        let mut run = run.to_vec();
+        let orders = self.opening(image, &mut run)?;
         let mut module = Module::held(image);
         orders.iter().for_each(|order| module.play(*order));
         if module.cut().count() != 1 {
             return Err("a finished opening leaves something waiting".to_string());
         }
-        let tally = Tally::start(image, self.sizes);
-        let history = History { module, card: Card::fresh(self.sizes), book, tally };
+        let tally = Tally::start(image, self.sizes, &run);
+        let history = History { module, card: Card::fresh(self.sizes), run, book, tally };
         self.check_reads(&history)?;
         Ok(history)
     }
@@ -193,7 +202,12 @@ impl<'a, C: Calls> Explorer<'a, C> {
         self.counts.calls += 1;
         let image = history.module.image().to_vec();
         let mut tape = vec![RUBBISH; call.tape];
-        let answer = self.call(&image, &mut history.card, &call.deed, &mut tape)?;
+        let lent = call.lent.clone().unwrap_or_else(|| history.run.clone());
+        let mut left = lent.clone();
+        let answer = self.call(&image, &mut history.card, &mut left, &call.deed, &mut tape)?;
+        if call.lent.is_none() {
+            history.run.clone_from(&left);
+        }
         let orders = written(&tape, answer, image.len())?;
         let before = history.book.clone();
         history.book.feed(&call.deed, answer.served());
@@ -217,8 +231,9 @@ impl<'a, C: Calls> Explorer<'a, C> {
         }
         self.check_reads(history)?;
         if self.laws {
-            let after = history.module.image();
-            let tried = history.tally.feed(&call.deed, answer.number, &image, after);
+            let (deed, number, after) = (&call.deed, answer.number, history.module.image());
+            let seen = Seen { deed, number, lent: &lent, left: &left, before: &image, after };
+            let tried = history.tally.feed(seen);
             self.counts.tried.add(tried.map_err(|what| format!("{call}: {what}"))?);
         }
         Ok(Step { answer, orders, shown })
@@ -228,21 +243,16 @@ impl<'a, C: Calls> Explorer<'a, C> {
         &mut self,
         image: &[u8],
         card: &mut Card,
+        run: &mut [Console],
         deed: &Deed,
         tape: &mut [u64],
     ) -> Result<Answer, String> {
-        let mut unchanged = *card;
-        let answer = match deed {
-            Deed::Open(sizes) => {
-                unchanged = Card::zeros();
-                self.calls.open(image, *sizes, card, tape)
-            }
-            Deed::Write(target, bytes) => self.calls.write(image, card, *target, bytes, tape),
-            Deed::Save => self.calls.save(image, card, tape),
-        };
-        match answer.served() || (*card == unchanged && answer.orders == 0) {
+        let unchanged = if matches!(deed, Deed::Open(_)) { Card::zeros() } else { *card };
+        let lent = run.to_vec();
+        let answer = deed.make(self.calls, image, card, run, tape);
+        match answer.served() || (*card == unchanged && *run == lent && answer.orders == 0) {
             true => Ok(answer),
-            false => Err("a refused call changes the card or reports orders".to_string()),
+            false => Err("a refused call changes the card or the run, or reports orders".to_string()),
         }
     }
 
@@ -353,7 +363,7 @@ impl<'a, C: Calls> Explorer<'a, C> {
     fn after_cut_openings(&mut self, image: Vec<u8>, chain: usize) -> Result<Vec<u8>, String> {
         let mut stands = image;
         for _ in 0..chain {
-            let orders = self.opening(&stands)?;
+            let orders = self.opening_again(&stands)?;
             let mut module = Module::held(&stands);
             let p = self.rng.range(0, orders.len());
             orders[..p].iter().for_each(|order| module.play(*order));
@@ -370,7 +380,7 @@ impl<'a, C: Calls> Explorer<'a, C> {
         self.known.insert(hash, page);
         let mut unexplored = vec![image];
         while let Some(image) = unexplored.pop() {
-            let orders = self.opening(&image)?;
+            let orders = self.opening_again(&image)?;
             let mut module = Module::held(&image);
             for order in orders {
                 module.play(order);
@@ -396,9 +406,16 @@ impl<'a, C: Calls> Explorer<'a, C> {
         Ok(page)
     }
 
+    /// The orders of opening this image after a cut, lent any run that 13 does not
+    /// refuse.
+    fn opening_again(&mut self, image: &[u8]) -> Result<Vec<Order>, String> {
+        let mut run = arbitrary::run(&mut self.rng, self.sizes.spares);
+        self.opening(image, &mut run)
+    }
+
     /// The orders of opening this image, which must be served.
-    fn opening(&mut self, image: &[u8]) -> Result<Vec<Order>, String> {
-        let n = open_again(self.calls, image, self.sizes, &mut self.tape)?;
+    fn opening(&mut self, image: &[u8], run: &mut [Console]) -> Result<Vec<Order>, String> {
+        let n = open_again(self.calls, image, self.sizes, run, &mut self.tape)?;
         let orders = self.tape.get(..n.saturating_mul(3)).and_then(|part| orders_of(part, image.len()));
         orders.ok_or("opening's tape is bad".to_string())
     }
@@ -407,9 +424,10 @@ impl<'a, C: Calls> Explorer<'a, C> {
     /// finishes: the page shown by both reads.
     fn finish(&mut self, image: &[u8]) -> Result<usize, String> {
         self.counts.openings += 1;
-        let n = self.opening(image)?.len();
+        let n = self.opening_again(image)?.len();
         let exact = &mut self.tape[..3 * n];
-        open_again(self.calls, image, self.sizes, exact)?;
+        let mut run = arbitrary::run(&mut self.rng, self.sizes.spares);
+        open_again(self.calls, image, self.sizes, &mut run, exact)?;
         let mut played = image.to_vec();
         let answer = self.calls.play(&mut played, exact, n as u64);
         if answer != (Answer { number: 0, orders: n as u64 }) {
@@ -423,13 +441,24 @@ impl<'a, C: Calls> Explorer<'a, C> {
     }
 }
 
-/// Opens an image again; this must be served. Gives the number of orders.
-fn open_again<C: Calls>(calls: &C, image: &[u8], sizes: Sizes, tape: &mut [u64]) -> Result<usize, String> {
+/// Opens an image again; this must be served and leave the records with no spare
+/// taken (section 9.8). Gives the number of orders.
+fn open_again<C: Calls>(
+    calls: &C,
+    image: &[u8],
+    sizes: Sizes,
+    run: &mut [Console],
+    tape: &mut [u64],
+) -> Result<usize, String> {
     let mut card = Card::zeros();
-    let answer = calls.open(image, sizes, &mut card, tape);
-    match answer.served() && card == Card::fresh(sizes) {
+    let due: Vec<Console> = run.iter().map(|console| Console { taken: 0, ..*console }).collect();
+    let answer = calls.open(image, sizes, &mut card, run, tape);
+    if !answer.served() || card != Card::fresh(sizes) {
+        return Err(format!("opening again answers {}", answer.number));
+    }
+    match *run == due {
         true => Ok(answer.orders as usize),
-        false => Err(format!("opening again answers {}", answer.number)),
+        false => Err(format!("opening again leaves {} where {} are due", told(run), told(&due))),
     }
 }
 

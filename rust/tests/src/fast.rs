@@ -1,6 +1,7 @@
 //! The calls in safe Rust as one would write them for speed, for the
 //! benchmarks: no list of orders, straight onto the tape, with the signatures
-//! of `raw`; the session is changed in place, and only by a call that is served.
+//! of `raw`; session and clients are changed in place, and only by a call that is
+//! served.
 //!
 //! The calls are not inlined, as the library's are not. Metadata are judged by
 //! words, as the library judges them: pairs become a set of bits, whose count
@@ -8,14 +9,15 @@
 //! others cost one comparison each. Further than the library: the states become
 //! two sets as well, so that all of them are held against the pairs and against the
 //! touched levels at once, however many there are; and a save counts its marks only
-//! if the tape is too short for a save of all frames. The places that write or read
+//! if the tape is too short for a save of all frames. A run of clients is gone
+//! through once, for refusal 13 and for the shares that are not used yet. The places that write or read
 //! many orders exist in two forms, by index and by chunks; the benchmark takes the
 //! better one of each measurement. Both are checked against the reference
 //! (`selftest`) and against the library (`speed`, before it measures).
 
 use crate::calls::*;
-use crate::raw::{card_of, session_of, Extent};
-use crpm::ffi::Session;
+use crate::raw::{session_of, Extent, Lent};
+use crpm::ffi::{Client, Session};
 
 /// How runs of orders are written and played.
 pub trait Form {
@@ -234,6 +236,11 @@ impl<'a> Sound<'a> {
         unpaired.or_else(|| self.pairs[..spares].iter().position(|level| has(self.own, *level as usize)))
     }
 
+    /// How many spares are free: all but those of levels in state 2.
+    fn free(&self, spares: u64) -> u64 {
+        spares - u64::from(self.spared.count_ones())
+    }
+
     /// The spare of a paired level.
     fn spare_of(&self, level: usize) -> usize {
         position(self.pairs, level as u8).unwrap_or(0)
@@ -314,6 +321,25 @@ fn is_true(sound: &Sound, session: &Session) -> bool {
         && all(beyond) == 0
 }
 
+/// What the shares that are not used yet add up to, in a run that 13 does not
+/// refuse. No share of such a run is above the spares, so no sum wraps.
+fn unused_shares(clients: &[Client], spares: u64) -> Result<u64, u64> {
+    let (mut bad, mut reserved, mut unused) = (clients.len() > MOST_CONSOLES, 0u64, 0u64);
+    for client in clients {
+        bad |= client.reserved > client.quota.min(spares) || client.used > client.quota;
+        reserved = reserved.wrapping_add(client.reserved);
+        unused = unused.wrapping_add(client.reserved.saturating_sub(client.used));
+    }
+    match bad || reserved > spares {
+        true => Err(13),
+        false => Ok(unused),
+    }
+}
+
+fn forget_used(clients: &mut [Client]) {
+    clients.iter_mut().for_each(|client| client.used = 0);
+}
+
 #[inline(never)]
 pub fn format(image: &mut [u8], sizes: Sizes) -> u64 {
     if !sizes.in_range() {
@@ -341,16 +367,23 @@ pub fn open<F: Form>(
     image: &[u8],
     sizes: Sizes,
     session: &mut Session,
+    clients: &mut [Client],
     tape: &mut [u64],
     orders: &mut u64,
 ) -> u64 {
-    let opened = opening::<F>(image, sizes, tape);
+    let opened = opening::<F>(image, sizes, clients, tape);
     *session = if opened.is_ok() { session_of(&Card::fresh(sizes)) } else { Session::ZEROS };
     answered(orders, opened)
 }
 
-fn opening<F: Form>(image: &[u8], sizes: Sizes, tape: &mut [u64]) -> Result<usize, u64> {
+fn opening<F: Form>(
+    image: &[u8],
+    sizes: Sizes,
+    clients: &mut [Client],
+    tape: &mut [u64],
+) -> Result<usize, u64> {
     let sound = Sound::of(image, sizes)?;
+    unused_shares(clients, sizes.spares)?;
     let (levels, frames) = (sizes.levels as usize, sizes.frames as usize);
     let treats = |l: usize| sound.states[l] != 1 || has(sound.paired, l);
     let treated = (0..levels).filter(|l| treats(*l)).count();
@@ -368,6 +401,7 @@ fn opening<F: Form>(image: &[u8], sizes: Sizes, tape: &mut [u64]) -> Result<usiz
         }
     }
     put(tape, count - 1, [3, 0, 0]);
+    forget_used(clients);
     Ok(count)
 }
 
@@ -382,12 +416,13 @@ fn copy_all<'a, F: Form>(parts: impl Iterator<Item = &'a mut [u64]>, source: &[u
 pub fn write<F: Form>(
     image: &[u8],
     session: &mut Session,
+    clients: &mut [Client],
     target: Target,
     bytes: &[u8],
     tape: &mut [u64],
     orders: &mut u64,
 ) -> u64 {
-    answered(orders, writing::<F>(image, session, target, bytes, tape))
+    answered(orders, writing::<F>(image, session, clients, target, bytes, tape))
 }
 
 /// What a write does before its own words.
@@ -400,6 +435,7 @@ enum Before {
 fn writing<F: Form>(
     image: &[u8],
     session: &mut Session,
+    clients: &mut [Client],
     target: Target,
     bytes: &[u8],
     tape: &mut [u64],
@@ -410,6 +446,8 @@ fn writing<F: Form>(
     if !is_true(&sound, session) {
         return Err(5);
     }
+    let unused = unused_shares(clients, sizes.spares)?;
+    let client = clients.get_mut(target.console as usize).ok_or(13u64)?;
     if target.level >= sizes.levels {
         return Err(6);
     }
@@ -428,6 +466,14 @@ fn writing<F: Form>(
         (true, false) => Before::Pair(sound.new_spare(sizes.spares as usize).ok_or(9u64)?),
         (true, true) => Before::Marked(sound.spare_of(level)),
     };
+    if needs_copy {
+        if client.used >= client.quota {
+            return Err(14);
+        }
+        if sound.free(sizes.spares) <= unused - client.reserved.saturating_sub(client.used) {
+            return Err(15);
+        }
+    }
     let copied = match before {
         Before::Nothing => 0,
         Before::Pair(_) => 36 * sizes.frames as usize + 6,
@@ -440,7 +486,8 @@ fn writing<F: Form>(
         Before::Pair(spare) => take::<F>(image, sizes, level, spare, tape),
         Before::Marked(spare) => copy_marked::<F>(image, sizes, level, spare, marks, tape),
     }
-    if copied > 0 {
+    if needs_copy {
+        client.used += 1;
         turn(image, sound.active, level, &mut tape[3 * (copied - 4)..]);
         session.dirty_blocks[level] = 0;
     }
@@ -518,16 +565,28 @@ fn part_of_word(image: &[u8], place: usize, skipped: usize, part: &[u8]) -> [u64
 }
 
 #[inline(never)]
-pub fn save(image: &[u8], session: &mut Session, tape: &mut [u64], orders: &mut u64) -> u64 {
-    answered(orders, saving(image, session, tape))
+pub fn save(
+    image: &[u8],
+    session: &mut Session,
+    clients: &mut [Client],
+    tape: &mut [u64],
+    orders: &mut u64,
+) -> u64 {
+    answered(orders, saving(image, session, clients, tape))
 }
 
-fn saving(image: &[u8], session: &mut Session, tape: &mut [u64]) -> Result<usize, u64> {
+fn saving(
+    image: &[u8],
+    session: &mut Session,
+    clients: &mut [Client],
+    tape: &mut [u64],
+) -> Result<usize, u64> {
     let sizes = sizes_of(session);
     let sound = Sound::of(image, sizes)?;
     if !is_true(&sound, session) {
         return Err(5);
     }
+    unused_shares(clients, sizes.spares)?;
     let epoch = sound.epoch.checked_add(1).ok_or(10u64)?;
     let (marks, levels) = (&session.dirty_blocks, sizes.levels as usize);
     let room = tape.len() / 3;
@@ -562,6 +621,7 @@ fn saving(image: &[u8], session: &mut Session, tape: &mut [u64]) -> Result<usize
     rest[12] = [2, 0, 0];
     rest[13] = [3, 0, 0];
     session.dirty_segments = 0;
+    forget_used(clients);
     Ok(at + 14)
 }
 
@@ -650,31 +710,46 @@ impl Calls for Fast {
         format(image, sizes)
     }
 
-    fn open(&self, image: &[u8], sizes: Sizes, card: &mut Card, tape: &mut [u64]) -> Answer {
-        let (mut session, mut orders) = (session_of(card), 0);
+    fn open(
+        &self,
+        image: &[u8],
+        sizes: Sizes,
+        card: &mut Card,
+        run: &mut [Console],
+        tape: &mut [u64],
+    ) -> Answer {
+        let mut lent = Lent::of(card, run);
+        let Lent { session, clients, ops } = &mut lent;
         let number = match self {
-            Fast::Indexed => open::<Indexed>(image, sizes, &mut session, tape, &mut orders),
-            Fast::Chunked => open::<Chunked>(image, sizes, &mut session, tape, &mut orders),
+            Fast::Indexed => open::<Indexed>(image, sizes, session, clients, tape, ops),
+            Fast::Chunked => open::<Chunked>(image, sizes, session, clients, tape, ops),
         };
-        *card = card_of(&session);
-        Answer { number, orders }
+        lent.answer(number, card, run)
     }
 
-    fn write(&self, image: &[u8], card: &mut Card, target: Target, bytes: &[u8], tape: &mut [u64]) -> Answer {
-        let (mut session, mut orders) = (session_of(card), 0);
+    fn write(
+        &self,
+        image: &[u8],
+        card: &mut Card,
+        run: &mut [Console],
+        target: Target,
+        bytes: &[u8],
+        tape: &mut [u64],
+    ) -> Answer {
+        let mut lent = Lent::of(card, run);
+        let Lent { session, clients, ops } = &mut lent;
         let number = match self {
-            Fast::Indexed => write::<Indexed>(image, &mut session, target, bytes, tape, &mut orders),
-            Fast::Chunked => write::<Chunked>(image, &mut session, target, bytes, tape, &mut orders),
+            Fast::Indexed => write::<Indexed>(image, session, clients, target, bytes, tape, ops),
+            Fast::Chunked => write::<Chunked>(image, session, clients, target, bytes, tape, ops),
         };
-        *card = card_of(&session);
-        Answer { number, orders }
+        lent.answer(number, card, run)
     }
 
-    fn save(&self, image: &[u8], card: &mut Card, tape: &mut [u64]) -> Answer {
-        let (mut session, mut orders) = (session_of(card), 0);
-        let number = save(image, &mut session, tape, &mut orders);
-        *card = card_of(&session);
-        Answer { number, orders }
+    fn save(&self, image: &[u8], card: &mut Card, run: &mut [Console], tape: &mut [u64]) -> Answer {
+        let mut lent = Lent::of(card, run);
+        let Lent { session, clients, ops } = &mut lent;
+        let number = save(image, session, clients, tape, ops);
+        lent.answer(number, card, run)
     }
 
     fn play(&self, image: &mut [u8], tape: &[u64], n: u64) -> Answer {

@@ -1,7 +1,7 @@
 //! Groups of checks that run over any implementation of the calls: the bench
 //! cases, every permitted image of single calls and short histories, random
-//! histories, and calls with any contents. `restart`, `long` and `benches` have
-//! more.
+//! histories, and calls with any contents. `restart`, `long`, `consoles` and
+//! `benches` have more.
 //!
 //! `selftest` runs them over the reference, `differential` over the library.
 //! Each gives a line of counts or the first failure.
@@ -11,7 +11,7 @@ use crate::book::{state_of, Call, Deed};
 use crate::calls::*;
 use crate::crash::{permitted, Module};
 use crate::explore::*;
-use crate::laws::{never_at, Tried, OF_SPANS, OF_SPARES, PASSED_OVER};
+use crate::laws::{never_at, Tried, OF_CONSOLES, OF_SPANS, OF_SPARES, PASSED_OVER, SHARES_NEEDED};
 use crate::prng::Rng;
 use crate::report::{Found, Outcome};
 
@@ -24,17 +24,17 @@ pub(crate) fn due<T: PartialEq + std::fmt::Debug>(what: &str, got: T, expected: 
 
 /// A write to a level's first frame of bytes that name their place in the history.
 fn write_call(sizes: Sizes, level: u64, offset: u64, length: usize, value: u8) -> Call {
-    write_to(sizes, Target { level, frame: 0, offset }, length, value)
+    write_to(sizes, Target { console: 0, level, frame: 0, offset }, length, value)
 }
 
 /// A write of bytes from this value upward.
 fn write_to(sizes: Sizes, target: Target, length: usize, value: u8) -> Call {
     let bytes = (0..length).map(|i| value.wrapping_add(i as u8)).collect();
-    Call { deed: Deed::Write(target, bytes), tape: sizes.room() }
+    plain(Deed::Write(target, bytes), sizes)
 }
 
 pub(crate) fn plain(deed: Deed, sizes: Sizes) -> Call {
-    Call { deed, tape: sizes.room() }
+    Call { deed, lent: None, tape: sizes.room() }
 }
 
 pub(crate) fn laid_out<C: Calls>(calls: &C, sizes: Sizes) -> Result<Vec<u8>, String> {
@@ -50,9 +50,9 @@ pub fn bench_cases<C: Calls>(calls: &C) -> Outcome {
     due("P1 greatest", calls.lay_out(&mut vec![0; 2_097_664], Sizes::new(64, 64, 64)), 0)?;
     due("P1 M=65", calls.lay_out(&mut [0; 1280], Sizes::new(65, 1, 1)), 1)?;
     let image = laid_out(calls, sizes)?;
-    let mut card = Card::zeros();
-    due("P2 218", calls.open(&image, sizes, &mut card, &mut [0; 218]).number, 11)?;
-    let served = calls.open(&image, sizes, &mut card, &mut [0; 219]);
+    let (mut card, mut run) = (Card::zeros(), [Console::alone(sizes)]);
+    due("P2 218", calls.open(&image, sizes, &mut card, &mut run, &mut [0; 218]).number, 11)?;
+    let served = calls.open(&image, sizes, &mut card, &mut run, &mut [0; 219]);
     due("P2 219", served, Answer { number: 0, orders: 73 })?;
 
     let mut explorer = Explorer::new(calls, sizes, 1);
@@ -123,10 +123,12 @@ fn p10<C: Calls>(calls: &C) -> Result<u64, String> {
     let image = arbitrary::image_of(sizes, 0, &paired, 0, &arbitrary::distinct_data(sizes));
     let mut card = Card::fresh(sizes);
     card.marks[0] = 0b0100;
-    let target = Target { level: 0, frame: 1, offset: 8 };
-    let answer = calls.write(&image, &mut card, target, &[7; 8], &mut [0; 3 * 41]);
+    let target = Target { console: 0, level: 0, frame: 1, offset: 8 };
+    let mut run = [Console::alone(sizes)];
+    let answer = calls.write(&image, &mut card, &mut run, target, &[7; 8], &mut [0; 3 * 41]);
     due("P10 number", answer.number, 0)?;
     due("P10 marks", (card.touched, card.marks[0]), (1, 0b0010))?;
+    due("P10 spares taken", run[0].taken, 1)?;
     Ok(answer.orders)
 }
 
@@ -198,7 +200,7 @@ fn check_stages(held: &[u8], orders: &[Order], module: &Module) -> Result<usize,
 
 /// The start images of the exhaustive groups: every sound choice of states
 /// and pairs, both parities, the idle line all 1 or all 2.
-fn starts(sizes: Sizes, data: &[u8]) -> Vec<Vec<u8>> {
+pub(crate) fn starts(sizes: Sizes, data: &[u8]) -> Vec<Vec<u8>> {
     let mut images = Vec::new();
     for metadata in arbitrary::all_sound(sizes) {
         for (epoch, idle) in [(6, 1), (7, 2)] {
@@ -208,7 +210,7 @@ fn starts(sizes: Sizes, data: &[u8]) -> Vec<Vec<u8>> {
     images
 }
 
-fn add(total: &mut Counts, counts: Counts) {
+pub(crate) fn add(total: &mut Counts, counts: Counts) {
     total.histories += counts.histories;
     total.calls += counts.calls;
     total.cuts += counts.cuts;
@@ -228,11 +230,12 @@ pub(crate) fn found(text: impl Into<String>, counts: Counts) -> Found {
     found
 }
 
-/// How often the laws were tried, in words; of spares and spans those that there
-/// were.
+/// How often the laws were tried, in words; of spares, spans and consoles those
+/// that there were.
 pub(crate) fn laws_tried(tried: Tried) -> String {
+    let sometimes = [&OF_SPANS[..], &OF_SPARES, &OF_CONSOLES].concat();
     let mut named = tried.named();
-    named.retain(|(name, count)| *count > 0 || !(OF_SPANS.contains(name) || OF_SPARES.contains(name)));
+    named.retain(|(name, count)| *count > 0 || !sometimes.contains(name));
     let told: Vec<String> = named.iter().map(|(name, count)| format!("{count} {name}")).collect();
     told.join(", ")
 }
@@ -295,35 +298,43 @@ fn over_frames(sizes: Sizes, value: u8) -> Vec<Call> {
     let mut calls: Vec<Call> =
         (0..sizes.levels).map(|level| write_call(sizes, level, 252, 8, value)).collect();
     calls.extend([
-        write_to(sizes, Target { level: 0, frame: 1, offset: 0 }, 8, value),
-        write_to(sizes, Target { level: last_level, frame: last_frame, offset: 252 }, 8, value),
+        write_to(sizes, Target { console: 0, level: 0, frame: 1, offset: 0 }, 8, value),
+        write_to(sizes, Target { console: 0, level: last_level, frame: last_frame, offset: 252 }, 8, value),
         write_call(sizes, 0, 256, 8, value),
         write_call(sizes, 0, 0, 0, value),
     ]);
     calls
 }
 
-/// Runs every history that goes on from this one, and says how many there are.
-fn descend<C: Calls>(
-    explorer: &mut Explorer<C>,
-    sizes: Sizes,
-    history: &History,
-    path: &mut Vec<Call>,
-    depth: usize,
-) -> Result<u64, String> {
-    if path.len() == depth {
-        return Ok(1);
+/// How histories go on: the calls at each depth, and the plan for their cuts.
+pub(crate) struct Going<'a> {
+    pub(crate) alphabet: &'a dyn Fn(usize) -> Vec<Call>,
+    pub(crate) depth: usize,
+    pub(crate) plan: Plan,
+}
+
+impl Going<'_> {
+    /// Runs every history that goes on from this one, and says how many there are.
+    pub(crate) fn descend<C: Calls>(
+        &self,
+        explorer: &mut Explorer<C>,
+        history: &History,
+        path: &mut Vec<Call>,
+    ) -> Result<u64, String> {
+        if path.len() == self.depth {
+            return Ok(1);
+        }
+        let mut histories = 0;
+        for call in (self.alphabet)(path.len()) {
+            let mut next = history.clone();
+            let step = explorer.step(&mut next, &call, self.plan);
+            path.push(call);
+            step.map_err(|what| told_after(&path[..path.len() - 1], what))?;
+            histories += self.descend(explorer, &next, path)?;
+            path.pop();
+        }
+        Ok(histories)
     }
-    let mut histories = 0;
-    for call in alphabet(sizes, path.len()) {
-        let mut next = history.clone();
-        let step = explorer.step(&mut next, &call, Plan::ALL);
-        path.push(call);
-        step.map_err(|what| told_after(&path[..path.len() - 1], what))?;
-        histories += descend(explorer, sizes, &next, path, depth)?;
-        path.pop();
-    }
-    Ok(histories)
 }
 
 fn told_after(path: &[Call], what: String) -> String {
@@ -336,6 +347,7 @@ fn told_after(path: &[Call], what: String) -> String {
 pub fn short_histories<C: Calls>(calls: &C, sizes: Sizes, depth: usize) -> Outcome {
     let total = all_short(|| Explorer::new(calls, sizes, 5), sizes, depth)?;
     let mut left_out = never_at(sizes);
+    left_out.extend(OF_CONSOLES);
     left_out.extend(OF_SPANS.iter().filter(|_| sizes.frames == 1));
     total.tried.all_tried(&left_out)?;
     Ok(all_found(total))
@@ -352,17 +364,18 @@ fn all_short<'a, C: Calls + 'a>(
     depth: usize,
 ) -> Result<Counts, String> {
     let mut total = Counts::default();
+    let going = Going { alphabet: &|at| alphabet(sizes, at), depth, plan: Plan::ALL };
     for image in starts(sizes, &arbitrary::sparse_data(sizes)) {
         let mut explorer = explorer();
         let tell = |what| format!("sizes {sizes}, {}: {what}", metadata_of(&image, sizes));
         let start = explorer.start(&image, Plan::ALL).map_err(tell)?;
-        let histories = descend(&mut explorer, sizes, &start, &mut Vec::new(), depth).map_err(tell)?;
+        let histories = going.descend(&mut explorer, &start, &mut Vec::new()).map_err(tell)?;
         add(&mut total, Counts { histories, ..explorer.counts() });
     }
     Ok(total)
 }
 
-fn metadata_of(image: &[u8], sizes: Sizes) -> String {
+pub(crate) fn metadata_of(image: &[u8], sizes: Sizes) -> String {
     let pairs = &image[PAIRS..][..sizes.spares as usize];
     format!("epoch {} states {:?} pairs {pairs:?}", image[EPOCH], states(image, sizes))
 }
@@ -383,8 +396,8 @@ pub struct Random {
 }
 
 /// What random histories ask of the laws: that each is tried (but spares passed
-/// over, which are rare here: `restart` and `benches` have them), that they hold,
-/// or nothing.
+/// over and shares needed, which are rare here: `restart`, `benches` and `consoles`
+/// have them), that they hold, or nothing.
 #[derive(Clone, Copy, PartialEq, Eq, Debug)]
 pub enum Laws {
     Tried,
@@ -392,8 +405,8 @@ pub enum Laws {
     LeftOut,
 }
 
-/// Random histories from laid-out and from arbitrary sound images, with any
-/// arguments and tapes, cut and opened again.
+/// Random histories from laid-out and from arbitrary sound images, of one console
+/// or of several, with any arguments, runs and tapes, cut and opened again.
 pub fn random_histories<C: Calls>(calls: &C, random: Random) -> Outcome {
     let mut rng = Rng::new(random.seed);
     let mut total = Counts::default();
@@ -408,15 +421,16 @@ pub fn random_histories<C: Calls>(calls: &C, random: Random) -> Outcome {
             explorer = explorer.without_laws();
         }
         let tell = |what| format!("history {number}, sizes {sizes}: {what}");
-        let mut history = explorer.start(&image, random.plan).map_err(tell)?;
+        let run = arbitrary::own_run(&mut rng, sizes);
+        let mut history = explorer.start_lent(&image, &run, random.plan).map_err(tell)?;
         for _ in 0..random.calls {
-            let call = arbitrary::call(&mut rng, sizes);
+            let call = arbitrary::call(&mut rng, sizes, &run);
             explorer.step(&mut history, &call, random.plan).map_err(tell)?;
         }
         add(&mut total, Counts { histories: 1, ..explorer.counts() });
     }
     if random.laws == Laws::Tried {
-        total.tried.all_tried(&[PASSED_OVER])?;
+        total.tried.all_tried(&[PASSED_OVER, SHARES_NEEDED])?;
     }
     let Counts { histories, calls, cuts, images, openings, .. } = total;
     let history = format!("{histories} histories, {calls} calls, {cuts} cuts, {images} images");
@@ -424,8 +438,8 @@ pub fn random_histories<C: Calls>(calls: &C, random: Random) -> Outcome {
 }
 
 /// Every call with any contents: images sound and damaged, cards true and
-/// untrue, arguments in and out of range, tapes short, exact, long. What is
-/// answered is judged by `Compared`.
+/// untrue, runs that 13 refuses and others, arguments in and out of range, tapes
+/// short, exact, long. What is answered is judged by `Compared`.
 pub fn any_contents<C: Calls>(calls: &C, seed: u64, rounds: usize, sizes: fn(&mut Rng) -> Sizes) {
     let mut rng = Rng::new(seed);
     for _ in 0..rounds {
@@ -484,7 +498,7 @@ fn like_others<C: Calls>(calls: &C, rng: &mut Rng, image: &[u8], sizes: Sizes, n
     }
     calls.like(image, &other, named);
     let mut tape = vec![0; sizes.opening_room()];
-    let opened = calls.open(image, sizes, &mut Card::zeros(), &mut tape);
+    let opened = calls.open(image, sizes, &mut Card::zeros(), &mut [Console::alone(sizes)], &mut tape);
     let mut recovered = image.to_vec();
     calls.play(&mut recovered, &tape[..3 * opened.orders as usize], u64::MAX);
     calls.like(image, &recovered, named);
@@ -509,15 +523,18 @@ fn open_any<C: Calls>(calls: &C, rng: &mut Rng, image: &[u8], sizes: Sizes) {
     let mut card = Card::fresh(sizes);
     card.touched = rng.word();
     card.marks[rng.below(64)] = rng.word();
-    with_tapes(rng, room, |tape| calls.open(image, sizes, &mut card.clone(), tape));
+    let run = arbitrary::any_run(rng, sizes);
+    with_tapes(rng, room, |tape| calls.open(image, sizes, &mut card.clone(), &mut run.clone(), tape));
 }
 
 fn write_any<C: Calls>(calls: &C, rng: &mut Rng, image: &[u8], sizes: Sizes) {
     for _ in 0..4 {
         let card = arbitrary::card(rng, image, sizes);
         let (target, bytes) = arbitrary::writing(rng, sizes);
+        let run = arbitrary::any_run(rng, sizes);
+        let target = Target { console: arbitrary::console(rng, &run), ..target };
         with_tapes(rng, sizes.write_room() + 6, |tape| {
-            calls.write(image, &mut card.clone(), target, &bytes, tape)
+            calls.write(image, &mut card.clone(), &mut run.clone(), target, &bytes, tape)
         });
     }
 }
@@ -525,7 +542,8 @@ fn write_any<C: Calls>(calls: &C, rng: &mut Rng, image: &[u8], sizes: Sizes) {
 fn save_any<C: Calls>(calls: &C, rng: &mut Rng, image: &[u8], sizes: Sizes) {
     for _ in 0..2 {
         let card = arbitrary::card(rng, image, sizes);
-        with_tapes(rng, sizes.room(), |tape| calls.save(image, &mut card.clone(), tape));
+        let run = arbitrary::any_run(rng, sizes);
+        with_tapes(rng, sizes.room(), |tape| calls.save(image, &mut card.clone(), &mut run.clone(), tape));
     }
 }
 

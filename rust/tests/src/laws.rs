@@ -1,16 +1,32 @@
 //! The laws of section 11.5, counted over a history, refusal 8 by its conditions
-//! (section 10.9), and which spare a write takes (section 3.4).
+//! (section 10.9), which spare a write takes (section 3.4), and what is kept for
+//! consoles (sections 5.7, 10.10 and 15.7).
 //!
-//! A tally is fed each call's arguments, its number and the images before and
-//! after it, of which it reads states and pairs (section 2) by itself. The
-//! explorer feeds one in every history, so the laws are held against whatever
-//! histories are run over. What a write's span is follows from its arguments
-//! alone; writes over several frames are counted, and each of refusal 8's
-//! conditions where no other holds. A spare that is taken is known by the pair
-//! byte that changed, and is judged by the image before.
+//! A tally is fed each call's arguments, its number, the run as it was lent and
+//! left, and the images before and after it, of which it reads states and pairs
+//! (section 2) by itself. The explorer feeds one in every history, so the laws are
+//! held against whatever histories are run over. What a write's span is follows
+//! from its arguments alone; writes over several frames are counted, and each of
+//! refusal 8's conditions where no other holds. A spare that is taken is known by
+//! the pair byte that changed, and is judged by the image before. That one run is
+//! lent on is known by the records: they are as the last call left them.
 
-use crate::book::{state_of, Deed};
+use crate::book::{state_of, told, Deed};
 use crate::calls::*;
+
+/// A call of a history: what it was asked and lent, and what it answered and
+/// left.
+#[derive(Clone, Copy)]
+pub struct Seen<'a> {
+    pub deed: &'a Deed,
+    pub number: u64,
+    /// The run, and what the call left of it.
+    pub lent: &'a [Console],
+    pub left: &'a [Console],
+    /// The image, and the same once the orders are played.
+    pub before: &'a [u8],
+    pub after: &'a [u8],
+}
 
 /// What happened since the last served save, or since the start of a history.
 #[derive(Clone)]
@@ -22,6 +38,14 @@ pub struct Tally {
     copied: u64,
     /// Levels written since, and since the last served opening, bit by bit.
     touched: u64,
+    /// The run as the last call left it.
+    run: Vec<Console>,
+    /// Is a console below its share kept from 9, 14 and 15 (section 15.7)? From a
+    /// served save to the next served opening, while one run is lent on.
+    kept: bool,
+    /// Is the run that of one console for which every spare is kept, lent on since
+    /// its count was 0?
+    alone: bool,
 }
 
 /// How often each law was tried, and how often a save met an empty level that
@@ -42,6 +66,40 @@ pub struct Tried {
     pub taken: Taken,
     /// Writes by their spans.
     pub spans: Spans,
+    /// Calls by what the records say.
+    pub heard: Heard,
+}
+
+/// How many calls heard each of the refusals of consoles, and how often a share
+/// was needed.
+#[derive(Clone, Copy, Default, PartialEq, Eq, Debug)]
+pub struct Heard {
+    pub thirteens: u64,
+    pub fourteens: u64,
+    pub fifteens: u64,
+    /// Copying writes of a console below its share, where it is kept from 9, 14
+    /// and 15 and another is above its own.
+    pub shares: u64,
+}
+
+impl Heard {
+    pub fn add(&mut self, other: Heard) {
+        self.thirteens += other.thirteens;
+        self.fourteens += other.fourteens;
+        self.fifteens += other.fifteens;
+        self.shares += other.shares;
+    }
+
+    /// The counts under the names that are printed.
+    pub fn named(self) -> [(&'static str, u64); 4] {
+        let [thirteens, fourteens, fifteens, shares] = OF_CONSOLES;
+        [
+            (thirteens, self.thirteens),
+            (fourteens, self.fourteens),
+            (fifteens, self.fifteens),
+            (shares, self.shares),
+        ]
+    }
 }
 
 /// How many writes took a new spare of each kind.
@@ -135,11 +193,70 @@ pub fn frames_met(target: Target, length: usize) -> u64 {
     (target.offset + length as u64).div_ceil(FRAME as u64)
 }
 
-/// How many words hold bytes of a served span.
-pub fn words_met(target: Target, length: usize) -> u64 {
-    let first = target.offset % WORD as u64;
-    (first + length as u64).div_ceil(WORD as u64)
+/// How many calls there were of each kind that the records decide (sections 5.7
+/// and 10.10).
+#[derive(Clone, Copy, Default, PartialEq, Eq, Debug)]
+pub struct Charges {
+    /// Refusals 13 where one of its conditions holds and no other.
+    pub thirteens: [u64; 5],
+    /// Those of the last whose sum in 64 bits is not above the spares.
+    pub wrapped: u64,
+    /// Refusals 14 and 15, of levels that need a spare and of those that have one.
+    pub fourteens: [u64; 2],
+    pub fifteens: [u64; 2],
+    /// Writes charged: for a new spare, for a copy of marked frames to the level's
+    /// own, and for one of no frame.
+    pub charged: [u64; 3],
 }
+
+impl Charges {
+    /// Counts a call that was lent this run and heard this number.
+    pub fn feed(&mut self, writer: Option<u64>, lent: &[Console], spares: u64, number: u64) {
+        let holds = conditions_of_13(writer, lent, spares);
+        if number == 13 && holds.iter().filter(|holds| **holds).count() == 1 {
+            self.thirteens.iter_mut().zip(holds).for_each(|(count, holds)| *count += u64::from(holds));
+            let sum = lent.iter().fold(0u64, |sum, console| sum.wrapping_add(console.share));
+            self.wrapped += u64::from(holds[4] && sum <= spares);
+        }
+    }
+
+    /// Counts a write that heard this number, to a level with these marks, and a
+    /// spare of its own or none; the image was sound.
+    pub fn feed_write(&mut self, number: u64, marks: u64, own: bool, charged: bool) {
+        let kind = if own { 1 + usize::from(marks == 0) } else { 0 };
+        self.fourteens[usize::from(own)] += u64::from(number == 14);
+        self.fifteens[usize::from(own)] += u64::from(number == 15);
+        self.charged[kind] += u64::from(charged);
+    }
+
+    /// The counts under the names that are printed.
+    pub fn named(self) -> Vec<(&'static str, u64)> {
+        let Charges { thirteens, wrapped, fourteens, fifteens, charged } = self;
+        let counts = [&thirteens[..], &[wrapped], &fourteens, &fifteens, &charged].concat();
+        OF_CHARGES.into_iter().zip(counts).collect()
+    }
+
+    /// Fails if one kind was never tried.
+    pub fn all_tried(self) -> Result<(), String> {
+        none_is_zero(&self.named(), &[])
+    }
+}
+
+const OF_CHARGES: [&str; 13] = [
+    "refusals 13 of a number",
+    "refusals 13 of a run",
+    "refusals 13 of a share",
+    "refusals 13 of a count",
+    "refusals 13 of a sum",
+    "refusals 13 of a sum that wraps",
+    "refusals 14 for a new spare",
+    "refusals 14 for an own spare",
+    "refusals 15 for a new spare",
+    "refusals 15 for an own spare",
+    "charges for a new spare",
+    "charges for marked frames",
+    "charges for no frame",
+];
 
 impl Tried {
     pub fn add(&mut self, other: Tried) {
@@ -150,20 +267,22 @@ impl Tried {
         self.nines += other.nines;
         self.taken.add(other.taken);
         self.spans.add(other.spans);
+        self.heard.add(other.heard);
     }
 
     /// The counts under the names that are printed.
     pub fn named(self) -> Vec<(&'static str, u64)> {
-        let Tried { saves, settled, empty, copies, nines, taken, spans } = self;
+        let Tried { saves, settled, empty, copies, nines, taken, spans, heard } = self;
         let mut named = vec![
             ("served saves", saves),
             ("restored levels settled", settled),
-            ("empty levels kept", empty),
+            (EMPTY_KEPT, empty),
             ("copying writes", copies),
             (NINES, nines),
         ];
         named.extend(taken.named());
         named.extend(spans.named());
+        named.extend(heard.named());
         named
     }
 
@@ -180,6 +299,9 @@ fn none_is_zero(named: &[(&str, u64)], left_out: &[&str]) -> Result<(), String> 
     }
 }
 
+/// Where every level was saved none is empty.
+pub const EMPTY_KEPT: &str = "empty levels kept";
+
 /// With as many spares as levels nobody can hear 9.
 pub const NINES: &str = "refusals 9";
 
@@ -189,11 +311,13 @@ pub const OF_SPARES: [&str; 3] = ["unpaired spares taken", FROM_LEVELS, PASSED_O
 const FROM_LEVELS: &str = "spares taken from levels";
 pub const PASSED_OVER: &str = "spares in use passed over";
 
-/// What histories at these sizes cannot try of 9 and of the spares.
+/// What histories at these sizes cannot try of 9, of the spares and, where the
+/// only spare is kept for a console or for none, of shares.
 pub fn never_at(sizes: Sizes) -> Vec<&'static str> {
     match (sizes.levels <= sizes.spares, sizes.spares) {
+        (true, 1) => vec![NINES, FROM_LEVELS, PASSED_OVER, SHARES_NEEDED],
         (true, _) => vec![NINES, FROM_LEVELS, PASSED_OVER],
-        (false, 1) => vec![PASSED_OVER],
+        (false, 1) => vec![PASSED_OVER, SHARES_NEEDED],
         (false, _) => vec![],
     }
 }
@@ -208,8 +332,36 @@ pub const OF_SPANS: [&str; 5] = [
     "refusals 8 of an end",
 ];
 
-/// The numbers of a write to which none of the refusals 1 to 7 applies.
-const JUDGED: [u64; 4] = [0, 8, 9, 11];
+/// One console for which every spare is kept hears none of these refusals.
+pub const OF_CONSOLES: [&str; 4] = ["refusals 13", "refusals 14", "refusals 15", SHARES_NEEDED];
+pub const SHARES_NEEDED: &str = "shares needed";
+
+/// The numbers that are given only where 13 does not apply, and those of a write
+/// to which none of the refusals before 8 applies.
+const AFTER_13: [u64; 9] = [0, 6, 7, 8, 9, 10, 11, 14, 15];
+const JUDGED: [u64; 6] = [0, 8, 9, 11, 14, 15];
+
+/// Refusal 13's conditions (section 5.7): a writer's number that no record has,
+/// more records than eight, a share above its limit, a taken count above its
+/// limit, shares whose sum is above the spares. That sum may be above every
+/// 64-bit number.
+pub fn conditions_of_13(writer: Option<u64>, run: &[Console], spares: u64) -> [bool; 5] {
+    let shares = run.iter().fold(0, |sum, console| sum + u128::from(console.share));
+    [
+        writer.is_some_and(|writer| writer >= run.len() as u64),
+        run.len() > MOST_CONSOLES,
+        run.iter().any(|console| console.share > console.limit),
+        run.iter().any(|console| console.taken > console.limit),
+        shares > u128::from(spares),
+    ]
+}
+
+/// What the unused shares of the other consoles add up to (section 10.10).
+fn kept_for_others(writer: usize, run: &[Console]) -> u64 {
+    let unused = |console: &Console| console.share - console.taken.min(console.share);
+    let all: u64 = run.iter().map(unused).sum();
+    all - unused(&run[writer])
+}
 
 /// How many levels are in state 2.
 fn in_state_2(image: &[u8], sizes: Sizes) -> u64 {
@@ -266,24 +418,32 @@ fn spare_taken(level: Option<u8>, before: &[u8], after: &[u8], sizes: Sizes) -> 
 }
 
 impl Tally {
-    /// The tally of a history that starts by opening this image.
-    pub fn start(image: &[u8], sizes: Sizes) -> Tally {
-        Tally { sizes, found: in_state_2(image, sizes), copied: 0, touched: 0 }
+    /// The tally of a history that starts by opening this image, lent this run.
+    pub fn start(image: &[u8], sizes: Sizes, run: &[Console]) -> Tally {
+        let alone = run == [Console::alone(sizes)];
+        let found = in_state_2(image, sizes);
+        Tally { sizes, found, copied: 0, touched: 0, run: run.to_vec(), kept: false, alone }
     }
 
-    /// Counts a call that was answered with this number, and holds the laws
-    /// against what it left.
-    pub fn feed(&mut self, deed: &Deed, number: u64, before: &[u8], after: &[u8]) -> Result<Tried, String> {
+    /// Counts a call and holds the laws against what it answered and left.
+    pub fn feed(&mut self, seen: Seen) -> Result<Tried, String> {
         let mut tried = Tried::default();
         let mut taker = None;
+        let Seen { deed, number, before, after, .. } = seen;
+        if self.run != seen.lent {
+            (self.kept, self.alone) = (false, false);
+        }
+        self.hold_13(seen, &mut tried)?;
+        let copied = self.copied;
         match deed {
             Deed::Write(target, bytes) if JUDGED.contains(&number) => {
-                taker = self.feed_write(*target, bytes.len(), number, before, &mut tried)?
+                taker = self.feed_write(*target, bytes.len(), seen, &mut tried)?
             }
             Deed::Save if number == 0 => self.feed_save(before, &mut tried),
             Deed::Open(_) if number == 0 => self.touched = 0,
             _ => {}
         }
+        self.hold_records(seen, self.copied > copied)?;
         tried.taken = spare_taken(taker, before, after, self.sizes)?;
         let due = self.found + self.copied;
         let (levels, spares) = (in_state_2(after, self.sizes), not_free(after, self.sizes));
@@ -295,6 +455,51 @@ impl Tally {
         }
     }
 
+    /// 13 where one of its conditions holds, and after it only where none does. An
+    /// opening names its own spares.
+    fn hold_13(&self, Seen { deed, number, lent, .. }: Seen, tried: &mut Tried) -> Result<(), String> {
+        let (writer, spares) = match deed {
+            Deed::Write(target, _) => (Some(target.console), self.sizes.spares),
+            Deed::Open(sizes) => (None, sizes.spares),
+            Deed::Save => (None, self.sizes.spares),
+        };
+        let due = conditions_of_13(writer, lent, spares).contains(&true);
+        if (number == 13 && !due) || (AFTER_13.contains(&number) && due) {
+            return Err(format!("a call lent {} (refusal 13 due: {due}) answers {number}", told(lent)));
+        }
+        if self.alone && writer.is_none_or(|writer| writer == 0) && [13, 14, 15].contains(&number) {
+            return Err(format!("the only console, {}, hears {number}", told(lent)));
+        }
+        tried.heard.thirteens += u64::from(number == 13);
+        Ok(())
+    }
+
+    /// The records that a call leaves: a charge of one spare for a copying write
+    /// that is served (section 10.10), counts of 0 after a served save (section
+    /// 11.8) or opening (section 9.8), and else what was lent. None that a served
+    /// call leaves is above its limit.
+    fn hold_records(&mut self, seen: Seen, charged: bool) -> Result<(), String> {
+        let Seen { deed, number, lent, left, .. } = seen;
+        let mut due = lent.to_vec();
+        match deed {
+            _ if number != 0 => {}
+            Deed::Write(target, _) => due[target.console as usize].taken += u64::from(charged),
+            Deed::Open(_) | Deed::Save => due.iter_mut().for_each(|console| console.taken = 0),
+        }
+        if number == 0 && left.iter().any(|console| console.taken > console.limit) {
+            return Err(format!("a served call leaves {}, a count above its limit", told(left)));
+        }
+        if left != due {
+            return Err(format!("a call lent {} leaves {}, due {}", told(lent), told(left), told(&due)));
+        }
+        self.run = due;
+        if number == 0 && !matches!(deed, Deed::Write(..)) {
+            self.kept = *deed == Deed::Save;
+            self.alone = self.run == [Console::alone(self.sizes)];
+        }
+        Ok(())
+    }
+
     fn is_touched(&self, level: usize) -> bool {
         self.touched >> level & 1 == 1
     }
@@ -304,11 +509,15 @@ impl Tally {
         &mut self,
         target: Target,
         length: usize,
-        number: u64,
-        before: &[u8],
+        seen: Seen,
         tried: &mut Tried,
     ) -> Result<Option<u8>, String> {
-        let level = target.level as usize;
+        let Seen { number, lent, before, .. } = seen;
+        let (level, writer) = (target.level as usize, target.console as usize);
+        let below = self.kept && lent[writer].taken < lent[writer].share;
+        if below && [9, 14, 15].contains(&number) {
+            return Err(format!("console {writer} of {}, below its share, hears {number}", told(lent)));
+        }
         let there = target.level < self.sizes.levels;
         let copies = there && state_of(before, level) == 1 && !self.is_touched(level);
         let bad_span = conditions_of_8(target, length, self.sizes.frames).contains(&true);
@@ -326,6 +535,16 @@ impl Tally {
             return Err(format!("a write (copying: {copies}) answers {number} with {in_use} spares in use"));
         }
         tried.nines += u64::from(number == 9);
+        let charge = self.charge_due(writer, lent, copies && !bad_span && !all_in_use);
+        if charge != [14, 15].into_iter().find(|refusal| *refusal == number) {
+            let heard = format!("answers {number} with {in_use} spares in use");
+            let run = told(lent);
+            return Err(format!("console {writer} of {run} {heard}, due of 14 and 15: {charge:?}"));
+        }
+        tried.heard.fourteens += u64::from(number == 14);
+        tried.heard.fifteens += u64::from(number == 15);
+        let other_above = lent.iter().any(|console| console.taken > console.share);
+        tried.heard.shares += u64::from(below && copies && number == 0 && other_above);
         if number != 0 {
             return Ok(None);
         }
@@ -336,6 +555,17 @@ impl Tally {
         Ok(needs_spare.then_some(level as u8))
     }
 
+    /// Which of 14 and 15 is due to a console of this run, if its write needs a
+    /// spare and one is free (section 10.10).
+    fn charge_due(&self, writer: usize, lent: &[Console], needs: bool) -> Option<u64> {
+        let free = self.sizes.spares - self.found - self.copied;
+        match needs {
+            true if lent[writer].taken >= lent[writer].limit => Some(14),
+            true if free <= kept_for_others(writer, lent) => Some(15),
+            _ => None,
+        }
+    }
+
     fn feed_save(&mut self, before: &[u8], tried: &mut Tried) {
         let untouched = |level: &usize| !self.is_touched(*level);
         let in_state = |state| {
@@ -343,6 +573,6 @@ impl Tally {
             (0..self.sizes.levels as usize).filter(untouched).filter(there).count() as u64
         };
         *tried = Tried { saves: 1, settled: in_state(2), empty: in_state(0), ..*tried };
-        *self = Tally { found: 0, copied: 0, touched: 0, ..*self };
+        (self.found, self.copied, self.touched) = (0, 0, 0);
     }
 }

@@ -3,7 +3,7 @@
 //! Everything here is written from docs/SPECIFICATION.md alone, whose sections
 //! the comments cite, not from the library; only `fast`, with which the
 //! library's speed is compared, takes a shape from it. The words are those of
-//! the trade, level, spare, frame, card, tape, order, save: the glossary
+//! the trade, level, spare, frame, card, console, tape, order, save: the glossary
 //! (section 20) has the library's names for them. `raw` and `library` stand
 //! where the two meet.
 //!
@@ -18,6 +18,7 @@ pub mod benches;
 pub mod book;
 pub mod calls;
 pub mod compared;
+pub mod consoles;
 pub mod corners;
 pub mod corrupted;
 pub mod crash;

@@ -2,39 +2,52 @@
 //! the C interface as it stands, `Wrapped` the safe calls of crate `crpm`.
 
 use crate::calls::*;
-use crate::raw::{self, card_of, session_of, Extent};
-use crpm::{Layout, Op, Ops, Refusal};
+use crate::raw::{self, Extent, Lent, UNWRITTEN};
+use crpm::ffi::Session;
+use crpm::{Client, Layout, Op, Ops, Refusal};
 
 /// The C interface: what is answered and left is what the library writes.
 pub struct Library;
-
-/// What a result holds before a call, which must write it.
-const UNWRITTEN: u64 = u64::MAX;
 
 impl Calls for Library {
     fn lay_out(&self, image: &mut [u8], sizes: Sizes) -> u64 {
         raw::format(image, sizes)
     }
 
-    fn open(&self, image: &[u8], sizes: Sizes, card: &mut Card, tape: &mut [u64]) -> Answer {
-        let (mut session, mut orders) = (session_of(card), UNWRITTEN);
-        let number = raw::open(image, sizes, &mut session, tape, &mut orders);
-        *card = card_of(&session);
-        Answer { number, orders }
+    fn open(
+        &self,
+        image: &[u8],
+        sizes: Sizes,
+        card: &mut Card,
+        run: &mut [Console],
+        tape: &mut [u64],
+    ) -> Answer {
+        let mut lent = Lent::of(card, run);
+        let Lent { session, clients, ops } = &mut lent;
+        let number = raw::open(image, sizes, session, clients, tape, ops);
+        lent.answer(number, card, run)
     }
 
-    fn write(&self, image: &[u8], card: &mut Card, target: Target, bytes: &[u8], tape: &mut [u64]) -> Answer {
-        let (mut session, mut orders) = (session_of(card), UNWRITTEN);
-        let number = raw::write(image, &mut session, target, bytes, tape, &mut orders);
-        *card = card_of(&session);
-        Answer { number, orders }
+    fn write(
+        &self,
+        image: &[u8],
+        card: &mut Card,
+        run: &mut [Console],
+        target: Target,
+        bytes: &[u8],
+        tape: &mut [u64],
+    ) -> Answer {
+        let mut lent = Lent::of(card, run);
+        let Lent { session, clients, ops } = &mut lent;
+        let number = raw::write(image, session, clients, target, bytes, tape, ops);
+        lent.answer(number, card, run)
     }
 
-    fn save(&self, image: &[u8], card: &mut Card, tape: &mut [u64]) -> Answer {
-        let (mut session, mut orders) = (session_of(card), UNWRITTEN);
-        let number = raw::checkpoint(image, &mut session, tape, &mut orders);
-        *card = card_of(&session);
-        Answer { number, orders }
+    fn save(&self, image: &[u8], card: &mut Card, run: &mut [Console], tape: &mut [u64]) -> Answer {
+        let mut lent = Lent::of(card, run);
+        let Lent { session, clients, ops } = &mut lent;
+        let number = raw::checkpoint(image, session, clients, tape, ops);
+        lent.answer(number, card, run)
     }
 
     fn play(&self, image: &mut [u8], tape: &[u64], n: u64) -> Answer {
@@ -90,12 +103,17 @@ fn answer(result: Result<Ops, Refusal>) -> Answer {
     Answer { number: number(result), orders }
 }
 
-/// Runs a call on a session of any contents.
-fn with_session(card: &mut Card, call: impl FnOnce(&mut crpm::Session) -> Answer) -> Answer {
-    let mut words = session_of(card);
+/// Runs a call on a session and clients of any contents.
+fn with_lent(
+    card: &mut Card,
+    run: &mut [Console],
+    call: impl FnOnce(&mut crpm::Session, &mut [Client]) -> Answer,
+) -> Answer {
+    let mut lent = Lent::of(card, run);
     // SAFETY: a `crpm::Session` has the layout of its words.
-    let answer = call(unsafe { &mut *std::ptr::from_mut(&mut words).cast() });
-    *card = card_of(&words);
+    let session = unsafe { &mut *std::ptr::from_mut(&mut lent.session).cast() };
+    let answer = call(session, &mut lent.clients);
+    lent.hand_back(card, run);
     answer
 }
 
@@ -104,19 +122,39 @@ impl Calls for Wrapped {
         number(layout(sizes).and_then(|layout| crpm::format(image, layout)))
     }
 
-    fn open(&self, image: &[u8], sizes: Sizes, card: &mut Card, tape: &mut [u64]) -> Answer {
-        let opened = layout(sizes).and_then(|layout| crpm::open(image, layout, tape));
-        *card = opened.as_ref().map_or(Card::zeros(), |(session, _)| card_of(session.words()));
+    fn open(
+        &self,
+        image: &[u8],
+        sizes: Sizes,
+        card: &mut Card,
+        run: &mut [Console],
+        tape: &mut [u64],
+    ) -> Answer {
+        let mut lent = Lent::of(card, run);
+        let opened = layout(sizes).and_then(|layout| crpm::open(image, layout, &mut lent.clients, tape));
+        lent.session = opened.as_ref().map_or(Session::ZEROS, |(session, _)| *session.words());
+        lent.hand_back(card, run);
         answer(opened.map(|(_, ops)| ops))
     }
 
-    fn write(&self, image: &[u8], card: &mut Card, target: Target, bytes: &[u8], tape: &mut [u64]) -> Answer {
-        let (main, block, offset) = (target.level as usize, target.frame as usize, target.offset as usize);
-        with_session(card, |session| answer(crpm::write(image, session, main, block, offset, bytes, tape)))
+    fn write(
+        &self,
+        image: &[u8],
+        card: &mut Card,
+        run: &mut [Console],
+        target: Target,
+        bytes: &[u8],
+        tape: &mut [u64],
+    ) -> Answer {
+        let Target { console, level, frame, offset } = target;
+        let [client, main, block, offset] = [console, level, frame, offset].map(|number| number as usize);
+        with_lent(card, run, |session, clients| {
+            answer(crpm::write(image, session, clients, client, main, block, offset, bytes, tape))
+        })
     }
 
-    fn save(&self, image: &[u8], card: &mut Card, tape: &mut [u64]) -> Answer {
-        with_session(card, |session| answer(crpm::checkpoint(image, session, tape)))
+    fn save(&self, image: &[u8], card: &mut Card, run: &mut [Console], tape: &mut [u64]) -> Answer {
+        with_lent(card, run, |session, clients| answer(crpm::checkpoint(image, session, clients, tape)))
     }
 
     fn play(&self, image: &mut [u8], tape: &[u64], n: u64) -> Answer {

@@ -43,7 +43,7 @@ fn registration(turn: usize, length: usize) -> Vec<u8> {
 }
 
 fn write(frame: u64, offset: u64, turn: usize, length: usize) -> Deed {
-    Deed::Write(Target { level: 0, frame, offset }, registration(turn, length))
+    Deed::Write(Target { console: 0, level: 0, frame, offset }, registration(turn, length))
 }
 
 /// The pages of the story: zeros, then each with one more registration, at 30
@@ -99,26 +99,34 @@ fn stores(orders: &[Order]) -> (Vec<usize>, usize) {
     (own, copied.len())
 }
 
-/// A call's answer, and the numbers of its orders.
-fn answered<C: Calls>(calls: &C, image: &[u8], card: &mut Card, deed: &Deed) -> (Answer, Vec<u64>) {
-    let mut tape = vec![0; SIZES.room()];
-    let answer = match deed {
-        Deed::Open(sizes) => calls.open(image, *sizes, card, &mut tape),
-        Deed::Write(target, bytes) => calls.write(image, card, *target, bytes, &mut tape),
-        Deed::Save => calls.save(image, card, &mut tape),
-    };
-    tape.truncate(answer.orders.saturating_mul(3) as usize);
-    (answer, tape)
+/// What is kept between the calls of one console.
+struct Kept {
+    card: Card,
+    run: [Console; 1],
+}
+
+impl Kept {
+    fn before_opening() -> Kept {
+        Kept { card: Card::zeros(), run: [Console::alone(SIZES)] }
+    }
+
+    /// A call's answer, and the numbers of its orders.
+    fn answered<C: Calls>(&mut self, calls: &C, image: &[u8], deed: &Deed) -> (Answer, Vec<u64>) {
+        let mut tape = vec![0; SIZES.room()];
+        let answer = deed.make(calls, image, &mut self.card, &mut self.run, &mut tape);
+        tape.truncate(answer.orders.saturating_mul(3) as usize);
+        (answer, tape)
+    }
 }
 
 /// The story without cuts.
 fn by_numbers<C: Calls>(calls: &C) -> Result<(), String> {
-    let (mut image, mut card) = (laid_out(calls, SIZES)?, Card::zeros());
+    let (mut image, mut kept) = (laid_out(calls, SIZES)?, Kept::before_opening());
     for Row { name, deed, number, orders, marks, copied, working, saved } in rows() {
-        let (answer, tape) = answered(calls, &image, &mut card, &deed);
+        let (answer, tape) = kept.answered(calls, &image, &deed);
         due(&format!("{name} number"), answer.number, number)?;
         due(&format!("{name} orders"), answer.orders, orders)?;
-        due(&format!("{name} marks"), card.marks[0], marks)?;
+        due(&format!("{name} marks"), kept.card.marks[0], marks)?;
         let (places, in_spare) = stores(&orders_of(&tape, image.len()).ok_or("an order is ill formed")?);
         due(&format!("{name} words copied"), in_spare, copied)?;
         if name == "L2" {
@@ -169,10 +177,10 @@ pub fn long_writes<C: Calls>(calls: &C, plan: Plan) -> Outcome {
 /// it stands whole over what was shown, after one more opening too.
 pub fn after_cuts<C: Calls>(calls: &C) -> Outcome {
     let (mut rng, mut restarts) = (Rng::new(8), 0);
-    let (mut module, mut card) = (Module::held(&laid_out(calls, SIZES)?), Card::zeros());
+    let (mut module, mut kept) = (Module::held(&laid_out(calls, SIZES)?), Kept::before_opening());
     let mut before = 0;
     for Row { name, deed, saved, .. } in rows().into_iter().take(4) {
-        let (_, tape) = answered(calls, module.image(), &mut card, &deed);
+        let (_, tape) = kept.answered(calls, module.image(), &deed);
         let orders = orders_of(&tape, module.image().len()).ok_or("an order is ill formed")?;
         for p in 0..=orders.len() {
             if p > 0 {
@@ -193,9 +201,9 @@ pub fn after_cuts<C: Calls>(calls: &C) -> Outcome {
 /// Opens an image, which shows one of these pages, writes a registration, saves
 /// it and opens again.
 fn register_again<C: Calls>(calls: &C, mut image: Vec<u8>, shown: [usize; 2]) -> Result<(), String> {
-    let mut card = Card::zeros();
+    let mut kept = Kept::before_opening();
     let mut served = |image: &mut [u8], deed: Deed| {
-        let (answer, tape) = answered(calls, image, &mut card, &deed);
+        let (answer, tape) = kept.answered(calls, image, &deed);
         calls.play(image, &tape, answer.orders);
         due(&plain(deed, SIZES).to_string(), answer.number, 0)
     };
@@ -226,8 +234,9 @@ pub fn longest_writes<C: Calls>(calls: &C) -> Outcome {
         let bytes = registration(1, length + 1);
         let write = |length: usize, numbers: u64| {
             let (mut card, mut tape) = (Card::fresh(sizes), vec![0; numbers as usize]);
-            let target = Target { level: 0, frame: 0, offset: 0 };
-            let answer = calls.write(&image, &mut card, target, &bytes[..length], &mut tape);
+            let (mut run, bytes) = ([Console::alone(sizes)], &bytes[..length]);
+            let target = Target { console: 0, level: 0, frame: 0, offset: 0 };
+            let answer = calls.write(&image, &mut card, &mut run, target, bytes, &mut tape);
             ((answer.number, answer.orders, card.marks[0]), tape)
         };
         let told = |what| format!("the longest write at {sizes}, {what}");

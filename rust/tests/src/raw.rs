@@ -1,8 +1,8 @@
 //! The C interface over slices: each function hands on what it is given and
 //! returns the library's number; what the library writes is left as it wrote it.
 
-use crate::calls::{Card, Page, Sizes, Target};
-use crpm::ffi::{self, Session};
+use crate::calls::{Answer, Card, Console, Page, Sizes, Target};
+use crpm::ffi::{self, Client, Session};
 
 pub fn session_of(card: &Card) -> Session {
     let Sizes { levels, spares, frames } = card.sizes;
@@ -15,9 +15,46 @@ pub fn session_of(card: &Card) -> Session {
     }
 }
 
-pub fn card_of(session: &Session) -> Card {
+fn card_of(session: &Session) -> Card {
     let sizes = Sizes::new(session.mains, session.backups, session.blocks);
     Card { sizes, touched: session.dirty_segments, marks: session.dirty_blocks }
+}
+
+fn client_of(console: &Console) -> Client {
+    Client { reserved: console.share, quota: console.limit, used: console.taken }
+}
+
+fn console_of(client: &Client) -> Console {
+    Console { share: client.reserved, limit: client.quota, taken: client.used }
+}
+
+/// What a result holds before a call, which must write it.
+pub const UNWRITTEN: u64 = u64::MAX;
+
+/// A card and a run as the interface has them, and where a call writes the number
+/// of its operations.
+pub struct Lent {
+    pub session: Session,
+    pub clients: Vec<Client>,
+    pub ops: u64,
+}
+
+impl Lent {
+    pub fn of(card: &Card, run: &[Console]) -> Lent {
+        Lent { session: session_of(card), clients: run.iter().map(client_of).collect(), ops: UNWRITTEN }
+    }
+
+    /// Hands back what a call left.
+    pub fn hand_back(&self, card: &mut Card, run: &mut [Console]) {
+        *card = card_of(&self.session);
+        run.iter_mut().zip(&self.clients).for_each(|(console, client)| *console = console_of(client));
+    }
+
+    /// The same with what it answered.
+    pub fn answer(&self, number: u64, card: &mut Card, run: &mut [Console]) -> Answer {
+        self.hand_back(card, run);
+        Answer { number, orders: self.ops }
+    }
 }
 
 pub fn format(image: &mut [u8], sizes: Sizes) -> u64 {
@@ -26,7 +63,14 @@ pub fn format(image: &mut [u8], sizes: Sizes) -> u64 {
     unsafe { ffi::crpm_format(image.as_mut_ptr(), image.len(), levels, spares, frames) }
 }
 
-pub fn open(image: &[u8], sizes: Sizes, session: &mut Session, trace: &mut [u64], ops: &mut u64) -> u64 {
+pub fn open(
+    image: &[u8],
+    sizes: Sizes,
+    session: &mut Session,
+    clients: &mut [Client],
+    trace: &mut [u64],
+    ops: &mut u64,
+) -> u64 {
     // SAFETY: each slice is valid for its length, each reference for what it
     // points to; what is lent for change is not shared.
     unsafe {
@@ -37,6 +81,8 @@ pub fn open(image: &[u8], sizes: Sizes, session: &mut Session, trace: &mut [u64]
             sizes.spares,
             sizes.frames,
             session,
+            clients.as_mut_ptr(),
+            clients.len(),
             trace.as_mut_ptr(),
             trace.len(),
             ops,
@@ -47,6 +93,7 @@ pub fn open(image: &[u8], sizes: Sizes, session: &mut Session, trace: &mut [u64]
 pub fn write(
     image: &[u8],
     session: &mut Session,
+    clients: &mut [Client],
     target: Target,
     bytes: &[u8],
     trace: &mut [u64],
@@ -58,6 +105,9 @@ pub fn write(
             image.as_ptr(),
             image.len(),
             session,
+            clients.as_mut_ptr(),
+            clients.len(),
+            target.console,
             target.level,
             target.frame,
             target.offset,
@@ -70,10 +120,25 @@ pub fn write(
     }
 }
 
-pub fn checkpoint(image: &[u8], session: &mut Session, trace: &mut [u64], ops: &mut u64) -> u64 {
+pub fn checkpoint(
+    image: &[u8],
+    session: &mut Session,
+    clients: &mut [Client],
+    trace: &mut [u64],
+    ops: &mut u64,
+) -> u64 {
     // SAFETY: as in `open`.
     unsafe {
-        ffi::crpm_checkpoint(image.as_ptr(), image.len(), session, trace.as_mut_ptr(), trace.len(), ops)
+        ffi::crpm_checkpoint(
+            image.as_ptr(),
+            image.len(),
+            session,
+            clients.as_mut_ptr(),
+            clients.len(),
+            trace.as_mut_ptr(),
+            trace.len(),
+            ops,
+        )
     }
 }
 

@@ -11,7 +11,8 @@
 use crate::calls::*;
 use std::ops::RangeInclusive;
 
-/// Section 14's refusals by number.
+/// Section 14's refusals by number; the first that applies in the order of its
+/// call is given.
 #[derive(Clone, Copy, PartialEq, Eq, Debug)]
 pub enum Refusal {
     Size = 1,
@@ -26,12 +27,16 @@ pub enum Refusal {
     Epoch = 10,
     TapeShort = 11,
     TapeBad = 12,
+    Consoles = 13,
+    Limit = 14,
+    Shares = 15,
 }
 
 /// The faults of section 18.1, which a reader could mistake for good work, and
 /// worthless programs of section 18.2 or like them: three wrong rules for the
-/// states that a save stores (section 11.2), five for long writes (section 10)
-/// and six for the spare that a write takes (section 3.4).
+/// states that a save stores (section 11.2), five for long writes (section 10),
+/// six for the spare that a write takes (section 3.4) and eleven for consoles
+/// (sections 5.7 and 10.10).
 #[derive(Clone, Copy, PartialEq, Eq, Debug)]
 pub enum Fault {
     StateBeforeFence,
@@ -69,6 +74,29 @@ pub enum Fault {
     TakesLowestPaired,
     /// The highest is taken if a number other than 0 stood on the tape.
     TakesByTape,
+    /// A copying write is charged though its tape is too short.
+    ChargesRefused,
+    /// A copying write is not charged if its level has a spare and no mark.
+    ChargesMarkedOnly,
+    /// A save leaves the taken counts as they are.
+    SaveKeepsTaken,
+    /// So does an opening.
+    OpeningKeepsTaken,
+    /// 14 is judged after 15.
+    LimitAfterShares,
+    /// The writer's own unused share is kept from it like the others'.
+    OwnShareKept,
+    /// The spare of the level that is written does not count as free.
+    OwnSpareNotFree,
+    /// A console above its share makes up for others that are below theirs.
+    OverdrawnShares,
+    /// The shares are summed up in 64 bits.
+    SharesWrap,
+    /// Share and taken count are held against the limit in one record only: the
+    /// writer's, or the first.
+    JudgesOneRecord,
+    /// A write judges its run after its span.
+    RunAfterSpan,
 }
 
 #[derive(Clone, Copy)]
@@ -184,6 +212,12 @@ impl Board {
         self.unpaired().next().or_else(|| self.of_levels_in(1).next())
     }
 
+    /// How many spares are free (section 3.2).
+    fn free(&self) -> usize {
+        let in_use = |level: usize| self.levels[level].state() == 2;
+        self.owners.iter().filter(|owner| !owner.is_some_and(in_use)).count()
+    }
+
     /// Where a frame's saved bytes stand; nowhere in an empty level.
     fn saved_start(&self, level: usize, frame: usize) -> Option<usize> {
         match self.levels[level] {
@@ -261,9 +295,71 @@ fn refused(refusal: Refusal) -> Answer {
     Answer { number: refusal as u64, orders: 0 }
 }
 
+/// What a served save and a served opening do to the records (sections 11.8 and
+/// 9.8).
+fn forget_taken(run: &mut [Console]) {
+    run.iter_mut().for_each(|console| console.taken = 0);
+}
+
+/// The orders of a served write, the next card, and whether its console is
+/// charged.
+struct Written {
+    orders: Vec<Order>,
+    card: Card,
+    charged: bool,
+}
+
 impl Reference {
-    fn opening(&self, image: &[u8], sizes: Sizes) -> Result<Vec<Order>, Refusal> {
+    /// Refusal 13 (section 5.7), of a write with its console's number.
+    fn judge_run(&self, run: &[Console], spares: u64, writer: Option<u64>) -> Result<(), Refusal> {
+        let shares: u128 = run.iter().map(|console| u128::from(console.share)).sum();
+        let shares = if self.has(Fault::SharesWrap) { u128::from(shares as u64) } else { shares };
+        let one = run.get(writer.unwrap_or(0) as usize).map_or(&[][..], std::slice::from_ref);
+        let judged = if self.has(Fault::JudgesOneRecord) { one } else { run };
+        let is_bad = |console: &Console| console.share > console.limit || console.taken > console.limit;
+        let refuses = writer.is_some_and(|writer| writer >= run.len() as u64)
+            || run.len() > MOST_CONSOLES
+            || judged.iter().any(is_bad)
+            || shares > u128::from(spares);
+        match refuses {
+            true => Err(Refusal::Consoles),
+            false => Ok(()),
+        }
+    }
+
+    /// How many spares count as free for a copying write to a level with this spare,
+    /// or none. A fault that takes spares in use for new ones has them free.
+    fn free(&self, board: &Board, image: &[u8], spare: Option<usize>) -> usize {
+        let in_state_2_idle = |level| image[idle_line(board.epoch) + level] == 2;
+        match self.fault {
+            Some(Fault::NewByIdleLine) => {
+                board.owners.iter().filter(|owner| !owner.is_some_and(in_state_2_idle)).count()
+            }
+            Some(Fault::TakesSpareInUse | Fault::TakesLowestPaired) => board.owners.len(),
+            Some(Fault::OwnSpareNotFree) => board.free() - usize::from(spare.is_some()),
+            _ => board.free(),
+        }
+    }
+
+    /// Refusals 14 and 15 (section 10.10) of a copying write, where so many spares
+    /// are free.
+    fn judge_charge(&self, free: usize, run: &[Console], writer: usize) -> Result<(), Refusal> {
+        let Console { limit, taken, .. } = run[writer];
+        let others = run.iter().enumerate().filter(|(i, _)| *i != writer || self.has(Fault::OwnShareKept));
+        let unused = |console: &Console| i128::from(console.share) - i128::from(console.taken);
+        let least = if self.has(Fault::OverdrawnShares) { i128::MIN } else { 0 };
+        let kept: i128 = others.map(|(_, console)| unused(console).max(least)).sum();
+        match (taken >= limit, free as i128 <= kept) {
+            (_, true) if self.has(Fault::LimitAfterShares) => Err(Refusal::Shares),
+            (true, _) => Err(Refusal::Limit),
+            (false, true) => Err(Refusal::Shares),
+            (false, false) => Ok(()),
+        }
+    }
+
+    fn opening(&self, image: &[u8], sizes: Sizes, run: &[Console]) -> Result<Vec<Order>, Refusal> {
         let board = Board::of(image, sizes)?;
+        self.judge_run(run, sizes.spares, None)?;
         let mut orders = Vec::new();
         for (l, level) in board.levels.iter().enumerate() {
             for f in board.frames() {
@@ -286,12 +382,17 @@ impl Reference {
         &self,
         image: &[u8],
         card: &Card,
+        run: &[Console],
         target: Target,
         bytes: &[u8],
-    ) -> Result<(Vec<Order>, Card), Refusal> {
+    ) -> Result<Written, Refusal> {
         let board = Board::of(image, card.sizes)?;
         if !board.card_is_true(card) {
             return Err(Refusal::Card);
+        }
+        let run_judged = self.judge_run(run, card.sizes.spares, Some(target.console));
+        if !self.has(Fault::RunAfterSpan) {
+            run_judged?;
         }
         if target.level >= card.sizes.levels {
             return Err(Refusal::Level);
@@ -302,8 +403,11 @@ impl Reference {
         if self.refuses_span(target, bytes.len(), card.sizes.frames) {
             return Err(Refusal::Span);
         }
+        if self.has(Fault::RunAfterSpan) {
+            run_judged?;
+        }
         let level = target.level as usize;
-        let mut next = *card;
+        let (mut next, mut charged) = (*card, false);
         let mut orders = Vec::new();
         if let (Level::Own { spare }, 0) = (board.levels[level], card.touched >> level & 1) {
             match spare {
@@ -315,6 +419,8 @@ impl Reference {
                     }
                 }
             }
+            self.judge_charge(self.free(&board, image, spare), run, target.console as usize)?;
+            charged = !(self.has(Fault::ChargesMarkedOnly) && orders.is_empty());
             self.turn_to_spare(&mut orders, &board, image, level);
             next.marks[level] = 0;
         }
@@ -323,7 +429,7 @@ impl Reference {
         for frame in self.frames_to_mark(target, bytes.len()) {
             next.marks[level] |= 1 << frame;
         }
-        Ok((orders, next))
+        Ok(Written { orders, card: next, charged })
     }
 
     /// Has a span no bytes, does it start behind its frame, or does it end behind
@@ -420,11 +526,12 @@ impl Reference {
         orders.extend([first, second, Order::Flush { place: line }, Order::Fence]);
     }
 
-    fn saving(&self, image: &[u8], card: &Card) -> Result<(Vec<Order>, Card), Refusal> {
+    fn saving(&self, image: &[u8], card: &Card, run: &[Console]) -> Result<(Vec<Order>, Card), Refusal> {
         let board = Board::of(image, card.sizes)?;
         if !board.card_is_true(card) {
             return Err(Refusal::Card);
         }
+        self.judge_run(run, card.sizes.spares, None)?;
         let epoch = board.epoch.checked_add(1).ok_or(Refusal::Epoch)?;
         let mut orders = Vec::new();
         for (l, marks) in card.marks.iter().enumerate() {
@@ -523,28 +630,54 @@ impl Calls for Reference {
         0
     }
 
-    fn open(&self, image: &[u8], sizes: Sizes, card: &mut Card, tape: &mut [u64]) -> Answer {
-        let answer = self.opening(image, sizes).and_then(|orders| put_on(tape, &orders));
+    fn open(
+        &self,
+        image: &[u8],
+        sizes: Sizes,
+        card: &mut Card,
+        run: &mut [Console],
+        tape: &mut [u64],
+    ) -> Answer {
+        let answer = self.opening(image, sizes, run).and_then(|orders| put_on(tape, &orders));
         *card = if answer.is_ok() { Card::fresh(sizes) } else { Card::zeros() };
+        if answer.is_ok() && !self.has(Fault::OpeningKeepsTaken) {
+            forget_taken(run);
+        }
         answer.unwrap_or_else(refused)
     }
 
-    fn write(&self, image: &[u8], card: &mut Card, target: Target, bytes: &[u8], tape: &mut [u64]) -> Answer {
-        let writing = self.with_tape(tape).writing(image, card, target, bytes);
-        let answer = writing.and_then(|(orders, next)| {
-            let answer = put_on(tape, &orders)?;
-            *card = next;
-            Ok(answer)
+    fn write(
+        &self,
+        image: &[u8],
+        card: &mut Card,
+        run: &mut [Console],
+        target: Target,
+        bytes: &[u8],
+        tape: &mut [u64],
+    ) -> Answer {
+        let writing = self.with_tape(tape).writing(image, card, run, target, bytes);
+        let answer = writing.and_then(|written| {
+            let answer = put_on(tape, &written.orders);
+            if written.charged && (answer.is_ok() || self.has(Fault::ChargesRefused)) {
+                run[target.console as usize].taken += 1;
+            }
+            if answer.is_ok() {
+                *card = written.card;
+            }
+            answer
         });
         answer.unwrap_or_else(refused)
     }
 
-    fn save(&self, image: &[u8], card: &mut Card, tape: &mut [u64]) -> Answer {
-        let answer = self.saving(image, card).and_then(|(orders, next)| {
+    fn save(&self, image: &[u8], card: &mut Card, run: &mut [Console], tape: &mut [u64]) -> Answer {
+        let answer = self.saving(image, card, run).and_then(|(orders, next)| {
             let answer = put_on(tape, &orders)?;
             *card = next;
             Ok(answer)
         });
+        if answer.is_ok() && !self.has(Fault::SaveKeepsTaken) {
+            forget_taken(run);
+        }
         answer.unwrap_or_else(refused)
     }
 

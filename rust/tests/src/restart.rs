@@ -12,7 +12,7 @@ use crate::book::{Call, Deed};
 use crate::calls::*;
 use crate::explore::*;
 use crate::groups::{all_found, cut_line, due, laid_out, plain, states};
-use crate::laws::{never_at, OF_SPANS};
+use crate::laws::{never_at, OF_CONSOLES, OF_SPANS};
 use crate::report::{Found, Outcome};
 use std::collections::BTreeMap;
 
@@ -30,7 +30,7 @@ fn restored(sizes: Sizes) -> Vec<u8> {
 /// that change with the turn.
 fn word_to(sizes: Sizes, level: u64, turn: u8) -> Call {
     let frame = (level + u64::from(turn)) % sizes.frames;
-    let target = Target { level, frame, offset: 64 * u64::from(turn % 4) };
+    let target = Target { console: 0, level, frame, offset: 64 * u64::from(turn % 4) };
     plain(Deed::Write(target, vec![0x10 * turn + level as u8 + 1; WORD]), sizes)
 }
 
@@ -68,24 +68,17 @@ fn after_restart(sizes: Sizes, between: Option<u64>) -> Vec<(Call, u64)> {
     [up_to_save(sizes, between), after_save(sizes)].concat()
 }
 
-/// The number that a call hears; its orders are played.
-fn heard<C: Calls>(calls: &C, image: &mut [u8], card: &mut Card, call: &Call) -> u64 {
-    let mut tape = vec![0; call.tape];
-    let answer = match &call.deed {
-        Deed::Open(sizes) => calls.open(image, *sizes, card, &mut tape),
-        Deed::Write(target, bytes) => calls.write(image, card, *target, bytes, &mut tape),
-        Deed::Save => calls.save(image, card, &mut tape),
-    };
-    calls.play(image, &tape[..3 * answer.orders as usize], answer.orders);
-    answer.number
-}
-
 /// The story by the numbers heard, by the states, and by the last level's saved
 /// read, which has a part only once the level is written and saved. There are
 /// no cuts, and no law is counted.
 fn by_numbers<C: Calls>(calls: &C, sizes: Sizes, between: Option<u64>) -> Result<(), String> {
-    let (mut image, mut card) = (laid_out(calls, sizes)?, Card::zeros());
-    let mut hear = |image: &mut [u8], call: &Call| heard(calls, image, &mut card, call);
+    let (mut image, mut card, mut run) = (laid_out(calls, sizes)?, Card::zeros(), [Console::alone(sizes)]);
+    let mut hear = |image: &mut [u8], call: &Call| {
+        let mut tape = vec![0; call.tape];
+        let answer = call.deed.make(calls, image, &mut card, &mut run, &mut tape);
+        calls.play(image, &tape[..3 * answer.orders as usize], answer.orders);
+        answer.number
+    };
     let open = plain(Deed::Open(sizes), sizes);
     for call in [vec![open.clone()], before_restart(sizes), vec![open]].concat() {
         due(&call.to_string(), hear(&mut image, &call), 0)?;
@@ -161,7 +154,7 @@ impl<C: Calls> Story<'_, C> {
 /// The group at these sizes, which have two levels more than spares.
 pub fn restored_levels<C: Calls>(calls: &C, sizes: Sizes) -> Outcome {
     let (restarts, counts) = all_restarts(calls, sizes, Explorer::new(calls, sizes, 6))?;
-    counts.tried.all_tried(&[never_at(sizes), OF_SPANS.to_vec()].concat())?;
+    counts.tried.all_tried(&[never_at(sizes), OF_SPANS.to_vec(), OF_CONSOLES.to_vec()].concat())?;
     Ok(told(restarts, counts))
 }
 

@@ -1,12 +1,14 @@
 //! The bench sheet: what the sheet program must print for any input bytes.
 //!
-//! Written from section 16. Checked against the corner sheets (`corners`),
-//! whose outputs are written by hand; the sheet program is checked against it.
+//! Written from section 16. A sheet runs with one console, for which every spare
+//! is kept. Checked against the corner sheets (`corners`), whose outputs are
+//! written by hand; the sheet program is checked against it.
 //! `benches` runs sheets over any implementation of the calls.
 
 use crate::benches::{Bench, Ran, Rubbish};
 use crate::book::{Call, Deed};
 use crate::calls::*;
+use crate::groups::plain;
 use crate::reference::Reference;
 
 const MOST_BYTES: usize = 4096;
@@ -126,7 +128,7 @@ impl Sheet {
 
     fn run<C: Calls>(&self, mut bench: Bench<C>, mut show: impl FnMut(usize, &Call, &Ran)) -> String {
         let mut run = |group: usize, deed: Deed| {
-            let call = Call { deed, tape: self.sizes.room() };
+            let call = plain(deed, self.sizes);
             let ran = bench.run(&call, 0);
             show(group, &call, &ran);
             ran
@@ -155,6 +157,6 @@ impl Group {
         let offset = lines.read("at", number)?;
         let bytes = lines.read("bytes", hexadecimal)?;
         let save = lines.read("save", flag)?;
-        Ok(Group { target: Target { level, frame, offset }, bytes, save })
+        Ok(Group { target: Target { console: 0, level, frame, offset }, bytes, save })
     }
 }

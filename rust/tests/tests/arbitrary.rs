@@ -1,8 +1,8 @@
-//! The random writes: how often each kind of span occurs.
+//! The random writes and runs: how often each kind of span and of record occurs.
 
-use crpm_tests::arbitrary::writing;
+use crpm_tests::arbitrary::{any_run, console, run, writing};
 use crpm_tests::calls::*;
-use crpm_tests::laws::{conditions_of_8, frames_met};
+use crpm_tests::laws::{conditions_of_13, conditions_of_8, frames_met};
 use crpm_tests::prng::Rng;
 
 const WRITES: usize = 6000;
@@ -71,6 +71,74 @@ fn every_offset_occurs() {
             };
             let count = writes.iter().filter(is).count();
             assert!(count > 5, "offset {offset} with {what}: {count}");
+        }
+    }
+}
+
+const RUNS: usize = 6000;
+
+/// A run for an opening after a cut is none that 13 refuses, and of every length.
+#[test]
+fn runs_are_not_refused() {
+    for spares in [1, 2, 3, 64] {
+        let mut rng = Rng::new(spares);
+        let runs: Vec<Vec<Console>> = (0..RUNS).map(|_| run(&mut rng, spares)).collect();
+        for run in &runs {
+            assert_eq!(conditions_of_13(None, run, spares), [false; 5], "{run:?} at {spares} spares");
+        }
+        for length in 0..=8 {
+            assert!(runs.iter().filter(|run| run.len() == length).count() > 100, "{length} consoles");
+        }
+        let all_kept = |run: &&Vec<Console>| run.iter().map(|console| console.share).sum::<u64>() == spares;
+        assert!(runs.iter().filter(all_kept).count() > 100, "every one of {spares} spares kept");
+    }
+}
+
+/// Each of 13's conditions occurs alone, also by shares whose sum wraps; so do
+/// records at their share and their limit and beside them, and consoles' numbers in
+/// the run and behind it.
+#[test]
+fn every_record_occurs() {
+    for spares in [1, 3, 64] {
+        let mut rng = Rng::new(spares);
+        let runs: Vec<Vec<Console>> =
+            (0..RUNS).map(|_| any_run(&mut rng, Sizes::new(1, spares, 1))).collect();
+        let occurs = |what: &str, is: &dyn Fn(&Vec<Console>) -> bool| {
+            let count = runs.iter().filter(|run| is(run)).count();
+            assert!(count > 50, "{what}: {count} at {spares} spares");
+        };
+        occurs("refused by none", &|run| conditions_of_13(None, run, spares) == [false; 5]);
+        for condition in 1..5 {
+            let mut alone = [false; 5];
+            alone[condition] = true;
+            occurs("one condition", &|run| conditions_of_13(None, run, spares) == alone);
+        }
+        let sum = |run: &[Console]| run.iter().fold(0u64, |sum, console| sum.wrapping_add(console.share));
+        let beyond = [false, false, false, false, true];
+        occurs("a sum that wraps", &|run| {
+            conditions_of_13(None, run, spares) == beyond && sum(run) <= spares
+        });
+        for length in 0..=10 {
+            occurs("a length", &|run| run.len() == length);
+        }
+        let has = |is: fn(&Console) -> bool| move |run: &Vec<Console>| run.iter().any(is);
+        occurs("taken at the limit", &has(|record| record.taken == record.limit && record.limit > 0));
+        occurs("taken a spare below the limit", &has(|record| record.taken == record.limit.wrapping_sub(1)));
+        occurs("taken at the share", &has(|record| record.taken == record.share && record.share > 0));
+        occurs("taken a spare below the share", &has(|record| record.taken == record.share.wrapping_sub(1)));
+        occurs("taken a spare above the share", &has(|record| record.taken == record.share.wrapping_add(1)));
+        occurs("a limit above every number", &has(|record| record.limit == u64::MAX));
+        let numbers: Vec<(u64, u64)> =
+            runs.iter().map(|run| (console(&mut rng, run), run.len() as u64)).collect();
+        for (what, is) in [
+            ("in the run", (|number, length| number < length) as fn(u64, u64) -> bool),
+            ("the next", |number, length| number == length && length > 0),
+            ("one behind it", |number, length| number == length + 1),
+            ("the greatest", |number, _| number == u64::MAX),
+            ("of an empty run", |_, length| length == 0),
+        ] {
+            let count = numbers.iter().filter(|(number, length)| is(*number, *length)).count();
+            assert!(count > 20, "{what}: {count} at {spares} spares");
         }
     }
 }

@@ -18,8 +18,8 @@ fn few_orders_and_few_cuts() {
     let mut explorer = Explorer::new(&calls, SIZES, 1);
     let plan = Plan { images: Images::Some { samples: 1 }, every_cut_up_to: 0 };
     let mut history = explorer.start(&image, plan).expect("the image opens");
-    let target = Target { level: 0, frame: 0, offset: 0 };
-    let call = Call { deed: Deed::Write(target, vec![1; 7 * WORD]), tape: SIZES.room() };
+    let target = Target { console: 0, level: 0, frame: 0, offset: 0 };
+    let call = Call { deed: Deed::Write(target, vec![1; 7 * WORD]), lent: None, tape: SIZES.room() };
     let step = explorer.step(&mut history, &call, plan).expect("the write is served");
     assert_eq!(step.orders.len(), 7);
     assert!((4..=8).contains(&step.shown.len()), "{} cuts", step.shown.len());
@@ -54,8 +54,8 @@ fn few_images_or_samples() {
         let plan = Plan { images: Images::Few { cap, samples }, every_cut_up_to: usize::MAX };
         let mut history = explorer.start(&image, plan).expect("the image opens");
         let before = explorer.counts().images;
-        let target = Target { level: 0, frame: 0, offset: 252 };
-        let call = Call { deed: Deed::Write(target, vec![1; WORD]), tape: sizes.room() };
+        let target = Target { console: 0, level: 0, frame: 0, offset: 252 };
+        let call = Call { deed: Deed::Write(target, vec![1; WORD]), lent: None, tape: sizes.room() };
         let step = explorer.step(&mut history, &call, plan).expect("the write is served");
         assert_eq!((step.orders.len(), step.shown.len()), (2, 3));
         explorer.counts().images - before

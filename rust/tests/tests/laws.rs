@@ -1,9 +1,9 @@
 //! The tally of the laws over single calls, each law broken by hand.
 
 use crpm_tests::arbitrary::{distinct_data, image_of, Metadata};
-use crpm_tests::book::Deed;
+use crpm_tests::book::{state_of, Deed};
 use crpm_tests::calls::*;
-use crpm_tests::laws::{conditions_of_8, Spans, Taken, Tally, Tried, NINES, OF_SPANS, OF_SPARES};
+use crpm_tests::laws::*;
 
 const SIZES: Sizes = Sizes::new(3, 2, 1);
 
@@ -13,12 +13,32 @@ fn image(states: [u8; 3], pairs: [u8; 2]) -> Vec<u8> {
 }
 
 fn write_to(level: u64) -> Deed {
-    Deed::Write(Target { level, frame: 0, offset: 0 }, vec![1; WORD])
+    write_by(0, level)
 }
 
-/// One call of a history that starts at the first image and leaves the second.
+fn write_by(console: u64, level: u64) -> Deed {
+    Deed::Write(Target { console, level, frame: 0, offset: 0 }, vec![1; WORD])
+}
+
+/// The records that a call leaves if each write to a level in state 1 is charged.
+fn left_by(deed: &Deed, number: u64, before: &[u8], lent: &[Console]) -> Vec<Console> {
+    let mut left = lent.to_vec();
+    match deed {
+        _ if number != 0 => {}
+        Deed::Write(target, _) => {
+            left[target.console as usize].taken += u64::from(state_of(before, target.level as usize) == 1)
+        }
+        Deed::Open(_) | Deed::Save => left.iter_mut().for_each(|console| console.taken = 0),
+    }
+    left
+}
+
+/// One call of a history of one console that starts at the first image and leaves
+/// the second.
 fn one(deed: &Deed, number: u64, before: &[u8], after: &[u8]) -> Result<Tried, String> {
-    Tally::start(before, SIZES).feed(deed, number, before, after)
+    let lent = [Console::alone(SIZES)];
+    let left = left_by(deed, number, before, &lent);
+    Tally::start(before, SIZES, &lent).feed(Seen { deed, number, lent: &lent, left: &left, before, after })
 }
 
 /// A save settles every level in state 2, touched or not.
@@ -75,7 +95,8 @@ fn from_save_to_save() {
     let start = image([2, 1, 1], [0, UNPAIRED]);
     let full = image([2, 2, 1], [0, 1]);
     let saved = image([1, 1, 1], [0, 1]);
-    let mut tally = Tally::start(&start, SIZES);
+    let mut run = vec![Console::alone(SIZES)];
+    let mut tally = Tally::start(&start, SIZES, &run);
     let calls = [
         (write_to(1), 0, &start, &full),
         (write_to(1), 0, &full, &full),
@@ -87,12 +108,15 @@ fn from_save_to_save() {
     ];
     let mut total = Tried::default();
     for (deed, number, before, after) in calls {
-        total.add(tally.feed(&deed, number, before, after).expect("the laws hold"));
+        let left = left_by(&deed, number, before, &run);
+        let seen = Seen { deed: &deed, number, lent: &run, left: &left, before, after };
+        total.add(tally.feed(seen).expect("the laws hold"));
+        run = left;
     }
-    let Tried { saves, settled, empty, copies, nines, taken, spans } = total;
+    let Tried { saves, settled, empty, copies, nines, taken, spans, heard } = total;
     assert_eq!((saves, settled, empty, copies, nines), (1, 2, 0, 2, 2));
     assert_eq!(taken, Taken { unpaired: 1, ..Taken::default() });
-    assert_eq!(spans, Spans::default());
+    assert_eq!((spans, heard), (Spans::default(), Heard::default()));
 }
 
 /// A write to the last level, in state 1 and without a spare, from these states
@@ -177,8 +201,10 @@ const FRAMES: Sizes = Sizes::new(1, 1, 3);
 fn long_write(frame: u64, offset: u64, length: usize, number: u64) -> Result<Spans, String> {
     let empty = Metadata { states: vec![0], pairs: vec![UNPAIRED] };
     let image = image_of(FRAMES, 6, &empty, 0, &distinct_data(FRAMES));
-    let deed = Deed::Write(Target { level: 0, frame, offset }, vec![1; length]);
-    Ok(Tally::start(&image, FRAMES).feed(&deed, number, &image, &image)?.spans)
+    let deed = &Deed::Write(Target { console: 0, level: 0, frame, offset }, vec![1; length]);
+    let run = &[Console::alone(FRAMES)];
+    let seen = Seen { deed, number, lent: run, left: run, before: &image, after: &image };
+    Ok(Tally::start(&image, FRAMES, run).feed(seen)?.spans)
 }
 
 /// Served spans by the frames that they meet.
@@ -212,7 +238,7 @@ fn eight_exactly_where_due() {
         assert!(long_write(frame, offset, length, 0).is_ok(), "{frame} {offset} {length}");
         assert!(long_write(frame, offset, length, 11).is_ok(), "{frame} {offset} {length}");
     }
-    let wraps = Target { level: 0, frame: 0, offset: u64::MAX };
+    let wraps = Target { console: 0, level: 0, frame: 0, offset: u64::MAX };
     assert_eq!(conditions_of_8(wraps, 2, 3), [false, true, true]);
 }
 
@@ -221,7 +247,8 @@ fn eight_exactly_where_due() {
 fn untried_laws_fail() {
     let spans = Spans { long: 1, long_copies: 1, eights: [1; 3] };
     let taken = Taken { unpaired: 1, of_levels: 1, passing: 1 };
-    let tried = Tried { saves: 1, settled: 1, empty: 1, copies: 1, nines: 1, taken, spans };
+    let heard = Heard { thirteens: 1, fourteens: 1, fifteens: 1, shares: 1 };
+    let tried = Tried { saves: 1, settled: 1, empty: 1, copies: 1, nines: 1, taken, spans, heard };
     assert!(tried.all_tried(&[]).is_ok());
     assert!(Tried { nines: 0, ..tried }.all_tried(&[NINES]).is_ok());
     assert!(Tried { spans: Spans::default(), ..tried }.all_tried(&OF_SPANS).is_ok());
@@ -234,6 +261,15 @@ fn untried_laws_fail() {
     {
         assert!(Tried { taken, ..tried }.all_tried(&[NINES]).is_err());
     }
+    assert!(Tried { heard: Heard::default(), ..tried }.all_tried(&OF_CONSOLES).is_ok());
+    for heard in [
+        Heard { thirteens: 0, ..heard },
+        Heard { fourteens: 0, ..heard },
+        Heard { fifteens: 0, ..heard },
+        Heard { shares: 0, ..heard },
+    ] {
+        assert!(Tried { heard, ..tried }.all_tried(&[NINES]).is_err());
+    }
     for spans in [
         Spans { long: 0, ..spans },
         Spans { long_copies: 0, ..spans },
@@ -242,5 +278,227 @@ fn untried_laws_fail() {
         Spans { eights: [1, 1, 0], ..spans },
     ] {
         assert!(spans.all_tried().is_err() && Tried { spans, ..tried }.all_tried(&[NINES]).is_err());
+    }
+}
+
+/// A console's record with a taken count.
+const fn record(share: u64, limit: u64, taken: u64) -> Console {
+    Console { share, limit, taken }
+}
+
+/// One call of a history that is lent this run, which starts at the first image.
+fn lent(deed: &Deed, number: u64, lent: &[Console], left: &[Console]) -> Result<Tried, String> {
+    let before = &image([1, 1, 2], [UNPAIRED, 2]);
+    let copied = &image([2, 1, 2], [0, 2]);
+    let saved = &image([1, 1, 1], [UNPAIRED, 2]);
+    let after = match deed {
+        Deed::Write(..) if number == 0 => copied,
+        Deed::Save if number == 0 => saved,
+        _ => before,
+    };
+    Tally::start(before, SIZES, lent).feed(Seen { deed, number, lent, left, before, after })
+}
+
+/// A copying write is charged to its console, once and alone; a refused one, and a
+/// call that copies nothing, leave the records; a save and an opening clear the
+/// counts and nothing else.
+#[test]
+fn records_are_left_as_due() {
+    let run = [record(0, 2, 0), record(0, 3, 1)];
+    let (by_first, by_second) = (write_by(0, 0), write_by(1, 0));
+    let charged = [[record(0, 2, 1), run[1]], [run[0], record(0, 3, 2)]];
+    assert!(lent(&by_first, 0, &run, &charged[0]).is_ok());
+    assert!(lent(&by_second, 0, &run, &charged[1]).is_ok());
+    for wrong in [run, charged[1], [record(0, 2, 2), run[1]], [record(0, 3, 1), run[1]]] {
+        assert!(lent(&by_first, 0, &run, &wrong).is_err(), "{wrong:?}");
+    }
+    let above = [record(0, 2, 3), run[1]];
+    let said = "a served call leaves [0/2/3 0/3/1], a count above its limit".to_string();
+    assert_eq!(lent(&by_first, 0, &run, &above).err(), Some(said));
+    assert!(lent(&by_first, 11, &run, &run).is_ok());
+    assert!(lent(&by_first, 11, &run, &charged[0]).is_err());
+    for deed in [Deed::Save, Deed::Open(SIZES)] {
+        let cleared = [run[0], record(0, 3, 0)];
+        assert!(lent(&deed, 0, &run, &cleared).is_ok(), "{deed}");
+        assert!(lent(&deed, 0, &run, &run).is_err(), "{deed}");
+        assert!(lent(&deed, 0, &run, &[cleared[0], record(1, 3, 0)]).is_err(), "{deed}");
+        assert!(lent(&deed, 11, &run, &run).is_ok(), "{deed}");
+        assert!(lent(&deed, 11, &run, &cleared).is_err(), "{deed}");
+    }
+    let touched = Seen {
+        deed: &write_by(0, 2),
+        number: 0,
+        lent: &run,
+        left: &run,
+        before: &image([1, 1, 2], [UNPAIRED, 2]),
+        after: &image([1, 1, 2], [UNPAIRED, 2]),
+    };
+    assert!(Tally::start(touched.before, SIZES, &run).feed(touched).is_ok());
+    let charged = Seen { left: &charged[0], ..touched };
+    assert!(Tally::start(touched.before, SIZES, &run).feed(charged).is_err());
+}
+
+/// 13 exactly where one of its conditions holds; a sum is one of natural numbers.
+#[test]
+fn thirteen_exactly_where_due() {
+    let (good, far) = (record(1, 1, 0), u64::MAX);
+    let runs: [(&[Console], usize); 8] = [
+        (&[good; 9], 1),
+        (&[record(1, 0, 0)], 2),
+        (&[record(0, 1, 2)], 3),
+        (&[record(0, far - 2, far - 1)], 3),
+        (&[record(2, 2, 0), good], 4),
+        (&[record(far, far, 0), record(3, far, 0)], 4),
+        (&[record(1 << 61, far, 0); 8], 4),
+        (&[record(far, far, 0); 8], 4),
+    ];
+    for (run, condition) in runs {
+        assert!(conditions_of_13(Some(0), run, 2)[condition], "{run:?}");
+        for deed in [Deed::Save, Deed::Open(SIZES), write_to(0)] {
+            assert!(lent(&deed, 13, run, run).is_ok(), "{deed} {run:?}");
+            let left = left_by(&deed, 0, &image([1; 3], [UNPAIRED; 2]), run);
+            assert!(lent(&deed, 0, run, &left).is_err(), "{deed} {run:?}");
+            assert!(lent(&deed, 11, run, run).is_err(), "{deed} {run:?}");
+        }
+    }
+    for run in [&[][..], &[good], &[good; 2], &[record(2, far, far)], &[record(0, 0, 0); 8]] {
+        assert_eq!(conditions_of_13(None, run, 2), [false; 5], "{run:?}");
+        assert!(lent(&Deed::Save, 13, run, run).is_err(), "{run:?}");
+        assert!(lent(&write_by(8, 0), 13, run, run).is_ok(), "{run:?}");
+        assert!(lent(&write_by(run.len() as u64, 0), 11, run, run).is_err(), "{run:?}");
+    }
+}
+
+/// 14 exactly at the limit, before 15; 15 exactly where no more spares are free
+/// than the others have unused. One of two spares is free here.
+#[test]
+fn fourteen_and_fifteen_exactly_where_due() {
+    let heard = |run: &[Console], number| lent(&write_by(0, 0), number, run, run).map(|tried| tried.heard);
+    let cases: [(&[Console], u64); 9] = [
+        (&[record(0, 0, 0)], 14),
+        (&[record(1, 2, 2), record(1, 1, 0)], 14),
+        (&[record(0, 1, 0), record(1, 1, 0)], 15),
+        (&[record(1, 1, 0), record(1, 1, 0)], 15),
+        (&[record(0, 1, 0), record(2, 3, 1)], 15),
+        (&[record(0, 9, 8), record(0, 3, 3), record(1, 3, 0)], 15),
+        (&[record(0, 1, 0), record(2, 2, 2)], 11),
+        (&[record(2, 2, 1)], 11),
+        (&[record(0, u64::MAX, 5), record(2, 9, 9)], 11),
+    ];
+    for (run, number) in cases {
+        for other in [11, 14, 15] {
+            assert_eq!(heard(run, other).is_ok(), other == number, "{run:?} {other}");
+        }
+    }
+    let [fourteen, fifteen] = [(cases[0].0, 14), (cases[2].0, 15)].map(|(run, number)| heard(run, number));
+    assert_eq!(fourteen, Ok(Heard { fourteens: 1, ..Heard::default() }));
+    assert_eq!(fifteen, Ok(Heard { fifteens: 1, ..Heard::default() }));
+    let dirty = write_by(0, 2);
+    for number in [14, 15] {
+        let run = [record(0, 0, 0), record(2, 2, 0)];
+        assert!(lent(&dirty, number, &run, &run).is_err(), "a level in state 2 hears {number}");
+    }
+}
+
+/// From a served save to the next opening a console below its share hears none of
+/// 9, 14 and 15, while the run is lent on.
+#[test]
+fn shares_are_kept_since_a_save() {
+    let run = [record(1, 2, 0), record(0, 2, 0)];
+    let free = &image([1, 1, 1], [0, 1]);
+    let said = |number| Err(format!("console 0 of [1/2/0 0/2/0], below its share, hears {number}"));
+    let served = |tally: &mut Tally, deed: &Deed| {
+        let seen = Seen { deed, number: 0, lent: &run, left: &run, before: free, after: free };
+        tally.feed(seen).map(|tried| tried.saves)
+    };
+    let refused = |tally: &Tally, writer, number, run: &[Console]| {
+        let deed = &write_by(writer, 0);
+        tally.clone().feed(Seen { deed, number, lent: run, left: run, before: free, after: free }).map(drop)
+    };
+    let mut tally = Tally::start(free, SIZES, &run);
+    for number in [9, 14, 15] {
+        assert_ne!(refused(&tally, 0, number, &run), said(number), "no save yet");
+    }
+    assert_eq!(served(&mut tally, &Deed::Save), Ok(1));
+    for number in [9, 14, 15] {
+        assert_eq!(refused(&tally, 0, number, &run), said(number));
+        assert_ne!(refused(&tally, 1, number, &run), said(number));
+        assert_ne!(refused(&tally, 0, number, &[run[0], record(0, 1, 0)]), said(number), "another run");
+    }
+    assert_eq!(served(&mut tally, &Deed::Open(SIZES)), Ok(0));
+    assert_ne!(refused(&tally, 0, 15, &run), said(15), "opened since");
+}
+
+/// A share counts as needed if another console is above its own.
+#[test]
+fn needed_shares_are_counted() {
+    let free = &image([1, 1, 1], [0, 1]);
+    let needed = |first: Console| {
+        let run = [first, record(0, 2, 0)];
+        let copied = image([1, 2, 1], [0, 1]);
+        let both = image([2, 2, 1], [0, 1]);
+        let (after_second, after_first) =
+            ([first, record(0, 2, 1)], [record(first.share, 2, 1), record(0, 2, 1)]);
+        let mut tally = Tally::start(free, SIZES, &run);
+        let mut feed = |deed: &Deed, lent: &[Console], left: &[Console], before: &[u8], after: &[u8]| {
+            tally
+                .feed(Seen { deed, number: 0, lent, left, before, after })
+                .expect("the laws hold")
+                .heard
+                .shares
+        };
+        let save = feed(&Deed::Save, &run, &run, free, free);
+        let second = feed(&write_by(1, 1), &run, &after_second, free, &copied);
+        [save, second, feed(&write_by(0, 0), &after_second, &after_first, &copied, &both)]
+    };
+    assert_eq!(needed(record(1, 2, 0)), [0, 0, 1]);
+    assert_eq!(needed(record(0, 2, 0)), [0, 0, 0]);
+}
+
+/// One console for which every spare is kept hears none of 13, 14 and 15.
+#[test]
+fn the_only_console_hears_no_refusal_of_consoles() {
+    let full = image([2, 2, 1], [0, 1]);
+    for number in [14, 15] {
+        let said = Some(format!("the only console, [2/2/0], hears {number}"));
+        assert_eq!(one(&write_to(2), number, &full, &full).err(), said);
+    }
+    assert!(one(&Deed::Save, 13, &full, &full).is_err());
+    let (deed, run) = (&write_by(1, 2), &[Console::alone(SIZES)]);
+    let seen = Seen { deed, number: 13, lent: run, left: run, before: &full, after: &full };
+    assert!(Tally::start(&full, SIZES, run).feed(seen).is_ok(), "there is no console 1");
+}
+
+/// What the comparison counts of consoles: each condition of 13 alone, sums that
+/// wrap, and the spares that 14, 15 and charges are about.
+#[test]
+fn charges_are_counted() {
+    let fed = |writer, run: &[Console]| {
+        let mut charges = Charges::default();
+        charges.feed(writer, run, 2, 13);
+        (charges.thirteens, charges.wrapped)
+    };
+    let far = u64::MAX;
+    assert_eq!(fed(Some(1), &[record(2, 2, 0)]), ([1, 0, 0, 0, 0], 0));
+    assert_eq!(fed(None, &[record(0, 0, 0); 9]), ([0, 1, 0, 0, 0], 0));
+    assert_eq!(fed(None, &[record(1, 0, 0)]), ([0, 0, 1, 0, 0], 0));
+    assert_eq!(fed(None, &[record(0, 1, 2)]), ([0, 0, 0, 1, 0], 0));
+    assert_eq!(fed(None, &[record(3, 3, 0)]), ([0, 0, 0, 0, 1], 0));
+    assert_eq!(fed(None, &[record(far, far, 0), record(3, far, 0)]), ([0, 0, 0, 0, 1], 1));
+    assert_eq!(fed(Some(1), &[record(3, 3, 0)]), ([0; 5], 0));
+    let mut all = Charges { thirteens: [1; 5], wrapped: 1, ..Charges::default() };
+    let writes = [(14, 0, false), (14, 1, true), (15, 0, false), (15, 0, true)];
+    writes.iter().for_each(|(number, marks, own)| all.feed_write(*number, *marks, *own, false));
+    [(1, false), (1, true), (0, true)].iter().for_each(|(marks, own)| all.feed_write(0, *marks, *own, true));
+    assert_eq!((all.fourteens, all.fifteens, all.charged), ([1; 2], [1; 2], [1; 3]));
+    assert!(all.all_tried().is_ok());
+    for untried in [
+        Charges { thirteens: [1, 1, 0, 1, 1], ..all },
+        Charges { wrapped: 0, ..all },
+        Charges { fourteens: [1, 0], ..all },
+        Charges { fifteens: [0, 1], ..all },
+        Charges { charged: [1, 1, 0], ..all },
+    ] {
+        assert!(untried.all_tried().is_err());
     }
 }

@@ -3,11 +3,12 @@
 //!
 //! Compared byte for byte: each call with any contents; random histories step
 //! by step, cut at every order and opened again through the library's own
-//! calls; every permitted image of single calls, of short histories and of the
-//! first save after a restart; the story of long writes at every cut; sheets and
-//! random histories on two benches. In every history the laws of sections 11.5,
-//! 10.9 and 3.4 are counted. Then the library's answers are spoiled one at a
-//! time, and each group must notice. Seeds are fixed.
+//! calls; every permitted image of single calls, of short histories of one console
+//! and of two and of the first save after a restart; the stories of long writes and
+//! of two consoles at every cut; sheets and random histories on two benches. In
+//! every history the laws of sections 11.5, 10.9, 3.4, 10.10 and 15.7 are counted.
+//! Then the library's answers are spoiled one at a time, and each group must
+//! notice. Seeds are fixed.
 
 use crpm_tests::calls::*;
 use crpm_tests::compared::Compared;
@@ -19,7 +20,7 @@ use crpm_tests::long::{after_cuts, long_writes, longest_writes};
 use crpm_tests::reference::Reference;
 use crpm_tests::report::{arguments, Found, Outcome, Suite};
 use crpm_tests::restart::restored_levels;
-use crpm_tests::{arbitrary, benches};
+use crpm_tests::{arbitrary, benches, consoles};
 use std::process::ExitCode;
 
 const USAGE: &str = "usage: differential [--quick]
@@ -32,6 +33,7 @@ type SpoiledRun<'a> = &'a dyn Fn(&SpoiledPair) -> Outcome;
 
 const SMALL: Sizes = Sizes::new(1, 1, 1);
 const TWO: Sizes = Sizes::new(2, 1, 1);
+const FIVE: Sizes = Sizes::new(3, 2, 1);
 const SMALL_OF_FRAMES: Sizes = Sizes::new(1, 1, 2);
 const TWO_OF_FRAMES: Sizes = Sizes::new(2, 1, 2);
 const STORY: Sizes = Sizes::new(6, 4, 1);
@@ -41,6 +43,8 @@ const EVERY_CUT: Plan = Plan { images: Images::Some { samples: 2 }, every_cut_up
 const SOME_CUTS: Plan = Plan { images: Images::Some { samples: 1 }, every_cut_up_to: 20 };
 /// Every cut of the saves of long writes, few cuts of the writes.
 const SOME_OF_SAVES: Plan = Plan { images: Images::Few { cap: 4, samples: 1 }, every_cut_up_to: 30 };
+/// Every image of the cuts near a fence and at the ends of a call.
+const FEW_CUTS: Plan = Plan { images: Images::All { cap: 1 << 20 }, every_cut_up_to: 0 };
 const FEW_IMAGES: Plan = Plan { images: Images::Few { cap: 256, samples: 32 }, every_cut_up_to: usize::MAX };
 
 fn main() -> ExitCode {
@@ -67,6 +71,9 @@ fn all(suite: &mut Suite) {
     suite.add("long writes at 1,1,4", || compared(&Library, |both| long_writes(both, FEW_IMAGES)));
     suite.add("long writes after cuts", || compared(&Library, |both| after_cuts(both)));
     suite.add("longest writes", || compared(&Library, |both| longest_writes(both)));
+    suite.add("stage and gallery at 5,3,1", || compared(&Library, |both| consoles::story(both)));
+    suite.add("two consoles up to 3 at 2,1,1", || of_two(TWO, 21, Plan::ALL));
+    suite.add("two consoles up to 3 at 3,2,1", || of_two(FIVE, 4, FEW_CUTS));
     suite.add("two benches, one sheet", || compared(&Library, |both| benches::one_sheet(both)));
     suite.add("two benches, random histories", || two_benches(1000));
     suite.add("random histories, sizes 1 to 3", || histories(random(41, 1200, 12, 3, EVERY_CUT)));
@@ -81,6 +88,7 @@ fn all(suite: &mut Suite) {
     suite.add("histories up to 3 at 2,1,2", || short(TWO_OF_FRAMES, 3));
     suite.add("safe calls, any contents", || any_small(&Wrapped, 10_000));
     suite.add("safe calls, bench cases", || compared(&Wrapped, |both| groups::bench_cases(both)));
+    suite.add("safe calls, stage and gallery", || compared(&Wrapped, |both| consoles::story(both)));
     suite.add("safe calls, long writes", || compared(&Wrapped, |both| long_writes(both, SOME_OF_SAVES)));
     suite.add("spoiled answers, any contents", spoiled_contents);
     suite.add("spoiled answers, histories", spoiled_histories);
@@ -91,6 +99,8 @@ fn quick(suite: &mut Suite) {
     suite.add("bench cases", || compared(&Library, |both| groups::bench_cases(both)));
     suite.add("restored levels at 6,4,1", || restored(STORY));
     suite.add("long writes at 1,1,4", || compared(&Library, |both| long_writes(both, FEW_IMAGES)));
+    suite.add("stage and gallery at 5,3,1", || compared(&Library, |both| consoles::story(both)));
+    suite.add("two consoles up to 3 at 3,2,1", || of_two(FIVE, 1, FEW_CUTS));
     suite.add("two benches, one sheet", || compared(&Library, |both| benches::one_sheet(both)));
     suite.add("two benches, random histories", || two_benches(200));
     suite.add("random histories, sizes 1 to 3", || histories(random(41, 40, 12, 3, EVERY_CUT)));
@@ -116,7 +126,7 @@ fn any_small<C: Calls>(calls: &C, rounds: usize) -> Outcome {
     compared(calls, |both| {
         groups::any_contents(both, 51, rounds, |rng| arbitrary::sizes(rng, 4));
         both.covers_all_numbers()?;
-        spans_tried(both, "every number of each call's list occurs, none besides")
+        kinds_tried(both, "every number of each call's list occurs, none besides")
     })
 }
 
@@ -125,14 +135,16 @@ fn any_large() -> Outcome {
         groups::any_contents(both, 52, 1000, |rng| arbitrary::sizes(rng, 16));
         groups::any_contents(both, 53, 400, arbitrary::edge_sizes);
         groups::any_contents(both, 54, 4, |_| Sizes::new(64, 64, 64));
-        spans_tried(both, "edges and the greatest sizes")
+        kinds_tried(both, "edges and the greatest sizes")
     })
 }
 
-/// Adds the writes by their spans, of which no kind may be missing.
-fn spans_tried<C: Calls>(both: &Pair<C>, text: &str) -> Outcome {
+/// Adds the writes by their spans and the calls by the records, of which no kind
+/// may be missing.
+fn kinds_tried<C: Calls>(both: &Pair<C>, text: &str) -> Outcome {
     both.spans().all_tried()?;
-    let named = both.spans().named();
+    both.charges().all_tried()?;
+    let named = [&both.spans().named()[..], &both.charges().named()].concat();
     let told: Vec<String> = named.iter().map(|(name, count)| format!("{count} {name}")).collect();
     Ok(Found::new(format!("{text}; {}", told.join(", ")), &named))
 }
@@ -143,6 +155,10 @@ fn short(sizes: Sizes, depth: usize) -> Outcome {
 
 fn restored(sizes: Sizes) -> Outcome {
     compared(&Library, |both| restored_levels(both, sizes))
+}
+
+fn of_two(sizes: Sizes, runs: usize, plan: Plan) -> Outcome {
+    compared(&Library, |both| consoles::of_two(both, sizes, 3, runs, plan))
 }
 
 fn two_benches(histories: u64) -> Outcome {
@@ -172,7 +188,7 @@ fn spoiled_contents() -> Outcome {
         for after in AFTER {
             let spoiled = Corrupted::new(&Library, spoil, after);
             let both = Compared::new(&good, &spoiled);
-            groups::any_contents(&both, 55, 24, |rng| arbitrary::sizes(rng, 3));
+            groups::any_contents(&both, 55, 32, |rng| arbitrary::sizes(rng, 3));
             if !spoiled.done() || both.differences() != 1 {
                 return Err(format!("{spoil:?} after {after}: {} differences", both.differences()));
             }
@@ -189,12 +205,13 @@ fn spoiled_histories() -> Outcome {
     let plan = Plan { images: Images::Some { samples: 1 }, every_cut_up_to: 20 };
     let random = Random { laws: Laws::Held, ..random(44, 8, 8, 2, plan) };
     let (all, few) = (Spoil::all(), [Spoil::Number(CallKind::Write), Spoil::PlayedImage, Spoil::ReadStart]);
-    let runs: [(&str, &[Spoil], SpoiledRun); 9] = [
+    let runs: [(&str, &[Spoil], SpoiledRun); 10] = [
         ("bench cases", &all, &|both| groups::bench_cases(both)),
         ("waiting lines", &all, &|both| groups::waiting_lines(both)),
         ("restored levels", &all, &|both| restored_levels(both, SHORT_STORY)),
         ("long writes", &all, &|both| long_writes(both, SOME_OF_SAVES)),
         ("long writes after cuts", &few, &|both| after_cuts(both)),
+        ("stage and gallery", &all, &|both| consoles::story(both)),
         ("two benches", &all, &|both| benches::one_sheet(both)),
         ("random histories", &all, &|both| groups::random_histories(both, random)),
         ("single calls", &few, &|both| groups::single_calls(both)),

@@ -1,12 +1,12 @@
 //! The explorer over the reference alone; calls no library.
 //!
 //! Checked against the specification: the bench cases, the cut model, demand 3
-//! over every permitted image of single calls, of short histories and of the
-//! first save after a restart, over the story of long writes and over random
-//! histories, with the laws of sections 11.5, 10.9 and 3.4 counted in all of
-//! them; sheets and random histories on two benches; each fault must be caught
-//! by what it breaks, and those that keep demand 3 must keep it; the corner
-//! sheets print as they should.
+//! over every permitted image of single calls, of short histories of one console
+//! and of two and of the first save after a restart, over the stories of long
+//! writes and of two consoles and over random histories, with the laws of sections
+//! 11.5, 10.9, 3.4, 10.10 and 15.7 counted in all of them; sheets and random
+//! histories on two benches; each fault must be caught by what it breaks, and those
+//! that keep demand 3 must keep it; the corner sheets print as they should.
 
 use crpm_tests::calls::Sizes;
 use crpm_tests::compared::Compared;
@@ -17,7 +17,7 @@ use crpm_tests::long::{after_cuts, long_writes, longest_writes};
 use crpm_tests::reference::{Fault, Reference};
 use crpm_tests::report::{arguments, Found, Outcome, Suite};
 use crpm_tests::restart::{restored_levels, restored_levels_without_laws};
-use crpm_tests::{arbitrary, benches, corners, sheet};
+use crpm_tests::{arbitrary, benches, consoles, corners, sheet};
 use std::process::ExitCode;
 
 const USAGE: &str = "usage: selftest
@@ -62,6 +62,9 @@ fn all_good<'a>(suite: &mut Suite<'a>, good: &'a Reference) {
     suite.add("long writes at 1,1,4", || long_writes(good, EVERY_CUT));
     suite.add("long writes after cuts", || after_cuts(good));
     suite.add("longest writes", || longest_writes(good));
+    suite.add("stage and gallery at 5,3,1", || consoles::story(good));
+    suite.add("two consoles up to 3 at 2,1,1", || consoles::of_two(good, TWO, 3, 7, Plan::ALL));
+    suite.add("two consoles up to 3 at 3,2,1", || consoles::of_two(good, FIVE, 3, 8, FEW_CUTS));
     suite.add("random histories", || groups::random_histories(good, random(21, 40)));
     suite.add("restored levels at 6,4,1", || restored_levels(good, STORY));
     suite.add("restored levels at 4,2,2", || restored_levels(good, STORY_OF_FRAMES));
@@ -93,7 +96,17 @@ fn faults(suite: &mut Suite) {
         let sheets = move || benches::one_sheet(&faulty);
         suite.add(format!("fault {fault:?} on the sheet"), move || heard(sheets(), on_sheets));
     }
-    suite.add("fault TakesByTape on two benches", || heard(by_tape(), "two benches have different orders"));
+    for (fault, breaks) in FAULTS_OF_CONSOLES {
+        let faulty = Reference::faulty(fault);
+        let explored = move || consoles::of_two(&faulty, TWO, 2, 21, FEW_CUTS);
+        suite.add(format!("fault {fault:?} at two consoles"), move || heard(explored(), breaks));
+    }
+    suite.add("fault TakesByTape on two benches", || {
+        heard(on_two_benches(Fault::TakesByTape), "two benches have different orders")
+    });
+    suite.add("fault OverdrawnShares on two benches", || {
+        heard(on_two_benches(Fault::OverdrawnShares), "due of 14 and 15: Some(15)")
+    });
 }
 
 const ONE_FRAME: &[Sizes] = &[SMALL, TWO];
@@ -120,9 +133,15 @@ const FAULTS: [(Fault, &[Sizes], &str); 13] = [
 
 /// The faults of a save's states, and what is heard after a restart.
 const FAULTS_OF_SAVE: [(Fault, &str); 3] = [
-    (Fault::SaveKeepsRestored, "after a restart write 8 bytes to level 4 frame 0 at 192: 9, due 0"),
+    (
+        Fault::SaveKeepsRestored,
+        "after a restart console 0 writes 8 bytes to level 4 frame 0 at 192: 9, due 0",
+    ),
     (Fault::SaveSetsEmpty, "saved read of the last level: 256, due 0"),
-    (Fault::SaveTurnsOwnToSpare, "after a restart write 8 bytes to level 4 frame 0 at 192: 4, due 0"),
+    (
+        Fault::SaveTurnsOwnToSpare,
+        "after a restart console 0 writes 8 bytes to level 4 frame 0 at 192: 4, due 0",
+    ),
 ];
 
 /// The faults of long writes, and what is due otherwise in their story.
@@ -159,7 +178,23 @@ const FAULTS_OF_SPARE: [(Fault, &str, &str); 3] = [
     ),
 ];
 
+/// The faults of consoles that two of them show, and what is said of each.
+const FAULTS_OF_CONSOLES: [(Fault, &str); 10] = [
+    (Fault::ChargesRefused, "a refused call changes the card or the run, or reports orders"),
+    (Fault::ChargesMarkedOnly, "a call lent [0/0/0 0/1/0] leaves [0/0/0 0/1/0], due [0/0/0 0/1/1]"),
+    (Fault::SaveKeepsTaken, "save: a call lent [0/0/0 0/1/1] leaves [0/0/0 0/1/1], due [0/0/0 0/1/0]"),
+    (Fault::OpeningKeepsTaken, " are due"),
+    (Fault::LimitAfterShares, "[0/0/0 1/1/0] answers 15 with 0 spares in use, due of 14 and 15: Some(14)"),
+    (Fault::OwnShareKept, "console 1 of [0/0/0 1/1/0], below its share, hears 15"),
+    (Fault::OwnSpareNotFree, "[0/0/0 0/1/0] answers 15 with 0 spares in use, due of 14 and 15: None"),
+    (Fault::SharesWrap, "(refusal 13 due: true) answers 0"),
+    (Fault::JudgesOneRecord, "a call lent [0/1/0 0/1/2] (refusal 13 due: true) answers 0"),
+    (Fault::RunAfterSpan, "a call lent [0/1/0 0/1/2] (refusal 13 due: true) answers 8"),
+];
+
 const EVERY_CUT: Plan = Plan { images: Images::Few { cap: 256, samples: 32 }, every_cut_up_to: usize::MAX };
+/// Every image of the cuts near a fence and at the ends of a call.
+const FEW_CUTS: Plan = Plan { images: Images::All { cap: 1 << 20 }, every_cut_up_to: 0 };
 
 fn random(seed: u64, histories: usize) -> Random {
     let plan = Plan { images: Images::Some { samples: 2 }, every_cut_up_to: 300 };
@@ -197,9 +232,10 @@ fn keeps_demand_3(fault: Fault) -> Outcome {
     Ok(Found { text: format!("{} histories, {} images", sum("histories"), sum("images")), counts })
 }
 
-/// What two benches do if the spare depends on what stood on the tape.
-fn by_tape() -> Outcome {
-    benches::random_histories(&Reference::faulty(Fault::TakesByTape), 45, 200)
+/// What random histories on two benches show of a fault: one that takes spares by
+/// what stood on the tape, one that only three consoles show.
+fn on_two_benches(fault: Fault) -> Outcome {
+    benches::random_histories(&Reference::faulty(fault), 45, 200)
 }
 
 /// The numbers and the reads of a story must show the fault.
@@ -210,19 +246,21 @@ fn heard(story: Outcome, breaks: &str) -> Outcome {
     }
 }
 
-/// Among calls with any contents each fault of long writes and of the new spare
-/// answers or leaves something else than the reference.
+/// Among calls with any contents each fault of long writes, of the new spare and
+/// of consoles answers or leaves something else than the reference.
 fn differ(good: &Reference) -> Outcome {
     let mut differences = Vec::new();
     let of_writes = FAULTS_OF_WRITE.map(|(fault, _)| fault);
     let of_spares = FAULTS_OF_SPARE.map(|(fault, ..)| fault);
     let in_use = [Fault::TakesSpareInUse, Fault::TakesLowestPaired];
-    for fault in of_writes.iter().chain(&of_spares).chain(&in_use) {
+    let of_consoles = FAULTS_OF_CONSOLES.map(|(fault, _)| fault);
+    let of_three = [Fault::OverdrawnShares];
+    for fault in of_writes.iter().chain(&of_spares).chain(&in_use).chain(&of_consoles).chain(&of_three) {
         let faulty = Reference::faulty(*fault);
         let both = Compared::new(good, &faulty);
         match of_writes.contains(fault) {
             true => groups::any_contents(&both, 33, 200, |rng| arbitrary::sizes(rng, 3)),
-            false => groups::any_contents(&both, 33, 200, |_| FIVE),
+            false => groups::any_contents(&both, 33, 400, |_| FIVE),
         }
         if both.differences() == 0 {
             return Err(format!("{fault:?} is not noticed"));
@@ -251,9 +289,11 @@ fn forms_agree(good: &Reference) -> Outcome {
         restored_levels(&compared, STORY_OF_FRAMES)?;
         long_writes(&compared, EVERY_CUT)?;
         longest_writes(&compared)?;
+        consoles::story(&compared)?;
         benches::one_sheet(&compared)?;
         compared.verdict()?;
         compared.spans().all_tried()?;
+        compared.charges().all_tried()?;
         calls += compared.calls();
     }
     Ok(Found::new(format!("{calls} calls as the reference"), &[("calls compared", calls)]))

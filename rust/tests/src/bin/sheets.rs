@@ -91,13 +91,11 @@ fn printed_by_laws(input: &[u8]) -> Result<(Vec<u8>, Tried), String> {
     let (mut tally, mut all) = (None, Ok(Tried::default()));
     let due = sheet::printed_on(&Reference::good(), Rubbish::Zeros, input, |_, call, ran| {
         match (&call.deed, &mut tally, &mut all) {
-            (Deed::Open(sizes), _, _) => tally = Some(Tally::start(&ran.before, *sizes)),
-            (deed, Some(tally), Ok(tried)) => {
-                match tally.feed(deed, ran.answer.number, &ran.before, &ran.dump) {
-                    Ok(more) => tried.add(more),
-                    Err(what) => all = Err(format!("{call}: {what}")),
-                }
-            }
+            (Deed::Open(sizes), _, _) => tally = Some(Tally::start(&ran.before, *sizes, &ran.left)),
+            (_, Some(tally), Ok(tried)) => match tally.feed(ran.seen(call)) {
+                Ok(more) => tried.add(more),
+                Err(what) => all = Err(format!("{call}: {what}")),
+            },
             _ => {}
         }
     });

@@ -3,14 +3,16 @@
 //! many rounds; beside them the limits, a memset of the bytes that the tape
 //! takes and a memcpy of the image.
 //!
-//! Same machine, same inputs, same interface, the session changed in place on both
-//! sides, both built for release. All buffers are allocated and written before the
+//! Same machine, same inputs, same interface, session and clients changed in place on
+//! both sides, both built for release. All buffers are allocated and written before the
 //! first round and are not cleared between rounds; rounds run at 25 depths of
 //! the stack, since its place in its page alone moves a small call. Before
 //! measuring, all sides must give the same answers.
 //!
 //! Writes that copy nothing, saves and reads find every spare paired that can be,
-//! unless the row's name says how many are. The line
+//! unless the row's name says how many are. The calls are lent the record of one
+//! console, for which every spare is kept, or those of two, each with half of them,
+//! where the row's name says so. The line
 //! `worst: copies=C writes=W rust=R small=Q calls=K limit=L` has the greatest ratios
 //! of the library's time to Rust's: C over openings and writes that copy, of 1,000
 //! orders or more, W over all writes that copy, R over calls of 1,000 orders or
@@ -18,7 +20,7 @@
 //! and L, the greatest ratio to memset of an opening at 64,64,64. The line before
 //! names the row of K.
 
-use crpm::ffi::Session;
+use crpm::ffi::{Client, Session};
 use crpm_tests::arbitrary::{distinct_data, image_of, Metadata};
 use crpm_tests::calls::*;
 use crpm_tests::fast::{self, Chunked, Indexed};
@@ -88,6 +90,7 @@ struct Case {
     action: Action,
     image: Vec<u8>,
     session: Session,
+    clients: Vec<Client>,
     tape: Vec<u64>,
     /// The orders written or played, or the likeness.
     out: u64,
@@ -95,20 +98,24 @@ struct Case {
 }
 
 impl Case {
-    fn call(&mut self, side: Side, session: &mut Session) -> u64 {
+    fn call(&mut self, side: Side, session: &mut Session, run: &mut [Client]) -> u64 {
         let Case { sizes, action, image, tape, out, extent, .. } = self;
         let frame = sizes.frames - 1;
         match (action, side) {
             (Action::Format, Side::Library) => raw::format(image, *sizes),
             (Action::Format, _) => fast::format(image, *sizes),
-            (Action::Open, Side::Library) => raw::open(image, *sizes, session, tape, out),
-            (Action::Open, Side::Indexed) => fast::open::<Indexed>(image, *sizes, session, tape, out),
-            (Action::Open, Side::Chunked) => fast::open::<Chunked>(image, *sizes, session, tape, out),
-            (Action::Write(t, b), Side::Library) => raw::write(image, session, *t, b, tape, out),
-            (Action::Write(t, b), Side::Indexed) => fast::write::<Indexed>(image, session, *t, b, tape, out),
-            (Action::Write(t, b), Side::Chunked) => fast::write::<Chunked>(image, session, *t, b, tape, out),
-            (Action::Save, Side::Library) => raw::checkpoint(image, session, tape, out),
-            (Action::Save, _) => fast::save(image, session, tape, out),
+            (Action::Open, Side::Library) => raw::open(image, *sizes, session, run, tape, out),
+            (Action::Open, Side::Indexed) => fast::open::<Indexed>(image, *sizes, session, run, tape, out),
+            (Action::Open, Side::Chunked) => fast::open::<Chunked>(image, *sizes, session, run, tape, out),
+            (Action::Write(t, b), Side::Library) => raw::write(image, session, run, *t, b, tape, out),
+            (Action::Write(t, b), Side::Indexed) => {
+                fast::write::<Indexed>(image, session, run, *t, b, tape, out)
+            }
+            (Action::Write(t, b), Side::Chunked) => {
+                fast::write::<Chunked>(image, session, run, *t, b, tape, out)
+            }
+            (Action::Save, Side::Library) => raw::checkpoint(image, session, run, tape, out),
+            (Action::Save, _) => fast::save(image, session, run, tape, out),
             (Action::Replay, Side::Library) => raw::replay(image, tape, u64::MAX, out),
             (Action::Replay, Side::Indexed) => fast::replay::<Indexed>(image, tape, u64::MAX, out),
             (Action::Replay, Side::Chunked) => fast::replay::<Chunked>(image, tape, u64::MAX, out),
@@ -137,12 +144,12 @@ impl Case {
         }
     }
 
-    /// Nanoseconds a call over so many calls. The session stays where it is; what a
-    /// call changed of it (all writes here are to level 0) is put back before the
-    /// next one.
+    /// Nanoseconds a call over so many calls. Session and clients stay where they
+    /// are; what a call changed of them (all writes here are by the first, to level 0)
+    /// is put back before the next one.
     fn time(&mut self, side: Side, calls: usize) -> f64 {
-        let given = black_box(self.session);
-        let mut session = given;
+        let (given, used) = (black_box(self.session), black_box(self.clients[0].used));
+        let (mut session, mut clients) = (given, self.clients.clone());
         let start = Instant::now();
         for _ in 0..calls {
             if session.dirty_segments != given.dirty_segments {
@@ -151,7 +158,10 @@ impl Case {
             if session.dirty_blocks[0] != given.dirty_blocks[0] {
                 session.dirty_blocks[0] = given.dirty_blocks[0];
             }
-            black_box(self.call(black_box(side), black_box(&mut session)));
+            if clients[0].used != used {
+                clients[0].used = used;
+            }
+            black_box(self.call(black_box(side), black_box(&mut session), black_box(&mut clients)));
         }
         start.elapsed().as_nanos() as f64 / calls as f64
     }
@@ -159,9 +169,9 @@ impl Case {
     /// All sides answer and leave the same.
     fn agrees(&self) -> Result<(), String> {
         let left = SIDES.map(|side| {
-            let (mut case, mut session) = (self.clone(), self.session);
-            let number = case.call(side, &mut session);
-            (number, session, case.image, case.tape, case.out, case.extent)
+            let (mut case, mut session, mut clients) = (self.clone(), self.session, self.clients.clone());
+            let number = case.call(side, &mut session, &mut clients);
+            (number, session, clients, case.image, case.tape, case.out, case.extent)
         });
         match left[0].0 == 0 && left.iter().all(|other| *other == left[0]) {
             true => Ok(()),
@@ -219,12 +229,13 @@ fn cases(sizes: Sizes) -> Vec<Case> {
         action,
         image: image(metadata),
         session,
+        clients: vec![Client::new(sizes.spares, sizes.spares)],
         tape: room.clone(),
         out: 0,
         extent: Extent { start: 0, size: 0 },
     };
     let write = |length| {
-        let target = Target { level: 0, frame: sizes.frames - 1, offset: 0 };
+        let target = Target { console: 0, level: 0, frame: sizes.frames - 1, offset: 0 };
         Action::Write(target, vec![0x77; length])
     };
     let (empty, own) = (unpaired(sizes, 0), unpaired(sizes, 1));
@@ -250,7 +261,7 @@ fn cases(sizes: Sizes) -> Vec<Case> {
     ];
     for (name, offset, length) in LONG {
         if length <= FRAME * sizes.frames as usize {
-            let target = Target { level: 0, frame: 0, offset };
+            let target = Target { console: 0, level: 0, frame: 0, offset };
             let write = Action::Write(target, vec![0x77; length]);
             cases.push(case(name, write, &in_spares, touched_few));
         }
@@ -263,6 +274,14 @@ fn cases(sizes: Sizes) -> Vec<Case> {
             cases.push(case(working, Action::Read(Page::Working, few - 1), &in_few, fresh));
             cases.push(case(saved, Action::Read(Page::Saved, few - 1), &in_few, fresh));
         }
+        let clients = vec![Client::new(sizes.spares / 2, sizes.spares); 2];
+        let of_two = |name, action, metadata, session| {
+            let clients = clients.clone();
+            Case { clients, ..case(name, action, metadata, session) }
+        };
+        cases.push(of_two("write 1 word, 2 consoles", write(8), &in_spares, touched_few));
+        cases.push(of_two("write, copy, 2 consoles", write(8), &with_spares, few));
+        cases.push(of_two("save, 2 consoles", Action::Save, &in_spares, touched_few));
         let touched = |levels| session(sizes, u64::MAX >> (64 - levels), 1, 1);
         cases.push(case("write 1 word, 8 touched", write(8), &paired(sizes, 8, 2), touched(8)));
         if sizes == LARGEST {
@@ -285,7 +304,7 @@ fn cases(sizes: Sizes) -> Vec<Case> {
 /// The replay of what a case writes.
 fn replay_of(case: &Case, name: &'static str) -> Case {
     let mut replay = case.clone();
-    replay.call(Side::Indexed, &mut case.session.clone());
+    replay.call(Side::Indexed, &mut case.session.clone(), &mut case.clients.clone());
     replay.tape.truncate(3 * replay.out as usize);
     Case { name, action: Action::Replay, ..replay }
 }
@@ -469,12 +488,14 @@ fn workload(sizes: Sizes, writes: usize, levels: usize, frames: usize) -> Result
         for _ in 0..writes {
             let (level, frame) = (rng.below(levels) as u64, rng.below(frames) as u64);
             touched.insert((level, frame));
-            let target = Target { level, frame, offset: 8 * rng.below(32) as u64 };
+            let target = Target { console: 0, level, frame, offset: 8 * rng.below(32) as u64 };
             let bytes = rng.word().to_le_bytes();
-            let answer = Library.write(&board.image, &mut board.card, target, &bytes, &mut board.tape);
+            let Bench { image, card, run, tape, .. } = &mut board;
+            let answer = Library.write(image, card, run, target, &bytes, tape);
             board.played(answer, &mut cost)?;
         }
-        let answer = Library.save(&board.image, &mut board.card, &mut board.tape);
+        let Bench { image, card, run, tape, .. } = &mut board;
+        let answer = Library.save(image, card, run, tape);
         board.played(answer, &mut cost)?;
         if epoch >= WARM {
             library.add(cost);
@@ -497,15 +518,18 @@ struct Bench {
     sizes: Sizes,
     image: Vec<u8>,
     card: Card,
+    run: [Console; 1],
     tape: Vec<u64>,
 }
 
 impl Bench {
     fn start(sizes: Sizes) -> Result<Bench, String> {
         let image = vec![0; sizes.image_length()];
-        let mut board = Bench { sizes, image, card: Card::zeros(), tape: vec![0; sizes.room()] };
+        let (card, run, tape) = (Card::zeros(), [Console::alone(sizes)], vec![0; sizes.room()]);
+        let mut board = Bench { sizes, image, card, run, tape };
         Library.lay_out(&mut board.image, sizes);
-        let opened = Library.open(&board.image, sizes, &mut board.card, &mut board.tape);
+        let Bench { image, card, run, tape, .. } = &mut board;
+        let opened = Library.open(image, sizes, card, run, tape);
         board.played(opened, &mut Cost::default())?;
         Ok(board)
     }

@@ -1,14 +1,13 @@
 //! As much of C as include/crpm.h uses: its macros, the values of its enum, the
-//! fields of its struct, and expressions, as a compiler would take them.
+//! fields of its structs, and expressions, as a compiler would take them.
 
 use std::collections::{BTreeMap, BTreeSet};
 
 pub struct Header {
-    /// The text without comments, in words and signs.
-    tokens: Vec<String>,
+    /// The text without comments.
+    text: String,
     /// Macros and the values of the enum.
     macros: BTreeMap<String, Macro>,
-    fields: Vec<String>,
 }
 
 struct Macro {
@@ -42,20 +41,20 @@ impl Header {
             let (name, number) = value.split_once('=').ok_or(format!("{value}: no number"))?;
             put(name.trim(), None, number)?;
         }
-        let fields = between(&text, "struct crpm_session {", "}")?;
-        let fields = fields.split(';').map(|field| tokens(field).join(" ")).filter(|field| !field.is_empty());
-        Ok(Header { tokens: tokens(&text), fields: fields.collect(), macros })
+        Ok(Header { text, macros })
     }
 
     /// Every name that starts so, wherever it stands.
     pub fn names(&self, start: &str) -> Vec<String> {
-        let names: BTreeSet<&String> = self.tokens.iter().filter(|token| token.starts_with(start)).collect();
-        names.into_iter().cloned().collect()
+        let names: BTreeSet<String> =
+            tokens(&self.text).into_iter().filter(|token| token.starts_with(start)).collect();
+        names.into_iter().collect()
     }
 
-    /// The declarations of the session's fields, in their order.
-    pub fn fields(&self) -> Vec<String> {
-        self.fields.clone()
+    /// The declarations of a struct's fields, in their order.
+    pub fn fields(&self, name: &str) -> Result<Vec<String>, String> {
+        let fields = between(&self.text, &format!("struct {name} {{"), "}")?.split(';');
+        Ok(fields.map(|field| tokens(field).join(" ")).filter(|field| !field.is_empty()).collect())
     }
 
     /// The body of a macro as it stands.

@@ -1,11 +1,12 @@
 //! include/crpm.h against the crate and the reference: every constant, every
-//! macro at many sizes, every field of the session. A name of the header that
-//! stands in none of the tables here fails; so does each spoiled number.
+//! macro at many sizes, every field of the session and of a client. A name of the
+//! header that stands in none of the tables here fails; so does each spoiled
+//! number.
 
 mod c;
 
 use crpm::ffi::Session;
-use crpm::{Layout, Refusal};
+use crpm::{Client, Layout, Refusal};
 use crpm_tests::calls::*;
 use crpm_tests::reference::Refusal as Number;
 use std::mem::{offset_of, size_of};
@@ -21,6 +22,7 @@ fn numbers() -> Vec<(&'static str, u64, u64)> {
         ("BLOCK_SIZE", crpm::BLOCK_SIZE as u64, FRAME as u64),
         ("METADATA_SIZE", crpm::METADATA_SIZE as u64, DATA as u64),
         ("MOST", crpm::MOST as u64, MOST),
+        ("MOST_CLIENTS", crpm::MOST_CLIENTS as u64, MOST_CONSOLES as u64),
         ("EPOCH_AT", crpm::EPOCH_AT as u64, EPOCH as u64),
         ("MAINS_AT", crpm::MAINS_AT as u64, HEADER as u64),
         ("BACKUPS_AT", crpm::BACKUPS_AT as u64, (HEADER + WORD) as u64),
@@ -48,6 +50,9 @@ fn numbers() -> Vec<(&'static str, u64, u64)> {
         ("EPOCH_LIMIT", Refusal::EpochLimit.number(), Number::Epoch as u64),
         ("TRACE_SHORT", Refusal::TraceShort.number(), Number::TapeShort as u64),
         ("TRACE_BAD", Refusal::TraceBad.number(), Number::TapeBad as u64),
+        ("BAD_CLIENTS", Refusal::BadClients.number(), Number::Consoles as u64),
+        ("QUOTA_REACHED", Refusal::QuotaReached.number(), Number::Limit as u64),
+        ("BACKUPS_RESERVED", Refusal::BackupsReserved.number(), Number::Shares as u64),
     ]
 }
 
@@ -106,6 +111,13 @@ const FIELDS: [(&str, usize); 5] = [
     ("uint64_t dirty_blocks [ CRPM_MOST ]", offset_of!(Session, dirty_blocks)),
 ];
 
+/// The fields of a client, likewise.
+const CLIENT_FIELDS: [(&str, usize); 3] = [
+    ("uint64_t reserved", offset_of!(Client, reserved)),
+    ("uint64_t quota", offset_of!(Client, quota)),
+    ("uint64_t used", offset_of!(Client, used)),
+];
+
 /// Holds a header against the tables: how much was compared, or what differs.
 fn compare(text: &str) -> Result<usize, String> {
     let header = c::Header::read(text)?;
@@ -128,12 +140,17 @@ fn compare(text: &str) -> Result<usize, String> {
     }
     known.sort();
     due("the names of the header", header.names("CRPM_"), known.clone())?;
-    due("fields", header.fields(), FIELDS.map(|(field, _)| field.to_string()).to_vec())?;
-    for (i, (field, at)) in FIELDS.into_iter().enumerate() {
-        due(field, at, WORD * i)?;
-    }
+    compare_fields(&header, "crpm_session", &FIELDS)?;
+    compare_fields(&header, "crpm_client", &CLIENT_FIELDS)?;
     due("size of the session", size_of::<Session>(), WORD * (FIELDS.len() - 1 + MOST as usize))?;
-    Ok(known.len() + FIELDS.len())
+    due("size of a client", size_of::<Client>(), WORD * CLIENT_FIELDS.len())?;
+    Ok(known.len() + FIELDS.len() + CLIENT_FIELDS.len())
+}
+
+fn compare_fields(header: &c::Header, name: &str, fields: &[(&str, usize)]) -> Result<(), String> {
+    let declared = fields.iter().map(|(field, _)| field.to_string()).collect();
+    due(&format!("fields of {name}"), header.fields(name)?, declared)?;
+    fields.iter().enumerate().try_for_each(|(i, (field, at))| due(field, *at, WORD * i))
 }
 
 fn due<T: PartialEq + std::fmt::Debug>(what: &str, got: T, expected: T) -> Result<(), String> {
@@ -159,7 +176,8 @@ fn places() -> Vec<At> {
 
 #[test]
 fn every_constant_agrees() {
-    assert_eq!(compare(TEXT), Ok(numbers().len() + MACROS.len() + FIELDS.len() + 2));
+    let fields = FIELDS.len() + CLIENT_FIELDS.len();
+    assert_eq!(compare(TEXT), Ok(numbers().len() + MACROS.len() + fields + 2));
 }
 
 /// The header with one number raised by one, one comparison turned, one name
@@ -195,10 +213,13 @@ fn spoiled() -> Vec<(String, String)> {
     made.push(("a constant more".to_string(), replaced(end, 0, "#define CRPM_LATER 7\n")));
     made.push(("a macro more".to_string(), replaced(end, 0, "# define CRPM_LATER(M) (M)\n")));
     for (what, text, other) in [
-        ("an enum value more", "CRPM_SERVED = 0,", "CRPM_SERVED = 0, CRPM_LATER = 13,"),
+        ("an enum value more", "CRPM_SERVED = 0,", "CRPM_SERVED = 0, CRPM_LATER = 16,"),
         ("fields exchanged", "uint64_t mains; ", "uint64_t backups; "),
         ("a field of 32 bits", "uint64_t blocks;", "uint32_t blocks;"),
         ("a field more", "uint64_t mains; ", "uint64_t later; uint64_t mains; "),
+        ("a client's fields exchanged", "uint64_t reserved; ", "uint64_t quota; "),
+        ("a client's field of 32 bits", "uint64_t quota; ", "uint32_t quota; "),
+        ("a client's field more", "uint64_t used; ", "uint64_t used; uint64_t later; "),
     ] {
         assert!(TEXT.contains(text), "{what}");
         made.push((what.to_string(), TEXT.replacen(text, other, 1)));
