@@ -10,10 +10,8 @@ use Rattle.model.specs.declared.Answer.{Answer}
 use Rattle.model.specs.Words.{Image}
 use Rattle.model.specs.Status.{codeOf}
 use Rattle.model.specs.Ops.{Trace}
-use Rattle.model.specs.Clients.{Clients}
 use Rattle.model.specs.Outcome.{lent, Outcome}
 use Rattle.model.specs.Reference.{CallArgs, checkpointArgs}
-use Rattle.model.specs.History.{Call}
 use Rattle.clients.specs.Words.{clientIn, clientsIn}
 use Rattle.driver.specs.Stepped.{reportOf, Called, Stepped}
 use Rattle.driver.proofs.SteppedLaws.{stepped-device}

@@ -1,3 +1,4 @@
 pub mod Printed
 pub mod SheetTrace
+pub mod SheetShares
 pub mod Ran
