@@ -3,5 +3,5 @@ pub mod Run
 pub mod Words
 -- Proof machinery of walks, here and in the crates above; no contract cites it.
 pub mod PlainCall
-pub mod Lent
+pub mod LentShared
 pub mod Local

@@ -9,7 +9,7 @@ ghost use Rattle.model.specs.Outcome.{Gives, lent};
 ghost use Rattle.model.specs.Open.{openOutcome};
 ghost use Rattle.model.specs.Write.{writeArgsOf, writeOutcome};
 ghost use Rattle.model.specs.Checkpoint.{checkpointOutcome};
-ghost use Rattle.lends.specs.Lent.{lendOf};
+ghost use Rattle.lends.specs.Lending.{lendOf};
 
 // How many records are lent.
 pub const LENT: usize = 2;

@@ -56,7 +56,7 @@ use Rattle.checkpoint.proofs.CheckpointRun as Y
 use Rattle.checkpoint.proofs.CheckpointRun.Laws as Y′
 use Rattle.crpm.proofs.Shared.{R, CheckpointGives}
 use Rattle.clients.specs.PlainCall.{returned, returned-last, returned-some}
-use Rattle.clients.specs.Lent.{LentShared, lends-shared, shared-back}
+use Rattle.clients.specs.LentShared.{LentShared, lends-shared, shared-back}
 use Rattle.clients.proofs.load as load′
 use Rattle.clients.proofs.load.Symbol as load-def
 use Rattle.clients.proofs.load.Symbol.{name as #load}
