@@ -20,12 +20,12 @@ use Rattle.model.specs.Outcome.{Lent}
 use Rattle.model.specs.Open.{openStatus}
 use Rattle.model.specs.Checkpoint.{statesOps, epochOps, checkpointOps}
 use Rattle.model.specs.Crash.{CrashImage}
-use Rattle.model.specs.Reference.{Page, CallArgs, openArgs, writeArgs, checkpointArgs}
+use Rattle.model.specs.Reference.{Page, CallArgs, openArgs, writeArgs, discardArgs, checkpointArgs}
 use Rattle.model.specs.History.{Call, Device, State, outcome, step, run, openedImage, start, Permitted, AllPermitted}
 use Rattle.model.specs.CrashSafety.{Recovers, Moment, between, during, EpochStored, InEveryHistory, Enough, CutOpenings}
 
--- main segment i of a session was not written since the last checkpoint; the session of zeros, which a refused opening answers and which a
--- write and a checkpoint refuse, has no main segment
+-- main segment i of a session was not written since the last checkpoint; the session of zeros, which a refused opening answers and which all
+-- calls but an opening refuse, has no main segment
 abbrev pub CleanSegment : Session → ℕ → Type 0
 CleanSegment s i = (i < s .layout .mains) × (dirtySegment s i ≡ false)
 
@@ -103,6 +103,7 @@ pub record CleanFlushesNeedless : Type 0 where
 abbrev pub leanOf : Session → CallArgs → Ops → Ops
 leanOf s (openArgs l) O = O
 leanOf s (writeArgs w) O = O
+leanOf s (discardArgs i) O = O
 leanOf s checkpointArgs O = leaveOut (inClean s) O
 
 abbrev pub leanOps : Device → Call → Ops

@@ -10,13 +10,14 @@ use Rattle.model.specs.Container.{committedEpoch}
 use Rattle.model.specs.Status.{served}
 use Rattle.model.specs.Outcome.{Lent}
 use Rattle.model.specs.Open.{openStatus}
-use Rattle.model.specs.Reference.{CallArgs, openArgs, writeArgs, checkpointArgs}
+use Rattle.model.specs.Reference.{CallArgs, openArgs, writeArgs, discardArgs, checkpointArgs}
 use Rattle.model.specs.History.{Call, State, outcome, step, run, start, AllPermitted}
 
 -- whether a call is a checkpoint
 abbrev pub isCheckpoint : CallArgs → Bool
 isCheckpoint (openArgs l) = false
 isCheckpoint (writeArgs w) = false
+isCheckpoint (discardArgs i) = false
 isCheckpoint checkpointArgs = true
 
 -- the checkpoints that a list of calls serves

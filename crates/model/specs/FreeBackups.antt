@@ -17,7 +17,7 @@ use Rattle.model.specs.Container.{activeState, backupToMain, Valid, Free
 use Rattle.model.specs.Outcome.{Lent}
 use Rattle.model.specs.Open.{openStatus}
 use Rattle.model.specs.Write.{WriteArgs, needsCopy, earlyErrors, writeStatus}
-use Rattle.model.specs.Reference.{CallArgs, openArgs, writeArgs, checkpointArgs}
+use Rattle.model.specs.Reference.{CallArgs, openArgs, writeArgs, discardArgs, checkpointArgs}
 use Rattle.model.specs.History.{Call, callWrite, callCheckpoint, Device, State, outcome, step, run, start, AllPermitted}
 use Rattle.model.specs.CrashSafety.{InEveryHistory}
 use Rattle.model.specs.EpochCounts.{checkpoints}
@@ -76,6 +76,7 @@ NineOnlyFull = InEveryHistory (λ s.
 abbrev pub isCopying : Session → Image → CallArgs → Bool
 isCopying s I (openArgs l) = false
 isCopying s I (writeArgs w) = needsCopy s I (w .main)
+isCopying s I (discardArgs i) = false
 isCopying s I checkpointArgs = false
 
 -- the copying writes that a list of calls serves

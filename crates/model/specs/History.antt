@@ -1,4 +1,4 @@
--- Histories: any list of openings, writes and checkpoints, each on the image and the session that the last one left, its
+-- Histories: any list of openings, writes, discards and checkpoints, each on the image and the session that the last one left, its
 -- part of the trace replayed before the next. Every step is made of the outcomes that the calls' contracts cite.
 -- Assumes nothing.
 use Prim.Native.Nat.{ℕ, _*_}
@@ -14,10 +14,11 @@ use Rattle.model.specs.Outcome.{Lent, Outcome}
 use Rattle.model.specs.Replay.{replayOutcome, replayedOps}
 use Rattle.model.specs.Open.{openOutcome}
 use Rattle.model.specs.Write.{WriteArgs, writeOutcome}
+use Rattle.model.specs.Discard.{discardOutcome}
 use Rattle.model.specs.Checkpoint.{checkpointOutcome}
-use Rattle.model.specs.Reference.{Model, CallArgs, openArgs, writeArgs, checkpointArgs, modelStep}
+use Rattle.model.specs.Reference.{Model, CallArgs, openArgs, writeArgs, discardArgs, checkpointArgs, modelStep}
 
--- a call (the trade: openings, writes and saves): its arguments, which are all of it that the model is fed, and what it is lent: any
+-- a call (the trade: openings, writes, drops and saves): its arguments, which are all of it that the model is fed, and what it is lent: any
 -- records of clients, and any trace
 pub record Call : Type 0 where
   pub args : CallArgs
@@ -28,6 +29,9 @@ callOpen l k = record { args = openArgs l; lends = k }
 
 abbrev pub callWrite : WriteArgs → Lent → Call
 callWrite w k = record { args = writeArgs w; lends = k }
+
+abbrev pub callDiscard : ℕ → Lent → Call
+callDiscard i k = record { args = discardArgs i; lends = k }
 
 abbrev pub callCheckpoint : Lent → Call
 callCheckpoint k = record { args = checkpointArgs; lends = k }
@@ -52,6 +56,7 @@ pub record State : Type 0 where
 abbrev pub answers : Session → Image → CallArgs → Lent → Outcome
 answers s I (openArgs l) k = openOutcome l I k
 answers s I (writeArgs w) k = writeOutcome s I w k
+answers s I (discardArgs i) k = discardOutcome s I i k
 answers s I checkpointArgs k = checkpointOutcome s I k
 
 -- and where a module stands
@@ -118,6 +123,7 @@ start l I k = record {
 abbrev pub PermittedArgs : CallArgs → Type 0
 PermittedArgs (openArgs l) = Unit {0}
 PermittedArgs (writeArgs w) = Bytes (w .bytes)
+PermittedArgs (discardArgs i) = Unit {0}
 PermittedArgs checkpointArgs = Unit {0}
 
 abbrev pub Permitted : Call → Type 0

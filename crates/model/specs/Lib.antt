@@ -11,10 +11,11 @@ pub mod Ops
 pub mod Clients
 pub mod Outcome
 pub mod Replay
--- the calls: format, opening, write, checkpoint, reads, same checkpoint
+-- the calls: format, opening, write, discard, checkpoint, reads, same checkpoint
 pub mod Format
 pub mod Open
 pub mod Write
+pub mod Discard
 pub mod Checkpoint
 pub mod Reads
 pub mod Same
@@ -27,11 +28,12 @@ pub mod Crash
 pub mod CrashSafety
 pub mod Sisters
 pub mod FlushDurable
--- further statements: what no call reads, which backup segment a write takes, what it meets, the epoch, segment states and pairs, free
+-- further statements: what no call reads, which backup segment a write takes, what it meets, what a discard restores, the epoch, segment states and pairs, free
 -- backup segments, what a share guarantees, main segments that are not dirty, lengths of a trace, the crash relation taken apart
 pub mod Unread
 pub mod NewBackup
 pub mod Span
+pub mod DiscardRestores
 pub mod EpochCounts
 pub mod States
 pub mod FreeBackups

@@ -1,4 +1,4 @@
--- What opening, write and checkpoint answer, built in one way, and when an answer of the code gives it. Assumes nothing.
+-- What opening, write, discard and checkpoint answer, built in one way, and when an answer of the code gives it. Assumes nothing.
 use Prim.Native.Nat.{ℕ}
 use mathlib.Core.Path.{_≡_}
 use mathlib.Core.Bool.{cond}

@@ -16,6 +16,7 @@ use Rattle.model.specs.Outcome.{Lent}
 use Rattle.model.specs.Replay.{replayErrors}
 use Rattle.model.specs.Open.{openErrors}
 use Rattle.model.specs.Write.{WriteArgs, writeErrors}
+use Rattle.model.specs.Discard.{discardErrors}
 use Rattle.model.specs.Checkpoint.{checkpointErrors}
 use Rattle.model.specs.Reads.{readErrors}
 use Rattle.model.specs.Same.{sameErrors}
@@ -57,6 +58,7 @@ pub record Knows : Type 0 where
   pub opening : (l : Layout) (I : Image) (k : Lent) → numbers (openErrors l I k) ≡ 1 ∷ 2 ∷ 3 ∷ 4 ∷ 13 ∷ 11 ∷ []
   pub write : (s : Session) (I : Image) (w : WriteArgs) (k : Lent)
       → numbers (writeErrors s I w k) ≡ 1 ∷ 2 ∷ 3 ∷ 4 ∷ 5 ∷ 13 ∷ 6 ∷ 7 ∷ 8 ∷ 9 ∷ 14 ∷ 15 ∷ 11 ∷ []
+  pub discard : (s : Session) (I : Image) (i : ℕ) (k : Lent) → numbers (discardErrors s I i k) ≡ 1 ∷ 2 ∷ 3 ∷ 4 ∷ 5 ∷ 6 ∷ 11 ∷ []
   pub checkpoint : (s : Session) (I : Image) (k : Lent) → numbers (checkpointErrors s I k) ≡ 1 ∷ 2 ∷ 3 ∷ 4 ∷ 5 ∷ 13 ∷ 10 ∷ 11 ∷ []
   pub replay : (I : Image) (t : Trace) (n : ℕ) → numbers (replayErrors I t n) ≡ 2 ∷ 12 ∷ []
   pub read : (l : Layout) (I : Image) (i b : ℕ) → numbers (readErrors l I i b) ≡ 1 ∷ 2 ∷ 3 ∷ 4 ∷ 6 ∷ 7 ∷ []

@@ -16,7 +16,7 @@ use Rattle.model.specs.Outcome.{Lent, lent}
 use Rattle.model.specs.Ops.{Trace}
 use Rattle.model.specs.Open.{openStatus}
 use Rattle.model.specs.Write.{WriteArgs}
-use Rattle.model.specs.Reference.{CallArgs, openArgs, writeArgs, checkpointArgs}
+use Rattle.model.specs.Reference.{CallArgs, openArgs, writeArgs, discardArgs, checkpointArgs}
 use Rattle.model.specs.History.{Call, callWrite, callCheckpoint, Device, State, outcome, step, run, start, Permitted, AllPermitted}
 use Rattle.model.specs.CrashSafety.{InEveryHistory}
 
@@ -36,7 +36,15 @@ clientsLeft s R (c ∷ cs) = clientsLeft (step s c) (outcome (s .device) c .clie
 abbrev pub isOpening : CallArgs → Bool
 isOpening (openArgs l) = true
 isOpening (writeArgs w) = false
+isOpening (discardArgs i) = false
 isOpening checkpointArgs = false
+
+-- whether a call judges the records of clients: all do but a discard
+abbrev pub judgesClients : CallArgs → Bool
+judgesClients (openArgs l) = true
+judgesClients (writeArgs w) = true
+judgesClients (discardArgs i) = false
+judgesClients checkpointArgs = true
 
 abbrev pub NoneOpens : State → List Call → Type 0
 NoneOpens s [] = Unit {0}
@@ -77,8 +85,9 @@ pub record SharesKept : Type 0 where
       → SharesHold (run s₁ cs .device) (clientsLeft s₁ R₁ cs))
   -- shares and limits are the caller's: no call changes them, so what is guaranteed stays what was agreed
   pub agreed : (d : Device) (c : Call) → SameClients (c .lends .clients) (outcome d c .clients)
-  -- with any records lent: not after a served call
-  pub quotas : (d : Device) (c : Call) → outcome d c .status ≡ 0 → WithinQuotas (outcome d c .clients)
+  -- with any records lent: not after a served call that judges them, and a discard leaves them as they are
+  pub quotas : (d : Device) (c : Call) → judgesClients (c .args) ≡ true → outcome d c .status ≡ 0 → WithinQuotas (outcome d c .clients)
+  pub unjudged : (d : Device) (c : Call) → judgesClients (c .args) ≡ false → outcome d c .clients ≡ c .lends .clients
   -- with one run, which the opening of the history was lent: never
   pub quotasEver : (l : Layout) (I : Image) (k : Lent) → openStatus l I k ≡ 0
       → (cs : List Call) → OneRun (start l I k) (cleared (k .clients)) cs → WithinQuotas (clientsLeft (start l I k) (cleared (k .clients)) cs)
@@ -93,6 +102,7 @@ alone l used = clientOf (l .backups) (l .backups) used ∷ []
 abbrev pub ByFirst : CallArgs → Type 0
 ByFirst (openArgs l) = Unit {0}
 ByFirst (writeArgs w) = w .client ≡ 0
+ByFirst (discardArgs i) = Unit {0}
 ByFirst checkpointArgs = Unit {0}
 
 abbrev pub AllByFirst : List Call → Type 0

@@ -19,16 +19,17 @@ use Rattle.model.specs.Open.{openStatus}
 use Rattle.model.specs.Write.{WriteArgs, needsCopy, needsBackup}
 use Rattle.model.specs.Checkpoint.{nextState}
 use Rattle.model.specs.Reads.{checkpointBlock}
-use Rattle.model.specs.Reference.{CallArgs, openArgs, writeArgs, checkpointArgs}
+use Rattle.model.specs.Reference.{CallArgs, openArgs, writeArgs, discardArgs, checkpointArgs}
 use Rattle.model.specs.History.{Call, callWrite, Device, State, outcome, step, run, openedImage, Permitted, AllPermitted}
 use Rattle.model.specs.CrashSafety.{InEveryHistory}
 use Rattle.model.specs.NewBackup.{TakenNew}
 
--- the state of main segment i after a served call: an opening keeps it, a write turns that of the segment which it copies to 2,
+-- the state of main segment i after a served call: an opening and a discard keep it, a write turns that of the segment which it copies to 2,
 -- a checkpoint makes the next states
 abbrev pub servedState : Session → Image → CallArgs → ℕ → ℕ
 servedState s I (openArgs l) i = activeState I i
 servedState s I (writeArgs w) i = cond (needsCopy s I (w .main) && eqb i (w .main)) ssBackup (activeState I i)
+servedState s I (discardArgs n) i = activeState I i
 servedState s I checkpointArgs i = nextState (activeState I i) (dirtySegment s i)
 
 -- and after any call: one that is refused keeps it
@@ -50,6 +51,7 @@ abbrev pub servedPair : Session → Image → CallArgs → ℕ → ℕ
 servedPair s I (openArgs l) j = backupToMain I j
 servedPair s I (writeArgs w) j =
     cond (needsBackup s I (w .main) && eqb j (newBackup (s .layout) (activeState I) (backupToMain I))) (w .main) (backupToMain I j)
+servedPair s I (discardArgs n) j = backupToMain I j
 servedPair s I checkpointArgs j = backupToMain I j
 
 -- and after any call: one that is refused keeps it
@@ -79,6 +81,7 @@ TakenUnpaired = InEveryHistory (λ s.
 abbrev pub isWriteTo : ℕ → CallArgs → Bool
 isWriteTo i (openArgs l) = false
 isWriteTo i (writeArgs w) = eqb (w .main) i
+isWriteTo i (discardArgs n) = false
 isWriteTo i checkpointArgs = false
 
 -- the writes to main segment i that a list of calls serves

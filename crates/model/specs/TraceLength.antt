@@ -1,4 +1,4 @@
--- Lengths of a trace that always suffice: with that many numbers no opening, no write and no checkpoint of these sizes is
+-- Lengths of a trace that always suffice: with that many numbers no opening, write, discard or checkpoint of these sizes is
 -- refused with 11, whatever the image and the session. Proved in proofs/Laws/TraceLength.antt. Assumes nothing.
 use Prim.Native.Nat.{ℕ, _+_, _*_, _≤_}
 use mathlib.Core.Logic.{_≢_}
@@ -11,6 +11,7 @@ use Rattle.model.specs.Ops.{opNumbers}
 use Rattle.model.specs.Outcome.{Lent}
 use Rattle.model.specs.Open.{openStatus}
 use Rattle.model.specs.Write.{WriteArgs, writeStatus}
+use Rattle.model.specs.Discard.{discardStatus}
 use Rattle.model.specs.Checkpoint.{checkpointStatus}
 
 -- operations of a word that is stored and written back, of the states of a line that are, and of a fence
@@ -31,6 +32,10 @@ mostOpenOps l = blockOps * l .blocks * l .mains + fenceOps
 abbrev pub mostWriteOps : Layout → ℕ
 mostWriteOps l = blockOps * l .blocks + (wordOps + fenceOps + wordOps + fenceOps) + blockWords * l .blocks
 
+-- of a discard: the words of every block
+abbrev pub mostDiscardOps : Layout → ℕ
+mostDiscardOps l = blockWords * l .blocks
+
 -- of a checkpoint: every block written back, a fence, the states, a fence, the epoch, a fence
 abbrev pub mostCheckpointOps : Layout → ℕ
 mostCheckpointOps l = blockLines * l .blocks * l .mains + (fenceOps + lineOps + fenceOps + wordOps + fenceOps)
@@ -41,6 +46,10 @@ TraceSuffices = (l : Layout) (I : Image) (k : Lent) → opNumbers * mostOpenOps 
 abbrev pub WriteTraceSuffices : Type 0
 WriteTraceSuffices =
     (s : Session) (I : Image) (w : WriteArgs) (k : Lent) → opNumbers * mostWriteOps (s .layout) ≤ length (k .trace) → writeStatus s I w k ≢ 11
+
+abbrev pub DiscardTraceSuffices : Type 0
+DiscardTraceSuffices =
+    (s : Session) (I : Image) (i : ℕ) (k : Lent) → opNumbers * mostDiscardOps (s .layout) ≤ length (k .trace) → discardStatus s I i k ≢ 11
 
 abbrev pub CheckpointTraceSuffices : Type 0
 CheckpointTraceSuffices =

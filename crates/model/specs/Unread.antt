@@ -11,6 +11,7 @@ use Rattle.model.specs.Container.{inactiveLine, checkpointBytes}
 use Rattle.model.specs.Outcome.{Lent}
 use Rattle.model.specs.Open.{openOutcome}
 use Rattle.model.specs.Write.{WriteArgs, writeOutcome}
+use Rattle.model.specs.Discard.{discardOutcome}
 use Rattle.model.specs.Checkpoint.{checkpointOutcome}
 use Rattle.model.specs.Reads.{readStatus, workingPart, checkpointPart, workingBlock, checkpointBlock}
 use Rattle.model.specs.Same.{sameOutcome}
@@ -30,6 +31,7 @@ pub record AgreeNamed (I J : Image) : Type 0 where
 pub record SameAnswers (I J : Image) : Type 0 where
   pub opening : (l : Layout) (k : Lent) → openOutcome l I k ≡ openOutcome l J k
   pub write : (s : Session) (w : WriteArgs) (k : Lent) → writeOutcome s I w k ≡ writeOutcome s J w k
+  pub discard : (s : Session) (i : ℕ) (k : Lent) → discardOutcome s I i k ≡ discardOutcome s J i k
   pub checkpoint : (s : Session) (k : Lent) → checkpointOutcome s I k ≡ checkpointOutcome s J k
   -- the reads: their number, the parts that they find, and the bytes there
   pub read : (l : Layout) (i b : ℕ) → readStatus l I i b ≡ readStatus l J i b

@@ -156,7 +156,7 @@ impl Status {
     }
 }
 
-// What opening, write and checkpoint answer: how the call ended, the session, and how many operations stand on the trace.
+// What opening, write, discard and checkpoint answer: how the call ended, the session, and how many operations stand on the trace.
 pub struct Answer {
     pub status: Status,
     pub session: Session,
