@@ -19,7 +19,7 @@ use Rattle.model.specs.Outcome.{Lent, outcomeOf}
 use Rattle.model.specs.Open.{openStatus}
 use Rattle.model.specs.Checkpoint.{checkpointOps, checkpointStatus, checkpointOutcome}
 use Rattle.model.specs.Crash.{CrashImage}
-use Rattle.model.specs.Reference.{Page, CallArgs, openArgs, writeArgs, checkpointArgs}
+use Rattle.model.specs.Reference.{Page, CallArgs, openArgs, writeArgs, discardArgs, checkpointArgs}
 use Rattle.model.specs.History.{Call, Device, State, answers, outcome, calledOps, deviceStep, step, run, openedImage, start, AllPermitted}
 use Rattle.model.specs.CrashSafety.{Recovers, Moment, between, during, EpochStored, Enough, CutOpenings}
 use Rattle.model.specs.CleanSegments.{CleanSegment, CleanSettled, leanCheckpointOps, inClean, leaveOut, CleanFlushesNeedless, leanOf, leanOps, leanPlayed, LeanPermittedAt, leanPlayedAt, LeanMayShow, LeanSafety}
@@ -173,6 +173,7 @@ module _ (s : State) (st : Stands s) where
           CrashImage (s .device .durable) (s .device .played ++ leanOf (s .device .session) a O ++ E) H → CrashImage (s .device .durable) (s .device .played ++ O ++ E) H
       go (openArgs l) = λ x. x
       go (writeArgs w) = λ x. x
+      go (discardArgs i) = λ x. x
       go checkpointArgs = crash-lean s st (checkpointed (c .lends)) (checkpointed-off (c .lends)) E H .0
 
   -- the first p operations of a call that has more are the first q of the call here, but for those flushes
@@ -189,6 +190,7 @@ module _ (s : State) (st : Stands s) where
       go : (a : CallArgs) → Cut (record { args = a; lends = c .lends }) p
       go (openArgs l) = (p, (λ h. h), (λ h. h), λ H x. x)
       go (writeArgs w) = (p, (λ h. h), (λ h. h), λ H x. x)
+      go (discardArgs i) = (p, (λ h. h), (λ h. h), λ H x. x)
       go checkpointArgs =
           let O : Ops = checkpointed (c .lends) in
           let r = leave-out-part (inClean (s .device .session)) O p in (
@@ -211,6 +213,7 @@ module _ (s : State) (st : Stands s) where
 lean-replay : (s : Session) (a : CallArgs) (O : Ops) (I : Image) → replay (leanOf s a O) I ≡ replay O I
 lean-replay s (openArgs l) O I = refl
 lean-replay s (writeArgs w) O I = refl
+lean-replay s (discardArgs i) O I = refl
 lean-replay s checkpointArgs O I = leave-out-replay (inClean s) O I
 
 -- every call of a history

@@ -8,13 +8,14 @@ use Rattle.model.specs.Words.{Image, Bytes}
 use Rattle.model.specs.Ops.{Ops}
 use Rattle.model.specs.Open.{openStatus}
 use Rattle.model.specs.Crash.{CrashImage}
-use Rattle.model.specs.Reference.{CallArgs, openArgs, writeArgs, checkpointArgs}
+use Rattle.model.specs.Reference.{CallArgs, openArgs, writeArgs, discardArgs, checkpointArgs}
 use Rattle.model.specs.History.{Call, State, step, run, start, PermittedArgs, Permitted, AllPermitted}
 use Rattle.model.specs.CrashSafety.{Moment, between, during, PermittedAt, playedAt, CrashModel, CutOpenings, none, again, CrashSafety, CrashSafetyWithin}
 use Rattle.model.proofs.Argument.Pages.{contentsOf}
 use Rattle.model.proofs.Argument.Stands.{Stands, Leaves, Argument, rest-crash}
 use Rattle.model.proofs.Argument.OpenCall.{open-argument}
 use Rattle.model.proofs.Argument.WriteCall.{write-argument}
+use Rattle.model.proofs.Argument.DiscardCall.{discard-argument}
 use Rattle.model.proofs.Argument.CheckpointCall.{checkpoint-argument}
 use Rattle.model.proofs.Argument.Openings.{openings-keep, recovers, start-stands}
 
@@ -25,6 +26,7 @@ argument s st c = go (c .args)
     go : (a : CallArgs) → PermittedArgs a → Argument s (record { args = a; lends = c .lends })
     go (openArgs k) h = open-argument s st k (c .lends)
     go (writeArgs w) h = write-argument s st w (c .lends) h
+    go (discardArgs i) h = discard-argument s st i (c .lends)
     go checkpointArgs h = checkpoint-argument s st (c .lends)
 
 pub run-stands : (s : State) (cs : List Call) → Stands s → AllPermitted cs → Stands (run s cs)

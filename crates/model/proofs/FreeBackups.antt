@@ -18,7 +18,7 @@ use Rattle.model.specs.Session.{dirtySegment}
 use Rattle.model.specs.Outcome.{Lent, outcomeOf}
 use Rattle.model.specs.Write.{WriteArgs, needsCopy, writeErrors, writeStatus, writeOutcome}
 use Rattle.model.specs.Checkpoint.{nextState}
-use Rattle.model.specs.Reference.{CallArgs, openArgs, writeArgs, checkpointArgs}
+use Rattle.model.specs.Reference.{CallArgs, openArgs, writeArgs, discardArgs, checkpointArgs}
 use Rattle.model.specs.History.{Call, callWrite, callCheckpoint, Device, State, answers, outcome, deviceStep, step, run, start, Permitted, AllPermitted}
 use Rattle.model.specs.EpochCounts.{isCheckpoint, checkpoints}
 use Rattle.model.specs.States.{servedState}
@@ -79,6 +79,7 @@ copied-served l s I (writeArgs w) st e inside h = go (needsCopy s I (w .main)) r
               (g (w .main) (inside w refl) ∙ rw (eq-eqb (w .main) (w .main) refl)) (λ k x n. g k x ∙ rw (ne-eqb k (w .main) n)),
         )
     go false c g = omega (arith, in-backup-same l (activeState I) st g)
+copied-served l s I (discardArgs n) st e inside h = omega (arith, in-backup-same l (activeState I) st h)
 copied-served l s I checkpointArgs st e inside h = absurd (true≢false e)
 
 module _ (s : State) (st : Stands s) (c : Call) (p : Permitted c) where

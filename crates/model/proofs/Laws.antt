@@ -18,6 +18,7 @@ pub mod Replay
 pub mod Format
 pub mod Open
 pub mod Write
+pub mod Discard
 pub mod NewBackup
 pub mod Span
 pub mod FreeBackups

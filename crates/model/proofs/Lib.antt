@@ -7,6 +7,7 @@ pub mod Argument
 pub mod CrashSafety
 pub mod Sisters
 pub mod FlushDurable
+pub mod DiscardRestores
 pub mod States
 pub mod FreeBackups
 pub mod Shares

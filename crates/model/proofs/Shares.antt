@@ -22,12 +22,13 @@ use Rattle.model.specs.Clients.{Clients, clientAt, withUsed, charged, cl
 use Rattle.model.specs.Outcome.{Lent, lent, outcomeOf}
 use Rattle.model.specs.Open.{openStatus, openOutcome, openErrors}
 use Rattle.model.specs.Write.{WriteArgs, needsCopy, copyPlan, copies, noneFree, earlyErrors, writeErrors, writeStatus, writeOutcome, writeClients}
+use Rattle.model.specs.Discard.{discardErrors, discardStatus, discardOutcome}
 use Rattle.model.specs.Checkpoint.{checkpointErrors, checkpointStatus, checkpointOutcome}
-use Rattle.model.specs.Reference.{CallArgs, openArgs, writeArgs, checkpointArgs}
-use Rattle.model.specs.History.{Call, callOpen, callWrite, callCheckpoint, Device, State, answers, outcome, deviceStep, step, run, start, Permitted, AllPermitted}
+use Rattle.model.specs.Reference.{CallArgs, openArgs, writeArgs, discardArgs, checkpointArgs}
+use Rattle.model.specs.History.{Call, callOpen, callWrite, callDiscard, callCheckpoint, Device, State, answers, outcome, deviceStep, step, run, start, Permitted, AllPermitted}
 use Rattle.model.specs.EpochCounts.{isCheckpoint}
 use Rattle.model.specs.FreeBackups.{mainsInBackup, inBackup, isCopying}
-use Rattle.model.specs.Shares.{OneRun, clientsLeft, isOpening, NoneOpens, SameClients, WithinQuotas, SharesHold, SharesKept, alone, ByFirst, AllByFirst, NoShareRefuses, AloneUnhindered}
+use Rattle.model.specs.Shares.{OneRun, clientsLeft, isOpening, judgesClients, NoneOpens, SameClients, WithinQuotas, SharesHold, SharesKept, alone, ByFirst, AllByFirst, NoShareRefuses, AloneUnhindered}
 use Rattle.model.proofs.Laws.Range.{or-none}
 use Rattle.model.proofs.Laws.Status.{condition, served-condition, given-condition, given-later, given-earlier}
 use Rattle.model.proofs.Laws.Container.{header-ok}
@@ -104,16 +105,36 @@ module _ (d : Device) (k : Lent) where
       go true c = within-charged (k .clients) (w .client) (write-named (d .session) (d .image) w k h) (write-below (d .session) (d .image) w k h c) was
       go false c = was
 
-quotas-kept : (d : Device) (c : Call) → outcome d c .status ≡ 0 → WithinQuotas (outcome d c .clients)
+quotas-kept : (d : Device) (c : Call) → judgesClients (c .args) ≡ true → outcome d c .status ≡ 0 → WithinQuotas (outcome d c .clients)
 unfolding openOutcome writeOutcome checkpointOutcome outcomeOf
 quotas-kept d c = go (c .args)
   where
-    go : (a : CallArgs) → answers (d .session) (d .image) a (c .lends) .status ≡ 0 → WithinQuotas (answers (d .session) (d .image) a (c .lends) .clients)
-    go (openArgs l) h = subst WithinQuotas (sym (open-left d (c .lends) l h)) (within-cleared (c .lends .clients))
-    go (writeArgs w) h = within-write d (c .lends) w h
-    go checkpointArgs h = subst WithinQuotas (sym (checkpoint-left d (c .lends) h)) (within-cleared (c .lends .clients))
+    go : (a : CallArgs) → judgesClients a ≡ true → answers (d .session) (d .image) a (c .lends) .status ≡ 0
+        → WithinQuotas (answers (d .session) (d .image) a (c .lends) .clients)
+    go (openArgs l) j h = subst WithinQuotas (sym (open-left d (c .lends) l h)) (within-cleared (c .lends .clients))
+    go (writeArgs w) j h = within-write d (c .lends) w h
+    go (discardArgs i) j h = absurd (false≢true j)
+    go checkpointArgs j h = subst WithinQuotas (sym (checkpoint-left d (c .lends) h)) (within-cleared (c .lends .clients))
 
--- a refused call leaves the records as they were
+-- a discard leaves the records as they were
+discard-left : (d : Device) (k : Lent) (i : ℕ) → discardOutcome (d .session) (d .image) i k .clients ≡ k .clients
+unfolding discardOutcome outcomeOf
+discard-left d k i = go (served (discardStatus (d .session) (d .image) i k))
+  where
+    go : (b : Bool) → cond b (k .clients) (k .clients) ≡ k .clients
+    go true = refl
+    go false = refl
+
+unjudged-clients : (d : Device) (c : Call) → judgesClients (c .args) ≡ false → outcome d c .clients ≡ c .lends .clients
+unjudged-clients d c = go (c .args)
+  where
+    go : (a : CallArgs) → judgesClients a ≡ false → answers (d .session) (d .image) a (c .lends) .clients ≡ c .lends .clients
+    go (openArgs l) j = absurd (true≢false j)
+    go (writeArgs w) j = absurd (true≢false j)
+    go (discardArgs i) j = discard-left d (c .lends) i
+    go checkpointArgs j = absurd (true≢false j)
+
+-- and so does a refused call
 refused-clients : (d : Device) (c : Call) → outcome d c .status ≢ 0 → outcome d c .clients ≡ c .lends .clients
 unfolding openOutcome writeOutcome checkpointOutcome outcomeOf
 refused-clients d c = go (c .args)
@@ -121,6 +142,7 @@ refused-clients d c = go (c .args)
     go : (a : CallArgs) → answers (d .session) (d .image) a (c .lends) .status ≢ 0 → answers (d .session) (d .image) a (c .lends) .clients ≡ c .lends .clients
     go (openArgs l) h = rw (ne-eqb _ _ h)
     go (writeArgs w) h = rw (ne-eqb _ _ h)
+    go (discardArgs i) h = discard-left d (c .lends) i
     go checkpointArgs h = rw (ne-eqb _ _ h)
 
 -- ---- shares and limits stay
@@ -151,24 +173,30 @@ same-clients d c = go (c .args)
     R₁ : Clients
     R₁ = c .lends .clients
 
+    same : SameClients R₁ R₁
+    same = record { many = refl; reserved = λ k. refl; quota = λ k. refl }
+
     by-status : (b : Bool) {R′ : Clients} → SameClients R₁ R′ → SameClients R₁ (cond b R′ R₁)
     by-status true s = s
-    by-status false s = record { many = refl; reserved = λ k. refl; quota = λ k. refl }
+    by-status false s = same
 
     go : (a : CallArgs) → SameClients R₁ (answers (d .session) (d .image) a (c .lends) .clients)
     go (openArgs l) = by-status (served (openStatus l (d .image) (c .lends))) (same-cleared R₁)
     go (writeArgs w) =
         by-status (served (writeStatus (d .session) (d .image) w (c .lends))) (by-status (needsCopy (d .session) (d .image) (w .main)) (same-charged R₁ (w .client)))
+    go (discardArgs i) = subst (SameClients R₁) (sym (discard-left d (c .lends) i)) same
     go checkpointArgs = by-status (served (checkpointStatus (d .session) (d .image) (c .lends))) (same-cleared R₁)
 
 within-run : (s : State) (R : Clients) (cs : List Call) → WithinQuotas R → OneRun s R cs → WithinQuotas (clientsLeft s R cs)
 unfolding clientsLeft
 within-run s R [] h one = h
-within-run s R (c ∷ cs) h one = within-run (step s c) (outcome (s .device) c .clients) cs (go (ℕ-discrete (outcome (s .device) c .status) 0)) (one .1)
+within-run s R (c ∷ cs) h one = within-run (step s c) (outcome (s .device) c .clients) cs
+    (go (judgesClients (c .args)) refl (ℕ-discrete (outcome (s .device) c .status) 0)) (one .1)
   where
-    go : Dec (outcome (s .device) c .status ≡ 0) → WithinQuotas (outcome (s .device) c .clients)
-    go (yes z) = quotas-kept (s .device) c z
-    go (no n) = subst WithinQuotas (sym (refused-clients (s .device) c n ∙ one .0)) h
+    go : (b : Bool) → judgesClients (c .args) ≡ b → Dec (outcome (s .device) c .status ≡ 0) → WithinQuotas (outcome (s .device) c .clients)
+    go true j (yes z) = quotas-kept (s .device) c j z
+    go false j d = subst WithinQuotas (sym (unjudged-clients (s .device) c j ∙ one .0)) h
+    go true j (no n) = subst WithinQuotas (sym (refused-clients (s .device) c n ∙ one .0)) h
 
 -- a test that is made only where another holds
 and-cond : (a b : Bool) → cond a b false ≡ true → b ≡ true
@@ -235,7 +263,7 @@ module _ (s : State) (st : Stands s) where
   unfolding step deviceStep
   step-sized c = refl
 
-  -- one more is in use after a served write that copies, and no more after a refused call
+  -- one more is in use after a served write that copies, and no more after a refused call or a discard
   write-more : (w : WriteArgs) (k : Lent) → Permitted (callWrite w k) → outcome d₀ (callWrite w k) .status ≡ 0
       → inBackup (step s (callWrite w k) .device) ≡ inBackup d₀ + oneIf (needsCopy (d₀ .session) (d₀ .image) (w .main))
   write-more w k p h = copied-step s st (callWrite w k) p refl
@@ -248,6 +276,9 @@ module _ (s : State) (st : Stands s) where
     where
       unserved : (b : Bool) → (b && served (outcome d₀ c .status)) ≡ false
       unserved b = rw (ne-eqb _ _ n) (and-false b)
+
+  discard-same : (i : ℕ) (k : Lent) → inBackup (step s (callDiscard i k) .device) ≡ inBackup d₀ + 0
+  discard-same i k = copied-step s st (callDiscard i k) tt refl
 
   -- a served checkpoint makes it hold
   covered-checkpoint : (k : Lent) → outcome d₀ (callCheckpoint k) .status ≡ 0 → Covered (step s (callCheckpoint k) .device) (outcome d₀ (callCheckpoint k) .clients)
@@ -290,10 +321,10 @@ module _ (s : State) (st : Stands s) where
       )
       go false c = omega (arith, cov, write-more w k p h ∙ ap (λ (b : Bool). inBackup d₀ + oneIf b) c, step-sized (callWrite w k))
 
-  -- a refused call changes neither
-  covered-refused : (c : Call) → Permitted c → Covered d₀ (c .lends .clients) → outcome d₀ c .status ≢ 0 → Covered (step s c .device) (outcome d₀ c .clients)
-  covered-refused c p cov n =
-      subst (Covered (step s c .device)) (sym (refused-clients d₀ c n)) (omega (arith, cov, refused-same c p n, step-sized c))
+  -- a call that changes neither keeps it: a refused one, and a discard
+  covered-same : (c : Call) → Covered d₀ (c .lends .clients) → outcome d₀ c .clients ≡ c .lends .clients → inBackup (step s c .device) ≡ inBackup d₀ + 0
+      → Covered (step s c .device) (outcome d₀ c .clients)
+  covered-same c cov left same = subst (Covered (step s c .device)) (sym left) (omega (arith, cov, same, step-sized c))
 
   -- so every call keeps it but a served opening
   covered-step : (c : Call) → Permitted c → Covered d₀ (c .lends .clients) → (isOpening (c .args) && served (outcome d₀ c .status)) ≡ false
@@ -303,11 +334,13 @@ module _ (s : State) (st : Stands s) where
       go : (a : CallArgs) → let c₁ : Call = record { args = a; lends = c .lends } in
           Permitted c₁ → (isOpening a && served (outcome d₀ c₁ .status)) ≡ false → Dec (outcome d₀ c₁ .status ≡ 0)
           → Covered (step s c₁ .device) (outcome d₀ c₁ .clients)
-      go a p none (no n) = covered-refused (record { args = a; lends = c .lends }) p cov n
+      go a p none (no n) =
+          let c₁ : Call = record { args = a; lends = c .lends } in covered-same c₁ cov (refused-clients d₀ c₁ n) (refused-same c₁ p n)
       go (openArgs l) p none (yes z) =
           let refused : served (outcome d₀ (callOpen l (c .lends)) .status) ≡ false = none in
           absurd (true≢false (sym (eq-eqb _ _ z) ∙ refused))
       go (writeArgs w) p none (yes z) = covered-write w (c .lends) p cov z
+      go (discardArgs i) p none (yes z) = covered-same (callDiscard i (c .lends)) cov (discard-left d₀ (c .lends) i) (discard-same i (c .lends))
       go checkpointArgs p none (yes z) = covered-checkpoint (c .lends) z
 
 covered-run : (s : State) (R : Clients) (cs : List Call) → Stands s → Covered (s .device) R → AllPermitted cs → OneRun s R cs → NoneOpens s cs
@@ -326,6 +359,7 @@ shares-kept = record {
       covered-run _ _ cs (stands-after _ st k z) (covered-checkpoint _ st k z) permitted one none;
   agreed = same-clients;
   quotas = quotas-kept;
+  unjudged = unjudged-clients;
   quotasEver = λ l I k h cs one. within-run (start l I k) (cleared (k .clients)) cs (within-cleared (k .clients)) one;
 }
 
@@ -395,6 +429,7 @@ module _ (s : State) (st : Stands s) where
           alone-left c₁ n (refused-clients d₁ c₁ z ∙ is) (omega (arith, few, refused-same s st c₁ p z))
       go (openArgs l) p f (yes z) = alone-left (callOpen l (c .lends)) 0 (open-left d₁ (c .lends) l z ∙ none) (omega arith)
       go (writeArgs w) p f (yes z) = alone-write w (c .lends) p f (n, is, few) z
+      go (discardArgs i) p f (yes z) = alone-left (callDiscard i (c .lends)) n (discard-left d₁ (c .lends) i ∙ is) (omega (arith, few, discard-same s st i (c .lends)))
       go checkpointArgs p f (yes z) = alone-left (callCheckpoint (c .lends)) 0 (checkpoint-left d₁ (c .lends) z ∙ none) (omega arith)
 
   -- where it holds, 13 does not come, and neither do 14 and 15: they would come only where as many as there are are in use, and 9 comes
@@ -413,6 +448,14 @@ module _ (s : State) (st : Stands s) where
       where
         sized : firstError (openErrors l (d₁ .image) k) ≡ 13 → l ≡ d₁ .layout
         sized h = header-fixed s st l k (header-ok l (d₁ .image) .0 (not-false _ (given-earlier 13 (openErrors l (d₁ .image) k) (omega arith) h 3)))
+
+    discard-unhindered : (i : ℕ) → NoShareRefuses d₁ (callDiscard i k)
+    unfolding discardOutcome discardStatus outcomeOf
+    discard-unhindered i = (
+      λ h. false≢true (given-condition 13 (discardErrors (d₁ .session) (d₁ .image) i k) (omega arith) h),
+      λ h. false≢true (given-condition 14 (discardErrors (d₁ .session) (d₁ .image) i k) (omega arith) h),
+      λ h. false≢true (given-condition 15 (discardErrors (d₁ .session) (d₁ .image) i k) (omega arith) h),
+    )
 
     checkpoint-unhindered : NoShareRefuses d₁ (callCheckpoint k)
     unfolding checkpointOutcome checkpointStatus outcomeOf
@@ -483,6 +526,7 @@ module _ (s : State) (st : Stands s) where
       go : (a : CallArgs) → ByFirst a → NoShareRefuses d₁ (record { args = a; lends = c .lends })
       go (openArgs l) f = open-unhindered (c .lends) n is few l
       go (writeArgs w) f = write-unhindered (c .lends) n is few w f
+      go (discardArgs i) f = discard-unhindered (c .lends) n is few i
       go checkpointArgs f = checkpoint-unhindered (c .lends) n is few
 
 alone-run : (s : State) (R : Clients) (cs : List Call) → Stands s → Alone (s .device) R → AllPermitted cs → AllByFirst cs → OneRun s R cs

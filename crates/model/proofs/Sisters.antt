@@ -11,16 +11,17 @@ use Rattle.model.specs.declared.Layout.{Layout}
 use Rattle.model.specs.declared.Session.{Session}
 use Rattle.model.specs.Words.{Image}
 use Rattle.model.specs.Status.{Errors, firstError, served}
-use Rattle.model.specs.Container.{committedEpoch, activeState, backupToMain, activeLine, freeBackups, checkpointBytes, containerErrors}
-use Rattle.model.specs.Session.{freshSession, zeroSession, withCheckpoint}
+use Rattle.model.specs.Container.{committedEpoch, activeState, backupToMain, activeLine, freeBackups, checkpointBytes, containerErrors, mainErrors}
+use Rattle.model.specs.Session.{freshSession, zeroSession, withCheckpoint, contextErrors}
 use Rattle.model.specs.Ops.{Ops, Trace, traceErrors, traceShort, replay}
 use Rattle.model.specs.Clients.{Clients, clientsErrors, shareErrors, cleared}
 use Rattle.model.specs.Outcome.{Lent, lent, Outcome, outcomeOf}
 use Rattle.model.specs.Replay.{replayOutcome, replayedOps}
 use Rattle.model.specs.Open.{recoveryOps, openStatus, openOutcome}
 use Rattle.model.specs.Write.{copyPlan, copies, writeOps, writeSession, writeClients, backupErrors, earlyErrors, writeStatus, writeOutcome}
+use Rattle.model.specs.Discard.{discardOps, discardStatus, discardOutcome}
 use Rattle.model.specs.Checkpoint.{checkpointOps, lentErrors, epochErrors, checkpointStatus, checkpointOutcome}
-use Rattle.model.specs.Reference.{CallArgs, openArgs, writeArgs, checkpointArgs, modelStep}
+use Rattle.model.specs.Reference.{CallArgs, openArgs, writeArgs, discardArgs, checkpointArgs, modelStep}
 use Rattle.model.specs.Crash.{CrashImage}
 use Rattle.model.specs.History.{Call, Device, State, answers, outcome, reported, playedOps, replayedImage, deviceStep, step, run, openedImage, start, AllPermitted}
 use Rattle.model.specs.CrashSafety.{Reads}
@@ -37,12 +38,14 @@ use Rattle.model.proofs.Argument.Stands.{Stands}
 use Rattle.model.proofs.Argument.Openings.{open-served, opened-is, openings-keep, recovers, starting, starting-whole, start-stands}
 use Rattle.model.proofs.CrashSafety.{argument, history-stands}
 
-pub reads-follow-model : ReadsFollowModel
-reads-follow-model l I t b h cs permitted =
-    let s : State = run (start l I t) cs in
-    let st = history-stands l I t b h cs permitted in
+-- where a history stands, the two reads give the two pages
+pub stands-read : (s : State) → Stands s → Reads (s .device .layout) (s .device .image) (s .model .working) (s .model .checkpoint)
+stands-read s st =
     subst (λ (K : Image). Reads (s .device .layout) K (s .model .working) (s .model .checkpoint)) (sym (st .image))
     (reads (s .device .layout) _ (s .model .checkpoint) (s .model .working) (st .wholeCheckpoint) (st .wholeWorking) (st .inv .recovers) (st .inv .working))
+
+pub reads-follow-model : ReadsFollowModel
+reads-follow-model l I t b h cs permitted = stands-read (run (start l I t) cs) (history-stands l I t b h cs permitted)
 
 -- ---- same board, same tape
 
@@ -66,13 +69,14 @@ swapped f e x g = ap f e ∙ g (subst (λ (R : Clients). f R ≢ 11) e x)
 -- a call looks at nothing of its trace but the length, and only to see whether it is too short
 module _ (s : Session) (I : Image) (t u : Lent) where
   long-same : (a : CallArgs) → t .clients ≡ u .clients → length (t .trace) ≡ length (u .trace) → answers s I a t ≡ answers s I a u
-  unfolding openOutcome openStatus writeOutcome writeStatus checkpointOutcome checkpointStatus traceShort
+  unfolding openOutcome openStatus writeOutcome writeStatus discardOutcome discardStatus checkpointOutcome checkpointStatus traceShort
   long-same (openArgs l) c e = rw (c, e)
   long-same (writeArgs w) c e = rw (c, e)
+  long-same (discardArgs i) c e = rw (c, e)
   long-same checkpointArgs c e = rw (c, e)
 
   enough-same : (a : CallArgs) → t .clients ≡ u .clients → answers s I a t .status ≢ 11 → answers s I a u .status ≢ 11 → answers s I a t ≡ answers s I a u
-  unfolding openOutcome openStatus writeOutcome writeStatus checkpointOutcome checkpointStatus outcomeOf
+  unfolding openOutcome openStatus writeOutcome writeStatus discardOutcome discardStatus checkpointOutcome checkpointStatus outcomeOf
   enough-same (openArgs l) c x y =
       ap₂ (λ (R : Clients) (e : ℕ). outcomeOf e zeroSession (freshSession l) R (cleared R) (recoveryOps l I (activeLine I))) c
       (swapped (λ R. firstError (containerErrors l I ++ clientsErrors l R ++ traceErrors (recoveryOps l I (activeLine I)) (t .trace))) c x
@@ -81,6 +85,8 @@ module _ (s : Session) (I : Image) (t u : Lent) where
       ap₂ (λ (R : Clients) (e : ℕ). outcomeOf e s (writeSession s I w) R (writeClients s I w R) (writeOps s I w)) c
       (swapped (λ R. writeStatus s I w (lent R (t .trace))) c x
       (λ x′. short-last (earlyErrors s I (u .clients) w ++ backupErrors (copyPlan s I (w .main)) ++ shareErrors (copies (copyPlan s I (w .main))) (u .clients) (w .client) (freeBackups (s .layout) (activeState I) (backupToMain I))) _ _ x′ y))
+  enough-same (discardArgs i) c x y =
+      ap₂ (λ (R : Clients) (e : ℕ). outcomeOf e s s R R (discardOps s I i)) c (short-last (contextErrors s I ++ mainErrors (s .layout) i) _ _ x y)
   enough-same checkpointArgs c x y =
       ap₂ (λ (R : Clients) (e : ℕ). outcomeOf e s (withCheckpoint s) R (cleared R) (checkpointOps s I)) c
       (swapped (λ R. checkpointStatus s I (lent R (t .trace))) c x

@@ -20,9 +20,10 @@ use Rattle.model.specs.Ops.{replay}
 use Rattle.model.specs.Outcome.{Lent, outcomeOf}
 use Rattle.model.specs.Open.{recoveryOps, openStatus, openOutcome}
 use Rattle.model.specs.Write.{WriteArgs, needsCopy, needsBackup, spanBlocks, writeSession, writeStatus, writeOutcome}
+use Rattle.model.specs.Discard.{discardStatus, discardOutcome}
 use Rattle.model.specs.Checkpoint.{nextState, checkpointStatus, checkpointOutcome}
 use Rattle.model.specs.Reads.{readStatus, noPart, locatedPart, partOf, checkpointPart, checkpointBlock}
-use Rattle.model.specs.Reference.{CallArgs, openArgs, writeArgs, checkpointArgs}
+use Rattle.model.specs.Reference.{CallArgs, openArgs, writeArgs, discardArgs, checkpointArgs}
 use Rattle.model.specs.History.{Call, callWrite, Device, State, answers, outcome, deviceStep, step, run, openedImage, start, AllPermitted}
 use Rattle.model.specs.States.{servedState, StatesFollow, PairsFollow, TakenUnpaired, isWriteTo, writesTo, Empty, EmptyStays}
 use Rattle.model.specs.NewBackup.{TakenNew}
@@ -113,12 +114,13 @@ taken-unpaired l I t b h cs permitted w u small ok needs = taken-unpaired-here _
 empty-served : (s : Session) (I : Image) (a : CallArgs) (i : ℕ) → activeState I i ≡ 0 → dirtySegment s i ≡ false → isWriteTo i a ≡ false → servedState s I a i ≡ 0
 empty-served s I (openArgs l) i e d n = e
 empty-served s I (writeArgs w) i e d n = rw (ne-eqb i (w .main) (λ q. eqb-false _ _ n (sym q)), and-false (needsCopy s I (w .main))) e
+empty-served s I (discardArgs u) i e d n = e
 empty-served s I checkpointArgs i e d n = ap₂ nextState e d ∙ next-clean
 
 -- a call that does not, or is refused, does not make it dirty
 not-dirtied : (s : Session) (I : Image) (a : CallArgs) (t : Lent) (i : ℕ) → dirtySegment s i ≡ false
     → (isWriteTo i a && served (answers s I a t .status)) ≡ false → dirtySegment (answers s I a t .session) i ≡ false
-unfolding openOutcome writeOutcome checkpointOutcome outcomeOf
+unfolding openOutcome writeOutcome discardOutcome checkpointOutcome outcomeOf
 not-dirtied s I (openArgs l) t i d n = go (served (openStatus l I t))
   where
     go : (b : Bool) → dirtySegment (cond b (freshSession l) zeroSession) i ≡ false
@@ -129,6 +131,11 @@ not-dirtied s I (writeArgs w) t i d n = go (served (writeStatus s I w t)) n
     go : (b : Bool) → (eqb (w .main) i && b) ≡ false → dirtySegment (cond b (writeSession s I w) s) i ≡ false
     go true q = unfold writeSession in (dirty-segment-other s (w .main) (w .block) (spanBlocks w) _ i (λ e. eqb-false _ _ (sym (and-true _) ∙ q) (sym e)) ∙ d)
     go false q = d
+not-dirtied s I (discardArgs u) t i d n = go (served (discardStatus s I u t))
+  where
+    go : (b : Bool) → dirtySegment (cond b s s) i ≡ false
+    go true = d
+    go false = d
 not-dirtied s I checkpointArgs t i d n = go (served (checkpointStatus s I t))
   where
     go : (b : Bool) → dirtySegment (cond b (withCheckpoint s) s) i ≡ false

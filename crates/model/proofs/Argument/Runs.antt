@@ -1,9 +1,9 @@
 -- Runs of operations: `Puts`, a run that leaves given bytes in one stretch of the image and stores nowhere else; `Neat`, a
--- run that writes back every line that it stores to.
+-- run that writes back every line that it stores to; between them, runs of the dirty blocks of a stretch.
 use Prim.Native.Nat.{ℕ, zero, suc, _+_, _-_, _*_, _/_, _%_, _≤_, _<_}
 use mathlib.Core.Path.{_≡_, refl, sym, ap, _∙_, subst}
 use mathlib.Core.Logic.{_⊎_, inl, inr, ⊎-elim}
-use mathlib.Core.Bool.{Bool, true, false}
+use mathlib.Core.Bool.{Bool, true, false, cond}
 use mathlib.Core.List.{[], _∷_, _++_}
 use native.Mathlib.Decide.{decLt, ℕ-discrete}
 use native.Mathlib.Nat.{mul-suc, mul-zero}
@@ -11,7 +11,8 @@ use native.Mathlib.Omega.{arith}
 use lib.ListN.{length, getD}
 use Rattle.model.specs.Range.{cat}
 use Rattle.model.specs.Words.{Image, byteAt, bytesOf, storeWord}
-use Rattle.model.specs.Ops.{store, clwb, sfence, Ops, apply, replay, stores, clwbs, putBlock}
+use Rattle.model.specs.Ops.{store, clwb, sfence, Ops, apply, replay, stores, clwbs, putBlock, eachDirty}
+use Rattle.model.specs.Session.{isDirty}
 use Rattle.model.specs.CrashExact.{Each}
 use Rattle.model.proofs.Laws.Words.{length-bytesOf, sets-at}
 use Rattle.model.proofs.Argument.Persist.{Misses, Clear, each-append, each-mono, length-replay, replay-clear, replay-append}
@@ -95,6 +96,52 @@ puts-block false a w f h = puts-then (stores 32 a w) [] a 256 f (puts-stores 32 
 pub puts-blocks : (n a : ℕ) (w : ℕ → ℕ → ℕ) (f : ℕ → ℕ)
     → ((m k b : ℕ) → m < n → k < 32 → b < 8 → getD (bytesOf 8 (w m k)) b 0 ≡ f (a + 256 * m + 8 * k + b)) → Puts (cat n (λ m. putBlock true (a + 256 * m) (w m))) a (256 * n) f
 puts-blocks n a w f h = puts-cat n 256 a _ f (λ m l. puts-block true (a + 256 * m) (w m) f (λ k b x y. h m k b l x y))
+
+-- ---- the dirty blocks of a stretch
+
+-- blocks from a on, of which f b stores block b and leaves g there (g of the place in the stretch); only those that are dirty by a word are
+-- stored
+module _ (word a count : ℕ) (f : ℕ → Ops) (g : ℕ → ℕ) (puts : (b : ℕ) → b < count → Puts (f b) (a + 256 * b) 256 (λ k. g (k - a))) where
+  block-clear : (b : ℕ) → b < count → (d : Bool) (k : ℕ) → (k < a + 256 * b) ⊎ (a + 256 * b + 256 ≤ k) → Clear k (cond d (f b) [])
+  block-clear b h true k q = puts-clear (puts b h) k q
+  block-clear b h false k q = tt
+
+  -- they store inside the stretch, and into no block that is not dirty
+  pub dirty-clear : (n k : ℕ) → n ≤ count → (k < a) ⊎ (a + 256 * n ≤ k) → Clear k (eachDirty word n f)
+  dirty-clear n k m h =
+      each-cat (Misses k) n _ (λ b x. block-clear b (omega arith) (isDirty word b) k (⊎-elim (λ q. inl (omega arith)) (λ q. inr (omega arith)) h))
+
+  pub clean-clear : (x : ℕ) → isDirty word (x / 256) ≡ false → Clear (a + x) (eachDirty word count f)
+  clean-clear x e = each-cat (Misses (a + x)) count _ (λ b h. go b h (ℕ-discrete b (x / 256)))
+    where
+      go : (b : ℕ) → b < count → Dec (b ≡ x / 256) → Clear (a + x) (cond (isDirty word b) (f b) [])
+      go b h (yes q) = rw (q, e) tt
+      go b h (no q) = block-clear b h (isDirty word b) (a + x) (beside (decLt (x / 256) b))
+        where
+          beside : Dec (x / 256 < b) → (a + x < a + 256 * b) ⊎ (a + 256 * b + 256 ≤ a + x)
+          beside (yes y) = inl (omega arith)
+          beside (no y) = inr (omega arith)
+
+  -- a block that is stored has g, and one that is not dirty had it
+  pub dirty-leaves : (J : Image) → a + 256 * count ≤ length J
+      → ((x : ℕ) → x < 256 * count → isDirty word (x / 256) ≡ false → byteAt J (a + x) ≡ g x)
+      → (n : ℕ) → n ≤ count → (x : ℕ) → x < 256 * n → byteAt (replay (eachDirty word n f) J) (a + x) ≡ g x
+  unfolding cat
+  dirty-leaves J long clean zero h x k = absurd (omega arith)
+  dirty-leaves J long clean (suc n) h x k =
+      ap (λ (X : Image). byteAt X (a + x)) (replay-append D (cond (isDirty word n) (f n) []) J)
+      ∙ go (λ q. dirty-leaves J long clean n (omega arith) x q) (decLt x (256 * n)) (isDirty word n) refl
+    where
+      D : Ops
+      D = eachDirty word n f
+
+      go : (x < 256 * n → byteAt (replay D J) (a + x) ≡ g x) → Dec (x < 256 * n) → (d : Bool) → isDirty word n ≡ d
+          → byteAt (replay (cond d (f n) []) (replay D J)) (a + x) ≡ g x
+      go ih (yes q) d e = replay-clear (cond d (f n) []) (replay D J) (a + x) (block-clear n (omega arith) d (a + x) (inl (omega arith))) ∙ ih q
+      go ih (no q) true e = puts n (omega arith) .leaves (replay D J) (a + x) (omega (arith, length-replay D J)) (omega arith) (omega arith) ∙ ap g (omega arith)
+      go ih (no q) false e =
+          replay-clear [] (replay D J) (a + x) tt ∙ replay-clear D J (a + x) (dirty-clear n (a + x) (omega arith) (inr (omega arith)))
+          ∙ clean x (omega arith) (let b : x / 256 ≡ n = omega arith in rw b e)
 
 -- what words leave where they are stored, whatever they are
 filled : ℕ → (ℕ → ℕ) → ℕ → ℕ

@@ -87,11 +87,11 @@ alike-state l I H a i h = ap (λ (e : ℕ). byteAt H (stateLine e + i)) (epoch-c
 pub low-epoch : (I₀ : Image) (O E : Ops) → ((k : ℕ) → k < 64 → Clear k E) → committedEpoch (replay (O ++ E) I₀) ≡ committedEpoch (replay O I₀)
 low-epoch I₀ O E h = ap (λ (J : Image). committedEpoch J) (replay-append O E I₀) ∙ epoch-cong (replay O I₀) (replay E (replay O I₀)) (λ k x. replay-clear E (replay O I₀) k (h k (omega arith)))
 
--- operations that leave the epoch and the lines of states alone leave the states
--- nor their line the pairs
+-- operations that leave the line of pairs alone leave the pairs
 pub low-pairs : (I₀ : Image) (O E : Ops) → ((k : ℕ) → 256 ≤ k → k < 320 → Clear k E) → (j : ℕ) → j < 64 → backupToMain (replay (O ++ E) I₀) j ≡ backupToMain (replay O I₀) j
 low-pairs I₀ O E h j b = ap (λ (J : Image). backupToMain J j) (replay-append O E I₀) ∙ replay-clear E (replay O I₀) _ (h _ (omega arith) (omega arith))
 
+-- and those that leave the epoch and the lines of states alone leave the states
 pub low-states : (I₀ : Image) (O E : Ops) → ((k : ℕ) → k < 256 → Clear k E) → (i : ℕ) → i < 64 → activeState (replay (O ++ E) I₀) i ≡ activeState (replay O I₀) i
 low-states I₀ O E h i b =
     ap (λ (e : ℕ). byteAt (replay (O ++ E) I₀) (stateLine e + i)) (low-epoch I₀ O E (λ k x. h k (omega arith)))

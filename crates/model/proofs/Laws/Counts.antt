@@ -1,5 +1,6 @@
 -- How many operations runs of stores and recovery have, in closed form, and how dirty blocks are counted.
 pub mod Write
+pub mod Discard
 pub mod Checkpoint
 use Prim.Native.Nat.{ℕ, zero, suc, _+_, _*_, _<_, _/_, _%_, _^_, _≤_}
 use mathlib.Core.Path.{_≡_, refl, sym, ap₂, _∙_, ap}

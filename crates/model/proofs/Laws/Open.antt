@@ -1,4 +1,5 @@
 -- A refused opening answers the session of zeros, and that is refused with 1.
+use Prim.Native.Nat.{ℕ}
 use mathlib.Core.Path.{_≡_, refl}
 use mathlib.Core.Logic.{_≢_}
 use borrow.Author.Tests.{ne-eqb}
@@ -10,6 +11,7 @@ use Rattle.model.specs.Session.{freshSession, zeroSession}
 use Rattle.model.specs.Outcome.{Lent, outcomeOf}
 use Rattle.model.specs.Open.{openStatus, openOutcome}
 use Rattle.model.specs.Write.{WriteArgs, writeStatus}
+use Rattle.model.specs.Discard.{discardStatus}
 use Rattle.model.specs.Checkpoint.{checkpointStatus}
 
 pub refused-session : (l : Layout) (I : Image) (t : Lent) → openStatus l I t ≢ 0 → openOutcome l I t .session ≡ zeroSession
@@ -19,6 +21,10 @@ refused-session l I t h = rw (ne-eqb _ _ h)
 pub zero-write : (I : Image) (w : WriteArgs) (t : Lent) → writeStatus zeroSession I w t ≡ 1
 unfolding writeStatus zeroSession freshSession firstError sizesOk inRange
 zero-write I w t = refl
+
+pub zero-discard : (I : Image) (i : ℕ) (t : Lent) → discardStatus zeroSession I i t ≡ 1
+unfolding discardStatus zeroSession freshSession firstError sizesOk inRange
+zero-discard I i t = refl
 
 pub zero-checkpoint : (I : Image) (t : Lent) → checkpointStatus zeroSession I t ≡ 1
 unfolding checkpointStatus zeroSession freshSession firstError sizesOk inRange

@@ -32,6 +32,7 @@ knows = record {
   format = λ l I. refl;
   opening = λ l I t. refl;
   write = λ s I w t. refl;
+  discard = λ s I i t. refl;
   checkpoint = λ s I t. refl;
   replay = λ I t n. refl;
   read = λ l I i b. refl;

@@ -1,6 +1,6 @@
 -- Every operation that a call writes is well formed, so that replay serves it and plays it (`replay-serves-all`).
 pub mod WellFormed
-use Prim.Native.Nat.{ℕ, _/_}
+use Prim.Native.Nat.{ℕ, _/_, _<_}
 use mathlib.Core.Path.{_≡_, sym, subst}
 use mathlib.Core.Bool.{cond}
 use mathlib.Core.List.{[]}
@@ -17,8 +17,9 @@ use Rattle.model.specs.Ops.{Ops}
 use Rattle.model.specs.Outcome.{Lent, outcomeOf}
 use Rattle.model.specs.Open.{recoveryOps, openStatus, openOutcome}
 use Rattle.model.specs.Write.{WriteArgs, writeOps, writeErrors, writeStatus, writeOutcome}
+use Rattle.model.specs.Discard.{discardOps, discardErrors, discardStatus, discardOutcome}
 use Rattle.model.specs.Checkpoint.{checkpointOps, checkpointStatus, checkpointOutcome}
-use Rattle.model.specs.Reference.{CallArgs, openArgs, writeArgs, checkpointArgs}
+use Rattle.model.specs.Reference.{CallArgs, openArgs, writeArgs, discardArgs, checkpointArgs}
 use Rattle.model.specs.History.{Call, Device, answers, outcome}
 use Rattle.model.specs.Sisters.{ReplayServesAll}
 use Rattle.model.proofs.Laws.Status.{served-condition}
@@ -26,7 +27,7 @@ use Rattle.model.proofs.Laws.Write.{span-good}
 use Rattle.model.proofs.Laws.NewBackup.{new-free}
 use Rattle.model.proofs.Laws.Container.{container-then}
 use Rattle.model.proofs.Laws.Ops.{OpOk, AllOk, all-when, replay-serves, played-ops}
-use Rattle.model.proofs.Laws.Replay.WellFormed.{recovery-ok, write-ok, checkpoint-ok}
+use Rattle.model.proofs.Laws.Replay.WellFormed.{recovery-ok, write-ok, discard-ok, checkpoint-ok}
 
 -- ---- what a call writes, served or not
 
@@ -52,6 +53,18 @@ write-outcome-ok s I w t = served-ok (length I / lineSize) (writeStatus s I w t)
         (write-ok s I w (c .0 .sizes .0 .1) (c .0 .sizes .1 .1) (leb-false _ _ (r 6)) (leb-false _ _ (r 7)) (g .0)
         (g .2) (λ e. new-free (s .layout) _ _ (c .0 .valid) e .0))
 
+-- the main segment of a served discard is one of the layout
+pub discard-main : (s : Session) (I : Image) (i : ℕ) (t : Lent) → discardStatus s I i t ≡ 0 → i < s .layout .mains
+unfolding discardStatus
+discard-main s I i t h = leb-false _ _ (served-condition (discardErrors s I i t) (omega arith) h 6)
+
+pub discard-outcome-ok : (s : Session) (I : Image) (i : ℕ) (t : Lent) → AllOk (length I / lineSize) (discardOutcome s I i t .ops)
+unfolding discardOutcome outcomeOf discardStatus
+discard-outcome-ok s I i t =
+    served-ok (length I / lineSize) (discardStatus s I i t) (discardOps s I i)
+    (λ h. subst (λ (n : ℕ). AllOk (n / lineSize) (discardOps s I i)) (sym (container-then (s .layout) I _ h .0 .long))
+    (discard-ok s I i (discard-main s I i t h)))
+
 pub checkpoint-outcome-ok : (s : Session) (I : Image) (t : Lent) → AllOk (length I / lineSize) (checkpointOutcome s I t .ops)
 unfolding checkpointOutcome outcomeOf checkpointStatus
 checkpoint-outcome-ok s I t =
@@ -66,6 +79,7 @@ call-ok d c = go (c .args)
     go : (a : CallArgs) → AllOk (length (d .image) / lineSize) (answers (d .session) (d .image) a (c .lends) .ops)
     go (openArgs l) = open-ok l (d .image) (c .lends)
     go (writeArgs w) = write-outcome-ok (d .session) (d .image) w (c .lends)
+    go (discardArgs i) = discard-outcome-ok (d .session) (d .image) i (c .lends)
     go checkpointArgs = checkpoint-outcome-ok (d .session) (d .image) (c .lends)
 
 pub replay-serves-all : ReplayServesAll

@@ -162,20 +162,25 @@ fresh-segment l u = no-bit u
 
 -- ---- valid sessions
 
+-- a dirty segment of a valid session is one of its layout, and not in state 1
+pub dirty-means : (s : Session) (st : ℕ → ℕ) → validSession s st ≡ true → (i : ℕ) → dirtySegment s i ≡ true → (i < s .layout .mains) × (st i ≢ ssMain)
+unfolding validSession dirtySegment
+dirty-means s st h i d =
+    let k = simp and-eq-true-iff at h in
+    let l : i < s .layout .mains = bits-below _ _ .0 (ltb-true _ _ (k .0 .0)) i (eqb-true _ _ d) in
+    (l, eqb-false _ _ (rw d at (not-true (dirtySegment s i && eqb (st i) ssMain) (all-at (s .layout .mains) _ (k .1) i l))))
+
 -- a session has a word for each of 64 main segments
 pub session-means : (s : Session) (st : ℕ → ℕ) → length (s .«dirty_blocks») ≡ most → validSession s st ≡ true → SessionValid s st
-unfolding validSession dirtySegment dirtyBlock
+unfolding validSession dirtyBlock
 session-means s st len h =
     let k = simp and-eq-true-iff at h in
     record {
-      segments = λ i d. below i (k .0 .0) d;
+      segments = λ i d. dirty-means s st h i d .0;
       blocks = λ i b d. block i b (decLt i most) (k .0 .1) (eqb-true _ _ d);
-      moved = λ i d. moved i d (all-at (s .layout .mains) _ (k .1) i (below i (k .0 .0) d));
+      moved = λ i d. dirty-means s st h i d .1;
     }
   where
-    below : (i : ℕ) → ltb (s .«dirty_segments») (2 ^ s .layout .mains) ≡ true → dirtySegment s i ≡ true → i < s .layout .mains
-    below i t d = bits-below _ _ .0 (ltb-true _ _ t) i (eqb-true _ _ d)
-
     word : (i b : ℕ) (a : Bool) → ltb i (s .layout .mains) ≡ a → ltb (dirtyWord s i) (cond a (2 ^ s .layout .blocks) 1) ≡ true → bit (dirtyWord s i) b ≡ 1
         → (i < s .layout .mains) × (b < s .layout .blocks)
     word i b true e t d = (ltb-true _ _ e, bits-below _ _ .0 (ltb-true _ _ t) b d)
@@ -187,9 +192,6 @@ session-means s st len h =
     block i b (no l) t d =
         let e : bit 0 b ≡ 1 = ap (λ (w : ℕ). bit w b) (sym (List·getD-eq-default (s .«dirty_blocks») 0 (omega arith))) ∙ d in
         let z : ⊥ = omega (arith, bit-zero b) in absurd z
-
-    moved : (i : ℕ) → dirtySegment s i ≡ true → not (dirtySegment s i && eqb (st i) ssMain) ≡ true → st i ≢ ssMain
-    moved i d t = eqb-false _ _ (rw d at (not-true (dirtySegment s i && eqb (st i) ssMain) t))
 
 pub session-test : (s : Session) (st : ℕ → ℕ) → SessionValid s st → validSession s st ≡ true
 unfolding validSession dirtySegment dirtyBlock

@@ -2,7 +2,7 @@
 use Prim.Native.Nat.{ℕ, _+_, _*_, _≤_}
 use mathlib.Core.Path.{_≡_, sym, _∙_}
 use mathlib.Core.Logic.{_≢_}
-use mathlib.Core.Bool.{true, false, true≢false}
+use mathlib.Core.Bool.{Bool, true, false, cond, true≢false}
 use mathlib.Core.List.{List}
 use native.Mathlib.Omega.{arith}
 use lib.ListN.{length, getD}
@@ -15,21 +15,23 @@ use Rattle.model.specs.Range.{oneIf}
 use Rattle.model.specs.Layout.{blockWords}
 use Rattle.model.specs.Words.{Image}
 use Rattle.model.specs.Container.{activeLine}
-use Rattle.model.specs.Session.{isDirty, dirtyWord}
+use Rattle.model.specs.Session.{isDirty, dirtyWord, dirtySegment}
 use Rattle.model.specs.Ops.{Ops, Trace, traceShort}
 use Rattle.model.specs.Open.{recoveryOps, openErrors, openStatus}
 use Rattle.model.specs.Write.{WriteArgs, copyPlan, spanBad, writeOps, writeErrors, writeStatus}
+use Rattle.model.specs.Discard.{discardOps, discardErrors, discardStatus}
 use Rattle.model.specs.Checkpoint.{checkpointOps, checkpointErrors, checkpointStatus}
 use Rattle.model.specs.Counts.{dirtyCount, dirtyTotal}
-use Rattle.model.specs.TraceLength.{TraceSuffices, WriteTraceSuffices, CheckpointTraceSuffices}
+use Rattle.model.specs.TraceLength.{TraceSuffices, WriteTraceSuffices, DiscardTraceSuffices, CheckpointTraceSuffices}
 use Rattle.model.proofs.Laws.Status.{given-condition, given-earlier}
 use Rattle.model.proofs.Laws.Counts.{recovery-most}
 use Rattle.model.proofs.Laws.Counts.Checkpoint.{length-checkpoint-ops}
+use Rattle.model.proofs.Laws.Counts.Discard.{length-discard}
 use Rattle.model.proofs.Laws.Counts.Write.{copyCount, spanCount, length-write}
 use Rattle.model.proofs.Laws.Range.{one-most, sum-most}
 use Rattle.model.proofs.Laws.Write.{span-good}
 
-long-enough : (O : Ops) (t : Trace) → 3 * length O ≤ length t → traceShort O t ≢ true
+pub long-enough : (O : Ops) (t : Trace) → 3 * length O ≤ length t → traceShort O t ≢ true
 unfolding traceShort
 long-enough O t h e = true≢false (sym e ∙ le-ltb (length t) (3 * length O) h)
 
@@ -63,6 +65,20 @@ unfolding writeStatus
 write-trace-suffices s I w t h e =
     long-enough (writeOps s I w) (t .trace) (omega (arith, write-most s I w (given-earlier 11 (writeErrors s I w t) (omega arith) e 8)))
     (given-condition 11 (writeErrors s I w t) (omega arith) e)
+
+-- ---- discard
+
+discard-most : (s : Session) (I : Image) (i : ℕ) → length (discardOps s I i) ≤ blockWords * s .layout .blocks
+discard-most s I i = go (dirtySegment s i) (length-discard s I i)
+  where
+    go : (d : Bool) → length (discardOps s I i) ≡ cond d (32 * dirtyCount (dirtyWord s i) (s .layout .blocks)) 0 → length (discardOps s I i) ≤ 32 * s .layout .blocks
+    go true e = omega (arith, dirty-most (dirtyWord s i) (s .layout .blocks))
+    go false e = omega arith
+
+pub discard-trace-suffices : DiscardTraceSuffices
+unfolding discardStatus
+discard-trace-suffices s I i t h e =
+    long-enough (discardOps s I i) (t .trace) (omega (arith, discard-most s I i)) (given-condition 11 (discardErrors s I i t) (omega arith) e)
 
 -- ---- checkpoint
 

@@ -1,23 +1,21 @@
 -- The first part of a copy to the backup segment that the main segment has: the blocks that are dirty by a word (`ready-old`).
-use Prim.Native.Nat.{ℕ, zero, suc, _+_, _-_, _*_, _/_, _≤_, _<_}
-use mathlib.Core.Path.{_≡_, refl, ap, _∙_}
-use mathlib.Core.Logic.{_⊎_, inl, inr, ⊎-elim}
+use Prim.Native.Nat.{ℕ, _+_, _-_, _*_, _/_, _≤_, _<_}
+use mathlib.Core.Path.{_≡_, ap, _∙_}
+use mathlib.Core.Logic.{_⊎_, inl, ⊎-elim}
 use mathlib.Core.Bool.{Bool, true, false, cond}
 use mathlib.Core.List.{[], _∷_, _++_}
-use native.Mathlib.Decide.{decLt}
 use native.Mathlib.Omega.{arith}
 use lib.ListN.{length, take}
 use Rattle.model.specs.declared.Layout.{Layout}
-use Rattle.model.specs.Range.{cat}
 use Rattle.model.specs.Words.{Image, byteAt, Bytes}
 use Rattle.model.specs.Layout.{imageSize, segmentSize, mainAt, backupAt}
 use Rattle.model.specs.Container.{backupToMain}
 use Rattle.model.specs.Session.{isDirty}
-use Rattle.model.specs.Ops.{sfence, Ops, replay, persistCopy, eachDirty}
+use Rattle.model.specs.Ops.{sfence, Ops, replay, persistCopy}
 use Rattle.model.specs.Write.{copyDirty}
 use Rattle.model.proofs.Laws.Words.{byte-of-word}
-use Rattle.model.proofs.Argument.Persist.{Misses, Clear, each-append, each-take, length-replay, replay-clear, replay-append}
-use Rattle.model.proofs.Argument.Runs.{Puts, puts-clear, puts-block, each-cat, Neat, neat-nil, neat-cat, neat-block, neat-keeps}
+use Rattle.model.proofs.Argument.Persist.{Misses, Clear, each-append, each-take, replay-clear, replay-append}
+use Rattle.model.proofs.Argument.Runs.{Puts, puts-block, dirty-clear, dirty-leaves, Neat, neat-nil, neat-cat, neat-block, neat-keeps}
 use Rattle.model.proofs.Laws.Layout.{segment-in-image}
 use Rattle.model.proofs.Argument.Copy.FirstPart.{Ready}
 
@@ -27,60 +25,34 @@ module _ (l : Layout) (I : Image) (word i j : ℕ) (small : Bytes I) (long : len
   abbrev to : ℕ
   to = backupAt l j
 
-  -- block b copied, and that if it is dirty
+  -- block b copied
   abbrev copyBlock : ℕ → Ops
   copyBlock b = persistCopy I (mainAt l i + 256 * b) (to + 256 * b)
-
-  abbrev dirtyOps : ℕ → Bool → Ops
-  dirtyOps b d = cond d (copyBlock b) []
 
   block-puts : (b : ℕ) → Puts (copyBlock b) (to + 256 * b) 256 (λ k. byteAt I (mainAt l i + (k - to)))
   unfolding persistCopy
   block-puts b = puts-block true (to + 256 * b) _ _ (λ k m x y. byte-of-word (byteAt I) (mainAt l i + 256 * b + 8 * k) m small y ∙ ap (λ (n : ℕ). byteAt I n) (omega arith))
 
-  block-clear : (b : ℕ) (d : Bool) (k : ℕ) → (k < to + 256 * b) ⊎ (to + 256 * b + 256 ≤ k) → Clear k (dirtyOps b d)
-  block-clear b true k h = puts-clear (block-puts b) k h
-  block-clear b false k h = tt
-
   abbrev oldOps : Ops
   oldOps = copyDirty l I word i j ++ sfence ∷ []
 
-  blocks-clear : (n k : ℕ) → (k < to) ⊎ (to + 256 * n ≤ k) → Clear k (eachDirty word n copyBlock)
-  blocks-clear n k h = each-cat (Misses k) n _ (λ b x. block-clear b (isDirty word b) k (⊎-elim (λ q. inl (omega arith)) (λ q. inr (omega arith)) h))
-
-  -- a block that is copied has its main segment's bytes, and one that is not dirty had them
-  blocks-at : (n : ℕ) → n ≤ l .blocks → (x : ℕ) → x < 256 * n → byteAt (replay (eachDirty word n copyBlock) I) (to + x) ≡ byteAt I (mainAt l i + x)
-  unfolding cat
-  blocks-at zero h x k = absurd (omega arith)
-  blocks-at (suc n) h x k = ap (λ (X : Image). byteAt X (to + x)) (replay-append D (dirtyOps n (isDirty word n)) I)
-      ∙ go (λ q. blocks-at n (omega arith) x q) (decLt x (256 * n)) (isDirty word n) refl
-    where
-      D : Ops
-      D = eachDirty word n copyBlock
-
-      go : (x < 256 * n → byteAt (replay D I) (to + x) ≡ byteAt I (mainAt l i + x)) → Dec (x < 256 * n) → (d : Bool) → isDirty word n ≡ d
-          → byteAt (replay (dirtyOps n d) (replay D I)) (to + x) ≡ byteAt I (mainAt l i + x)
-      go ih (yes q) d e = replay-clear (dirtyOps n d) (replay D I) (to + x) (block-clear n d (to + x) (inl (omega arith))) ∙ ih q
-      go ih (no q) true e = block-puts n .leaves (replay D I) (to + x) (omega (arith, long, length-replay D I, segment-in-image l (l .mains + j) (omega arith))) (omega arith) (omega arith)
-          ∙ ap (λ (m : ℕ). byteAt I m) (omega arith)
-      go ih (no q) false e = replay-clear [] (replay D I) (to + x) tt ∙ replay-clear D I (to + x) (blocks-clear n (to + x) (inr (omega arith)))
-          ∙ twin x (omega arith) (let b : x / 256 ≡ n = omega arith in rw b e)
-
-  block-neat : (b : ℕ) (d : Bool) → Neat (dirtyOps b d)
+  block-neat : (b : ℕ) (d : Bool) → Neat (cond d (copyBlock b) [])
   unfolding persistCopy
   block-neat b true = neat-block (to + 256 * b) _ (omega arith)
   block-neat b false = neat-nil
 
   old-clear : (k : ℕ) → (k < to) ⊎ (to + segmentSize l ≤ k) → Clear k oldOps
   unfolding copyDirty
-  old-clear k h = each-append (Misses k) (copyDirty l I word i j) (sfence ∷ []) (blocks-clear (l .blocks) k h) tt
+  old-clear k h = each-append (Misses k) (copyDirty l I word i j) (sfence ∷ []) (dirty-clear word to (l .blocks) copyBlock (λ x. byteAt I (mainAt l i + x)) (λ b x. block-puts b) (l .blocks) k (omega arith) h) tt
 
   pub ready-old : Ready l I i j oldOps
   unfolding copyDirty
   ready-old = record {
     clear = λ k h. old-clear k (⊎-elim (λ q. inl (omega arith)) (λ q. q .1) h);
     copy = λ x k. ap (λ (X : Image). byteAt X (to + x)) (replay-append (copyDirty l I word i j) (sfence ∷ []) I)
-        ∙ replay-clear (sfence ∷ []) _ (to + x) tt ∙ blocks-at (l .blocks) (omega arith) x k;
+        ∙ replay-clear (sfence ∷ []) _ (to + x) tt
+        ∙ dirty-leaves word to (l .blocks) copyBlock (λ y. byteAt I (mainAt l i + y)) (λ b y. block-puts b) I (omega (arith, long, segment-in-image l (l .mains + j) (omega arith)))
+        twin (l .blocks) (omega arith) x k;
     paired = (same j j64 ∙ mine, λ t h ne. same t h);
     keeps = neat-keeps (copyDirty l I word i j) (neat-cat (l .blocks) _ (λ b h. block-neat b (isDirty word b)));
     part = λ n H st. inl (λ t h. st .agree (256 + t) (omega arith) ∙ replay-clear (take (st .k) (take n oldOps)) I (256 + t)

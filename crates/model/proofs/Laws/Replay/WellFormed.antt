@@ -1,4 +1,4 @@
--- The operations of opening, write and checkpoint are well formed, whatever the image and the session.
+-- The operations of opening, write, discard and checkpoint are well formed, whatever the image and the session.
 use Prim.Native.Nat.{ℕ, zero, suc, _+_, _-_, _*_, _/_, _%_, _≤_, _<_}
 use mathlib.Core.Path.{_≡_, refl, sym, subst}
 use mathlib.Core.Bool.{Bool, true, false, cond}
@@ -9,16 +9,18 @@ use Rattle.model.specs.declared.Layout.{Layout}
 use Rattle.model.specs.declared.Session.{Session}
 use Rattle.model.specs.declared.Action.{Action}
 use Rattle.model.specs.declared.Action.the-variants.{Nothing, ZeroMain, CopyToBackup, CopyToMain}
+use Rattle.model.specs.declared.Located.{Located}
 use Rattle.model.specs.declared.Plan.{Plan}
 use Rattle.model.specs.declared.Plan.the-variants.{NoCopy, OwnBackup, NewBackup, NoneFree}
 use Rattle.model.specs.Range.{cat}
 use Rattle.model.specs.Words.{Image, wordOf}
 use Rattle.model.specs.Layout.{wordSize, lineSize, blockSize, metadataSize, blockWords, blockLines, lineWords, most, pairsAt, ssBackup, imageSize, segmentSize}
-use Rattle.model.specs.Container.{committedEpoch, activeState, activeLine, inactiveLine, segState, backupToMain, isPaired, pairedBackup, byState}
-use Rattle.model.specs.Session.{isDirty, dirtyWord}
+use Rattle.model.specs.Container.{committedEpoch, activeState, activeLine, inactiveLine, segState, backupToMain, isPaired, pairedBackup, byState, checkpointLocated}
+use Rattle.model.specs.Session.{isDirty, dirtyWord, dirtySegment}
 use Rattle.model.specs.Ops.{clwb, sfence, stores, clwbs, putBlock, persistCopy, persistZero, copySegment, zeroSegment, storeByte}
 use Rattle.model.specs.Open.{recoveryAction, actionOps, recoverSegment, recoveryOps}
 use Rattle.model.specs.Write.{WriteArgs, needsCopy, copyPlan, copies, pairOps, copyDirty, backupOps, copyOnWriteOps, spanOps, writeOps}
+use Rattle.model.specs.Discard.{restoreDirty, discardOps}
 use Rattle.model.specs.Checkpoint.{flushDirty, nextStates, statesOps, checkpointOps}
 use Rattle.model.proofs.Laws.Container.{paired-at}
 use Rattle.model.proofs.Laws.Write.{newOf, someFree}
@@ -37,20 +39,21 @@ module _ (lines : ℕ) where
   unfolding clwbs
   ok-clwbs n a h b = all-cat (OpOk lines) n _ (λ i k. ((omega arith, omega arith), tt))
 
-  pub ok-put-block : (a : ℕ) (w : ℕ → ℕ) → a % lineSize ≡ 0 → a + blockSize ≤ lineSize * lines → AllOk lines (putBlock true a w)
+  -- a block, written back or not
+  pub ok-put-block : (flush : Bool) (a : ℕ) (w : ℕ → ℕ) → a % lineSize ≡ 0 → a + blockSize ≤ lineSize * lines → AllOk lines (putBlock flush a w)
   unfolding putBlock
-  ok-put-block a w h b =
-      all-ok-append lines (stores blockWords a w) (clwbs blockLines a) (ok-stores blockWords a w (omega arith) (omega arith))
-      (ok-clwbs blockLines a h (omega arith))
+  ok-put-block flush a w h b =
+      all-ok-append lines (stores blockWords a w) (cond flush (clwbs blockLines a) []) (ok-stores blockWords a w (omega arith) (omega arith))
+      (all-when (OpOk lines) flush (clwbs blockLines a) (λ e. ok-clwbs blockLines a h (omega arith)))
 
   pub ok-copy-segment : (l : Layout) (I : Image) (from to : ℕ) → to % lineSize ≡ 0 → to + segmentSize l ≤ lineSize * lines
       → AllOk lines (copySegment l I from to)
   unfolding copySegment persistCopy
-  ok-copy-segment l I from to h b = all-cat (OpOk lines) (l .blocks) _ (λ i k. ok-put-block (to + blockSize * i) _ (omega arith) (omega arith))
+  ok-copy-segment l I from to h b = all-cat (OpOk lines) (l .blocks) _ (λ i k. ok-put-block true (to + blockSize * i) _ (omega arith) (omega arith))
 
   pub ok-zero-segment : (l : Layout) (to : ℕ) → to % lineSize ≡ 0 → to + segmentSize l ≤ lineSize * lines → AllOk lines (zeroSegment l to)
   unfolding zeroSegment persistZero
-  ok-zero-segment l to h b = all-cat (OpOk lines) (l .blocks) _ (λ i k. ok-put-block (to + blockSize * i) _ (omega arith) (omega arith))
+  ok-zero-segment l to h b = all-cat (OpOk lines) (l .blocks) _ (λ i k. ok-put-block true (to + blockSize * i) _ (omega arith) (omega arith))
 
 -- the lines of an image, and what lies inside the image
 abbrev pub imageLines : Layout → ℕ
@@ -103,7 +106,7 @@ module _ (s : Session) (I : Image) where
   ok-copy-dirty i j h =
       all-cat (OpOk size) (s .layout .blocks) _
       (λ b k. all-when (OpOk size) (isDirty (word i) b) _
-      (λ e. ok-put-block size _ _ (omega arith) (inside-lines (s .layout) _ (omega (arith, segment-in-image (s .layout) (s .layout .mains + j) (omega arith))))))
+      (λ e. ok-put-block size true _ _ (omega arith) (inside-lines (s .layout) _ (omega (arith, segment-in-image (s .layout) (s .layout .mains + j) (omega arith))))))
 
   -- a backup segment that the plan names is one of the layout
   abbrev Named : Plan → Type 0
@@ -166,6 +169,19 @@ module _ (s : Session) (I : Image) where
   write-ok w m n h k a b c =
       all-ok-append size (copyOnWriteOps (s .layout) I (word (w .main)) (w .main) (copyPlan s I (w .main))) _
       (ok-copy-on-write (w .main) (copyPlan s I (w .main)) m n h (plan-named (w .main) c)) (ok-span w h k a b)
+
+  -- ---- discard
+
+  ok-restore-dirty : (i : ℕ) (from : Located) → i < s .layout .mains → AllOk size (restoreDirty (s .layout) I (word i) i from)
+  unfolding restoreDirty
+  ok-restore-dirty i from h =
+      all-cat (OpOk size) (s .layout .blocks) _
+      (λ b k. all-when (OpOk size) (isDirty (word i) b) _
+      (λ e. ok-put-block size false _ _ (omega arith) (inside-lines (s .layout) _ (omega (arith, segment-in-image (s .layout) i (omega arith))))))
+
+  pub discard-ok : (i : ℕ) → i < s .layout .mains → AllOk (imageLines (s .layout)) (discardOps s I i)
+  unfolding discardOps
+  discard-ok i h = all-when (OpOk size) (dirtySegment s i) _ (λ e. ok-restore-dirty i _ h)
 
   -- ---- checkpoint
 

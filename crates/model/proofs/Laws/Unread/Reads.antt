@@ -23,16 +23,16 @@ use Rattle.model.proofs.Laws.Unread.Metadata.{cond-cong, state-same, se
 module _ {I J : Image} (same : AgreeNamed I J) where
   -- ---- where a checkpoint stands
 
-  located-same : (l : Layout) (i : ℕ) → SizesOk l → i < l .mains → checkpointLocated l I (activeLine I) i ≡ checkpointLocated l J (activeLine J) i
+  pub located-same : (l : Layout) (i : ℕ) → SizesOk l → i < l .mains → checkpointLocated l I (activeLine I) i ≡ checkpointLocated l J (activeLine J) i
   unfolding checkpointLocated
   located-same l i sizes h = ap₂ (λ (n j : ℕ). byState n Nowhere (At (mainAt l i)) (At (backupAt l j))) (state-same same i (omega arith)) (backup-same same l sizes i)
 
   -- in a segment, if anywhere
-  abbrev InSegments : Located → Type 0
+  abbrev pub InSegments : Located → Type 0
   InSegments Nowhere = Unit {0}
   InSegments (At p) = metadataSize ≤ p
 
-  located-in : (l : Layout) (i : ℕ) → InSegments (checkpointLocated l I (activeLine I) i)
+  pub located-in : (l : Layout) (i : ℕ) → InSegments (checkpointLocated l I (activeLine I) i)
   unfolding checkpointLocated byState
   located-in l i = go (segState I (activeLine I) i)
     where
