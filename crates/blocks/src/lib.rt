@@ -1,14 +1,13 @@
 // One block of 256 bytes (the trade: a frame): copied, zeroed and written back by operations on a trace, and tested. Every
 // function `put_..` writes its operations from number n on and answers the number of the next one.
 ghost use mathlib.Core.Path.{_≡_};
-ghost use mathlib.Core.Bool.{true};
 ghost use Prim.Native.Nat.{_+_, _*_, _^_, _≤_, _<_};
 ghost use lib.Dec.{eqb};
 ghost use lib.ListN.{length, getD};
 ghost use Rattle.model.specs.Range.{allB};
 ghost use Rattle.model.specs.Words.{wordAt};
 ghost use Rattle.model.specs.Layout.{wordSize, blockSize, blockWords, blockLines};
-ghost use Rattle.model.specs.Ops.{stores, clwbs, putBlock, persistZero};
+ghost use Rattle.model.specs.Ops.{stores, clwbs, putBlock};
 ghost use Rattle.trace.specs.Emit.{Fits, Emitted};
 use model::Layout;
 
@@ -41,16 +40,19 @@ pub fn put_clwbs(at: u64, trace: &mut [u64], n: usize) -> usize
     next
 }
 
-// Copies a block to a place: each of its words is read as its store is written, upward, and then the lines are written back
-// (SPECIFICATION 6.8; the ported paper: persist_copy). The next number is counted from n, which is quicker than carrying it
-// through both loops.
-pub fn put_copy(block: &[u8], to: u64, trace: &mut [u64], n: usize) -> usize
+// Copies a block to a place: each of its words is read as its store is written, upward, and then, if it is to be flushed, its lines
+// are written back (SPECIFICATION 6.8; the ported paper: persist_copy). Behind the write-backs the next number is counted from n,
+// which is quicker than carrying it through both loops.
+pub fn put_copy(block: &[u8], to: u64, flush: bool, trace: &mut [u64], n: usize) -> usize
     requires { ⌜ length (now block) ≡ blockSize ⌝ }
     requires { ⌜ to + blockSize < 2 ^ 64 ⌝ }
-    requires { ⌜ Fits (now trace) n (putBlock true to (λ k. wordAt (now block) (wordSize * k))) ⌝ }
-    ensures { λ r. ⌜ Emitted (now (trace .entry)) n (putBlock true to (λ k. wordAt (now (block .entry)) (wordSize * k))) (now (trace .exit)) r ⌝ }
+    requires { ⌜ Fits (now trace) n (putBlock flush to (λ k. wordAt (now block) (wordSize * k))) ⌝ }
+    ensures { λ r. ⌜ Emitted (now (trace .entry)) n (putBlock flush to (λ k. wordAt (now (block .entry)) (wordSize * k))) (now (trace .exit)) r ⌝ }
 {
     let next = trace::put_words(trace, n, to, block);
+    if !flush {
+        return next;
+    }
     put_clwbs(to, trace, next);
     n + BLOCK_OPS
 }
@@ -70,13 +72,16 @@ fn put_zeros(to: u64, trace: &mut [u64], n: usize) -> usize
     next
 }
 
-// Fills the block at a place with zeros, and writes its lines back (SPECIFICATION 6.8).
-pub fn put_zero(to: u64, trace: &mut [u64], n: usize) -> usize
+// Fills the block at a place with zeros, and writes its lines back if it is to be flushed (SPECIFICATION 6.8).
+pub fn put_zero(to: u64, flush: bool, trace: &mut [u64], n: usize) -> usize
     requires { ⌜ to + blockSize < 2 ^ 64 ⌝ }
-    requires { ⌜ Fits (now trace) n (persistZero to) ⌝ }
-    ensures { λ r. ⌜ Emitted (now (trace .entry)) n (persistZero to) (now (trace .exit)) r ⌝ }
+    requires { ⌜ Fits (now trace) n (putBlock flush to (λ _. 0)) ⌝ }
+    ensures { λ r. ⌜ Emitted (now (trace .entry)) n (putBlock flush to (λ _. 0)) (now (trace .exit)) r ⌝ }
 {
     let next = put_zeros(to, trace, n);
+    if !flush {
+        return next;
+    }
     put_clwbs(to, trace, next)
 }
 

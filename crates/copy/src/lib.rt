@@ -134,7 +134,7 @@ fn put_backup(image: &[u8], segment: Segment, plan: Plan, trace: &mut [u64], n: 
         Plan::NoCopy => n,
         Plan::OwnBackup(j) => {
             let to = places::backup_at(layout, j);
-            segments::put_dirty_copies(image, layout.blocks, segment.word, from, to, trace, n)
+            segments::put_dirty_copies(image, layout.blocks, segment.word, from, to, true, trace, n)
         }
         Plan::NewBackup(j) => {
             let to = places::backup_at(layout, j);

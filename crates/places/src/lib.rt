@@ -112,12 +112,23 @@ pub fn layout_status(image: &[u8], layout: Layout) -> Status
     Status::Served
 }
 
+// Refusal 6, for a call that names a main segment.
+pub fn main_status(layout: Layout, main: u64) -> Status
+    ensures { λ r. ⌜ codeOf r ≡ firstError (mainErrors layout main) ⌝ }
+{
+    if layout.mains <= main {
+        return Status::NoSuchMain;
+    }
+    Status::Served
+}
+
 // The first of refusals 6 and 7 that applies, for a call that names a main segment and a block.
 pub fn place_status(layout: Layout, main: u64, block: u64) -> Status
     ensures { λ r. ⌜ codeOf r ≡ firstError (mainErrors layout main ++ blockErrors layout block) ⌝ }
 {
-    if layout.mains <= main {
-        return Status::NoSuchMain;
+    let status = main_status(layout, main);
+    if !status.is_served() {
+        return status;
     }
     if layout.blocks <= block {
         return Status::NoSuchBlock;

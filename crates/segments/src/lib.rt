@@ -1,11 +1,13 @@
-// The blocks of a segment (the trade: the frames of a level or a spare): all of them copied or zeroed, the dirty ones copied
-// or written back, by operations on a trace. Every function `put_..` writes its operations from number n on and answers the
+// The blocks of a segment (the trade: the frames of a level or a spare): all of them copied or zeroed, the dirty ones copied,
+// zeroed or written back, by operations on a trace. Every function `put_..` writes its operations from number n on and answers the
 // number of the next one.
 ghost use mathlib.Core.Path.{_≡_};
+ghost use mathlib.Core.Bool.{false};
 ghost use Prim.Native.Nat.{_+_, _*_, _^_, _≤_, _<_};
 ghost use lib.ListN.{length};
-ghost use Rattle.model.specs.Layout.{blockSize, blockLines, most, segmentSize};
-ghost use Rattle.model.specs.Ops.{clwbs, persistCopy, copySegment, zeroSegment, eachDirty};
+ghost use Rattle.model.specs.Words.{wordAt};
+ghost use Rattle.model.specs.Layout.{wordSize, blockSize, blockLines, most, segmentSize};
+ghost use Rattle.model.specs.Ops.{clwbs, putBlock, copySegment, zeroSegment, eachDirty};
 ghost use Rattle.trace.specs.Emit.{Fits, Emitted};
 use model::Layout;
 
@@ -34,7 +36,13 @@ pub fn put_segment_copy(
     while b < blocks {
         let start = from + BLOCK_SIZE * b;
         let place = to + BLOCK_SIZE * b;
-        next = blocks::put_copy(&image[start..start + BLOCK_SIZE], place as u64, trace, next);
+        next = blocks::put_copy(
+            &image[start..start + BLOCK_SIZE],
+            place as u64,
+            true,
+            trace,
+            next,
+        );
         b += 1;
     }
     next
@@ -51,7 +59,7 @@ pub fn put_segment_zero(layout: Layout, to: usize, trace: &mut [u64], n: usize) 
     let mut b = 0;
     while b < blocks {
         let place = to + BLOCK_SIZE * b;
-        next = blocks::put_zero(place as u64, trace, next);
+        next = blocks::put_zero(place as u64, true, trace, next);
         b += 1;
     }
     next
@@ -59,22 +67,23 @@ pub fn put_segment_zero(layout: Layout, to: usize, trace: &mut [u64], n: usize) 
 
 // ---- dirty blocks
 
-// Copies the dirty blocks of the segment at one place to that at another, upward; bit b of the word says that block b is
-// dirty, and `rest` has those that are left.
+// Copies the dirty blocks of the segment at one place to that at another, upward, and writes them back if they are to be flushed; bit b
+// of the word says that block b is dirty, and `rest` has those that are left.
 pub fn put_dirty_copies(
     image: &[u8],
     blocks: u64,
     word: u64,
     from: usize,
     to: usize,
+    flush: bool,
     trace: &mut [u64],
     n: usize,
 ) -> usize
     requires { ⌜ (blocks ≤ most) × (word < 2 ^ blocks) ⌝ }
     requires { ⌜ from + blockSize * blocks ≤ length (now image) ⌝ }
     requires { ⌜ to + blockSize * blocks < 2 ^ 64 ⌝ }
-    requires { ⌜ Fits (now trace) n (eachDirty word blocks (λ b. persistCopy (now image) (from + blockSize * b) (to + blockSize * b))) ⌝ }
-    ensures { λ r. ⌜ Emitted (now (trace .entry)) n (eachDirty word blocks (λ b. persistCopy (now (image .entry)) (from + blockSize * b) (to + blockSize * b))) (now (trace .exit)) r ⌝ }
+    requires { ⌜ Fits (now trace) n (eachDirty word blocks (λ b. putBlock flush (to + blockSize * b) (λ k. wordAt (now image) (from + blockSize * b + wordSize * k)))) ⌝ }
+    ensures { λ r. ⌜ Emitted (now (trace .entry)) n (eachDirty word blocks (λ b. putBlock flush (to + blockSize * b) (λ k. wordAt (now (image .entry)) (from + blockSize * b + wordSize * k)))) (now (trace .exit)) r ⌝ }
 {
     let mut next = n;
     let mut rest = word;
@@ -85,9 +94,28 @@ pub fn put_dirty_copies(
         next = blocks::put_copy(
             &image[source..source + BLOCK_SIZE],
             target as u64,
+            flush,
             trace,
             next,
         );
+        rest = rest & (rest - 1);
+    }
+    next
+}
+
+// Fills the dirty blocks of the segment at a place with zeros, upward, which are not written back; bit b of the word says that block b is
+// dirty, and `rest` has those that are left.
+pub fn put_dirty_zeros(blocks: u64, word: u64, to: usize, trace: &mut [u64], n: usize) -> usize
+    requires { ⌜ (blocks ≤ most) × (word < 2 ^ blocks) ⌝ }
+    requires { ⌜ to + blockSize * blocks < 2 ^ 64 ⌝ }
+    requires { ⌜ Fits (now trace) n (eachDirty word blocks (λ b. putBlock false (to + blockSize * b) (λ _. 0))) ⌝ }
+    ensures { λ r. ⌜ Emitted (now (trace .entry)) n (eachDirty word blocks (λ b. putBlock false (to + blockSize * b) (λ _. 0))) (now (trace .exit)) r ⌝ }
+{
+    let mut next = n;
+    let mut rest = word;
+    while rest != 0 {
+        let target = to + BLOCK_SIZE * (u64::trailing_zeros(rest) as usize);
+        next = blocks::put_zero(target as u64, false, trace, next);
         rest = rest & (rest - 1);
     }
     next

@@ -5,8 +5,9 @@ use lib.Bits.{and-le-r}
 use lib.Count.{trailingZeros, trailing-le}
 use lib.ListN.{length}
 use borrow.Author.Needs.{needs}
-use Rattle.model.specs.Layout.{blockSize}
-use Rattle.model.specs.Ops.{persistCopy, eachDirty}
+use Rattle.model.specs.Words.{wordAt}
+use Rattle.model.specs.Layout.{wordSize, blockSize}
+use Rattle.model.specs.Ops.{putBlock, eachDirty}
 use Rattle.trace.specs.Emit.{Emitted}
 use Rattle.trace.proofs.EmitLaws.{fits-as, emitted-as, emitted-none}
 use Rattle.blocks.proofs.PartLaws.{length-part, copy-part}
@@ -16,12 +17,12 @@ use Rattle.segments.proofs.put_dirty_copies.Statement.{statement}
 use Rattle.segments.proofs.put_dirty_copies.Tie as tie
 
 abbrev Inv-loop : tie.InvT-loop
-Inv-loop image blocks word from to trace₀ n next₀ rest₀ trace next rest =
+Inv-loop image blocks word from to flush trace₀ n next₀ rest₀ trace next rest =
     (length trace ≡ length trace₀)
-    × ((k : ℕ) × (Walk word blocks rest k × Emitted trace₀ n (eachDirty word k (λ b. persistCopy image (from + blockSize * b) (to + blockSize * b))) trace next))
+    × ((k : ℕ) × (Walk word blocks rest k × Emitted trace₀ n (eachDirty word k (λ b. putBlock flush (to + blockSize * b) (λ j. wordAt image (from + blockSize * b + wordSize * j)))) trace next))
 
 abbrev μ-loop : tie.MeasureT-loop
-μ-loop image blocks word from to trace₀ n next₀ rest₀ trace next rest = rest
+μ-loop image blocks word from to flush trace₀ n next₀ rest₀ trace next rest = rest
 
 loop-holds : tie.Need-loop-holds Inv-loop μ-loop
 loop-holds c = (search needs, (0, (walk-start (search needs) (search needs), emitted-none _)))
@@ -65,7 +66,7 @@ put-copy-requires c κs =
       omega (arith, e),
       (
         omega (arith, below),
-        fits-as (sym (copy-part (g .image .now) (g .from + blockSize * b) (g .to + blockSize * b))) (dirty-fits _ (w .0) (omega arith) (w .1) (a .pre .1 .1 .1)),
+        fits-as (sym (copy-part (g .image .now) (g .from + blockSize * b) (g .to + blockSize * b) (g .flush))) (dirty-fits _ (w .0) (omega arith) (w .1) (a .pre .1 .1 .1)),
       ),
     )
 
@@ -81,7 +82,7 @@ loop-again c =
     let g = c .before .before .before .before .before .before .before .before .before .args in
     let w = l .inv .1 .1 in
     let b = trailingZeros 64 (l .rest) in
-    let copied = emitted-as (c .before .before .put-copy .ensures) (copy-part (g .image .now) (g .from + blockSize * b) (g .to + blockSize * b)) in
+    let copied = emitted-as (c .before .before .put-copy .ensures) (copy-part (g .image .now) (g .from + blockSize * b) (g .to + blockSize * b) (g .flush)) in
     (search needs, (b + 1, (walk-turns (w .0) (omega arith), dirty-emits _ (w .0) (omega arith) (w .1) copied)))
 
 same-length : tie.Need-same-length Inv-loop μ-loop

@@ -7,6 +7,7 @@ use Rattle.model.specs.Range.{cat}
 use lib.ListN.{length}
 use native.Mathlib.Omega.{arith}
 use mathlib.Core.Path.{_≡_, sym}
+use mathlib.Core.Bool.{true}
 use Prim.Native.Nat.{_+_, _-_, _*_, _≤_}
 use borrow.Author.Needs.{needs}
 use Rattle.segments.proofs.put_segment_copy.Statement.{statement}
@@ -49,7 +50,7 @@ part-put-copy-end : tie.Need-part-put-copy-end Inv-loop μ-loop
 part-put-copy-end c = search needs
 
 put-copy-requires : tie.Need-put-copy-requires Inv-loop μ-loop
-unfolding copySegment
+unfolding copySegment persistCopy
 put-copy-requires c κs =
     let l = c .before .before .before .loop in
     let a = c .before .before .before .before .before .before in
@@ -58,7 +59,7 @@ put-copy-requires c κs =
       omega arith,
       (
         omega arith,
-        fits-as (sym (copy-part (g .image .now) (g .from + blockSize * l .b) (g .to + blockSize * l .b)))
+        fits-as (sym (copy-part (g .image .now) (g .from + blockSize * l .b) (g .to + blockSize * l .b) true))
             (fits-each (l .b) (g .layout .blocks) _ (omega arith) (a .pre .1 .1) (l .inv .2)),
       ),
     )
@@ -70,10 +71,11 @@ loop-less : tie.Need-loop-less Inv-loop μ-loop
 loop-less c = search needs
 
 loop-again : tie.Need-loop-again Inv-loop μ-loop
+unfolding persistCopy
 loop-again c =
     let l = c .before .before .before .before .before .before .loop in
     let g = c .before .before .before .before .before .before .before .before .before .args in
-    let w = emitted-as (c .before .before .put-copy .ensures) (copy-part (g .image .now) (g .from + blockSize * l .b) (g .to + blockSize * l .b)) in
+    let w = emitted-as (c .before .before .put-copy .ensures) (copy-part (g .image .now) (g .from + blockSize * l .b) (g .to + blockSize * l .b) true) in
     (search needs, search needs, emitted-each (l .b) _ (l .inv .2) w)
 
 same-length : tie.Need-same-length Inv-loop μ-loop

@@ -30,7 +30,7 @@ add-place : tie.Need-add-place Inv-loop μ-loop
 add-place c = search needs
 
 put-zero-requires : tie.Need-put-zero-requires Inv-loop μ-loop
-unfolding zeroSegment
+unfolding zeroSegment persistZero
 put-zero-requires c κs =
     let l = c .before .before .loop in
     let a = c .before .before .before .before in
@@ -43,6 +43,7 @@ loop-less : tie.Need-loop-less Inv-loop μ-loop
 loop-less c = search needs
 
 loop-again : tie.Need-loop-again Inv-loop μ-loop
+unfolding persistZero
 loop-again c =
     let l = c .before .before .before .before .before .loop in
     (search needs, search needs, emitted-each (l .b) _ (l .inv .2) (c .before .before .put-zero .ensures))
