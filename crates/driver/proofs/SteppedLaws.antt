@@ -18,9 +18,10 @@ use Rattle.model.specs.Ops.{opNumbers, Ops, Trace, encode, decode, written, rep
 use Rattle.model.specs.Outcome.{Lent, Outcome, outcomeOf}
 use Rattle.model.specs.Open.{openStatus, openOutcome}
 use Rattle.model.specs.Write.{writeStatus, writeOutcome}
+use Rattle.model.specs.Discard.{discardStatus, discardOutcome}
 use Rattle.model.specs.Checkpoint.{checkpointStatus, checkpointOutcome}
 use Rattle.model.specs.Replay.{replayCount, replayStatus, replayOutcome, replayedOps}
-use Rattle.model.specs.Reference.{CallArgs, openArgs, writeArgs, checkpointArgs}
+use Rattle.model.specs.Reference.{CallArgs, openArgs, writeArgs, discardArgs, checkpointArgs}
 use Rattle.model.specs.History.{Call, Device, answers, outcome, reported, playedOps, calledOps, replayedImage, deviceStep}
 use Rattle.model.proofs.Laws.Layout.{image-lines}
 use Rattle.model.proofs.Laws.Container.{container-then}
@@ -56,9 +57,10 @@ module _ (o : Outcome) (T : Trace) (r : Report) (t : Trace) (g : Reports o T r t
 
 -- only an image of whole lines is served
 served-whole : (s : Session) (I : Image) (a : CallArgs) (t : Lent) → answers s I a t .status ≡ 0 → length I % lineSize ≡ 0
-unfolding openOutcome writeOutcome checkpointOutcome outcomeOf openStatus writeStatus checkpointStatus
+unfolding openOutcome writeOutcome discardOutcome checkpointOutcome outcomeOf openStatus writeStatus discardStatus checkpointStatus
 served-whole s I (openArgs l) t h = omega (arith, container-then l I _ h .0 .long, image-lines l)
 served-whole s I (writeArgs w) t h = omega (arith, container-then (s .layout) I _ h .0 .long, image-lines (s .layout))
+served-whole s I (discardArgs i) t h = omega (arith, container-then (s .layout) I _ h .0 .long, image-lines (s .layout))
 served-whole s I checkpointArgs t h = omega (arith, container-then (s .layout) I _ h .0 .long, image-lines (s .layout))
 
 -- and a refused call writes nothing
@@ -66,9 +68,10 @@ none-written : (e : ℕ) (O : Ops) → e ≢ 0 → cond (served e) O [] ≡ []
 none-written e O h = rw (ne-eqb e 0 h) refl
 
 refused-none : (s : Session) (I : Image) (a : CallArgs) (t : Lent) → answers s I a t .status ≢ 0 → answers s I a t .ops ≡ []
-unfolding openOutcome writeOutcome checkpointOutcome outcomeOf
+unfolding openOutcome writeOutcome discardOutcome checkpointOutcome outcomeOf
 refused-none s I (openArgs l) t h = none-written (openStatus l I t) _ h
 refused-none s I (writeArgs w) t h = none-written (writeStatus s I w t) _ h
+refused-none s I (discardArgs i) t h = none-written (discardStatus s I i t) _ h
 refused-none s I checkpointArgs t h = none-written (checkpointStatus s I t) _ h
 
 none-played : (I : Image) (t : Trace) (p : ℕ) → playedOps I [] t p ≡ []

@@ -75,8 +75,8 @@ pub data CutDriven (C : Calls) (l : Layout) : Image → Image → Type 0 where
       → r .number ≢ 11 → r .number ≢ 13 → p ≤ r .ops → CrashImage H (carried t p) H′ → CutDriven C l H′ H″ → CutDriven C l H H″
 
 -- the calls of such a program are a permitted history, where the program stands is where that history does, and a call that the code
--- makes there is permitted, and gives the number of its outcome and leaves its records: so model's statements over histories (Sisters, EpochCounts, States,
--- FreeBackups, Shares, `CleanSettled`) are statements about the code
+-- makes there is permitted, and gives the number of its outcome and leaves its records: so model's statements over
+-- histories (Sisters, DiscardRestores, EpochCounts, States, FreeBackups, Shares, `CleanSettled`) are statements about the code
 abbrev pub DrivenHistories : Calls → Type 0
 DrivenHistories C =
     -- an opening of any image, with any sizes, records and trace, that is served and carried out

@@ -12,8 +12,9 @@ ghost use Rattle.model.specs.Layout.{layoutOf};
 ghost use Rattle.model.specs.Status.{codeOf};
 ghost use Rattle.model.specs.Ops.{opNumbers};
 ghost use Rattle.model.specs.Replay.{replayOutcome};
+ghost use Rattle.model.specs.Clients.{Clients};
 ghost use Rattle.model.specs.Outcome.{lent};
-ghost use Rattle.model.specs.History.{callOpen, callWrite, callCheckpoint};
+ghost use Rattle.model.specs.History.{callOpen, callWrite, callDiscard, callCheckpoint};
 ghost use Rattle.model.specs.Write.{writeArgsOf};
 ghost use Rattle.clients.specs.Words.{clientsIn};
 ghost use Rattle.driver.specs.Stepped.{reportOf, Called, Stepped};
@@ -78,6 +79,15 @@ pub fn step_write(
     let written = done.answer;
     play_reported(image, trace, written.ops);
     written
+}
+
+// A discard, replayed whole. It is lent no records of clients, and leaves them, whatever they are.
+pub fn step_discard(image: &mut [u8], session: Session, main: u64, trace: &mut [u64]) -> Answer
+    ensures { λ r. ⌜ ((R : Clients) → Stepped Called (now (image .entry)) session (callDiscard main (lent R (now (trace .entry)))) (reportOf r R) (now (trace .exit)) (now (image .exit))) ⌝ }
+{
+    let discarded = discard::crpm_discard(image, session, main, trace);
+    play_reported(image, trace, discarded.ops);
+    discarded
 }
 
 // A checkpoint, replayed whole, with the records of clients lent as words.
