@@ -18,19 +18,22 @@ use Rattle.model.specs.Ops.{Trace}
 use Rattle.model.specs.Clients.{Clients, clientAt, withUsed, cleared}
 use Rattle.model.specs.Outcome.{lent, Outcome, Gives}
 use Rattle.model.specs.Write.{WriteArgs, writeOutcome}
+use Rattle.model.specs.Discard.{discardOutcome}
 use Rattle.model.specs.Checkpoint.{checkpointOutcome}
 use Rattle.model.specs.Reads.{Part, noPart, readStatus, workingPart, checkpointPart}
 use Rattle.reads.specs.declared.Part as code
 use Rattle.reads.specs.Answered.{Answered}
 use Rattle.write.specs.declared.Written.{Written}
 use Rattle.write.specs.Written.{writtenSession, writtenAnswer, writtenClients}
+use Rattle.discard.specs.declared.Discarded.{Discarded}
+use Rattle.discard.specs.Discarded.{discardedAnswer}
 use Rattle.checkpoint.specs.declared.Checkpointed.{Checkpointed}
 use Rattle.checkpoint.specs.Checkpointed.{checkpointedAnswer, checkpointedClients}
 use Rattle.clients.specs.Words.{Words}
-use Rattle.interface.specs.Interface.{dirtySegmentsAt, dirtyBlocksAt, sessionWords, wordsOf, sessionIn, returned, writeReturned, checkpointReturned, Returns}
+use Rattle.interface.specs.Interface.{dirtySegmentsAt, dirtyBlocksAt, sessionWords, wordsOf, sessionIn, returned, writeReturned, discardReturned, checkpointReturned, Returns}
 use Rattle.interface.proofs.WordsLaws.{words-session, segments-stored, word-stored}
 
--- ---- opening, write and checkpoint
+-- ---- opening, write, discard and checkpoint
 
 pub answer-returned : (t : Trace) (a : Answer) (number : ℕ) (s′ : Words) (R″ : Clients) (t′ : Trace) (ops : ℕ) (R′ : Clients)
     → number ≡ codeOf (a .status) → s′ ≡ wordsOf (a .session) → R″ ≡ R′ → ops ≡ a .ops
@@ -84,6 +87,14 @@ module _ (I : Image) (s : Words) (e : length s ≡ sessionWords) (x : Session) (
     checkpoint-kept z c =
         checkpoint-returned s (sym (words-session s e) ∙ ap (λ (b : Bool). wordsOf (cond b (withCheckpoint (sessionIn s)) (sessionIn s))) (sym z))
         (c ∙ ap (λ (b : Bool). cond b (cleared R) R) (sym z))
+
+-- a discard is lent the parts x too, and leaves session and records
+pub discard-returned : (I : Image) (s : Words) → length s ≡ sessionWords → (x : Session) → x ≡ sessionIn s → (R : Clients) (t t′ : Trace) (number ops i : ℕ) (a : Discarded)
+    → number ≡ codeOf (a .status) → ops ≡ a .ops → Gives (discardOutcome x I i (lent R t)) t (discardedAnswer x a) t′ R
+    → Returns (discardReturned I s R i t) number s R t′ ops
+discard-returned I s e x r R t t′ number ops i a n q g =
+    answer-returned t (discardedAnswer (sessionIn s) a) number s R t′ ops R n (sym (words-session s e)) refl q (discardOutcome (sessionIn s) I i (lent R t))
+    (subst (λ (y : Session). Gives (discardOutcome y I i (lent R t)) t (discardedAnswer y a) t′ R) r g)
 
 -- ---- the reads
 

@@ -1,7 +1,8 @@
-// The C interface (include/crpm.h): eight calls of the library, exported under their own names. A slice is a pointer and a length;
-// a session is a pointer to its words (in C: struct crpm_session), records of clients are words too, three each (struct crpm_client), and
-// every number that a call answers with is a pointer to one word, so that no length of theirs can be wrong. Each call returns the number of its status. What opening, write and checkpoint
-// return is said in crates/interface/specs/Interface.antt, the rest in model's terms.
+// The C interface (include/crpm.h): nine calls of the library, exported under their own names. A slice is a pointer and a length; a
+// session is a pointer to its words (in C: struct crpm_session), records of clients are words too, three each (struct crpm_client), and
+// every number that a call answers with is a pointer to one word, so that no length of theirs can be wrong. Each call returns the number
+// of its status. What opening, write, discard and checkpoint return is said in crates/interface/specs/Interface.antt, the rest in model's
+// terms.
 use clients::CLIENT_WORDS;
 use interface::DIRTY_BLOCKS_AT;
 use interface::DIRTY_SEGMENTS_AT;
@@ -11,13 +12,14 @@ ghost use mathlib.Core.Path.{_≡_};
 ghost use mathlib.Core.Logic.{_≢_};
 ghost use mathlib.Core.Bool.{cond};
 ghost use Rattle.model.specs.Layout.{layoutOf};
+ghost use Rattle.model.specs.Clients.{Clients};
 ghost use Rattle.model.specs.Format.{formatOutcome};
 ghost use Rattle.model.specs.Write.{writeArgsOf};
 ghost use Rattle.model.specs.Replay.{replayOutcome};
 ghost use Rattle.model.specs.Reads.{readStatus, workingPart, checkpointPart};
 ghost use Rattle.model.specs.Same.{sameOutcome};
 ghost use Rattle.clients.specs.Words.{clientsIn};
-ghost use Rattle.interface.specs.Interface.{openReturned, writeReturned, checkpointReturned, Returns};
+ghost use Rattle.interface.specs.Interface.{openReturned, writeReturned, discardReturned, checkpointReturned, Returns};
 
 // Formats an image.
 #[no_mangle]
@@ -94,6 +96,27 @@ pub extern "C" fn crpm_write(
         clients::put_client(clients, client as usize, record);
     }
     code
+}
+
+// Discard: the number of its operations. The session is only read, since it stays, and no records of clients are lent.
+#[no_mangle]
+pub extern "C" fn crpm_discard(
+    image: &[u8],
+    session: &[u64; SESSION_WORDS],
+    main: u64,
+    trace: &mut [u64],
+    ops: &mut u64,
+) -> u64
+    ensures { λ r. ⌜ ((R : Clients) → Returns (discardReturned (now (image .entry)) (now (session .entry)) R main (now (trace .entry))) r (now (session .entry)) R (now (trace .exit)) (now (ops .exit))) ⌝ }
+{
+    let words = &session[..];
+    let layout = interface::layout_in(words);
+    let segments = words[DIRTY_SEGMENTS_AT];
+    let dirty_blocks = &words[DIRTY_BLOCKS_AT..SESSION_WORDS];
+    let discarded = discard::discard_parts(image, layout, segments, dirty_blocks, main, trace);
+    *ops = discarded.ops;
+    let status = discarded.status;
+    status.code()
 }
 
 // Checkpoint: the session afterwards, and the number of its operations.

@@ -11,7 +11,7 @@ use Rattle.interface.specs.Interface.{sessionIn, returned, Returns}
 use Rattle.interface.proofs.WordsLaws.{session-words}
 use Rattle.driver.specs.Stepped.{Reports, Called, OfLibrary}
 use Rattle.driver.proofs.Driven.{driven-histories, driven-same-board, driven-safety, driven-opening-safety}
-use Rattle.carried.specs.Carried.{reportIn, Exported, opens, writes, checkpoints, CarriedSafety, CarriedHistories, CarriedSameBoard}
+use Rattle.carried.specs.Carried.{reportIn, Exported, opens, writes, discards, checkpoints, CarriedSafety, CarriedHistories, CarriedSameBoard}
 
 returned-reports : (o : Outcome) (T : Trace) (number : ℕ) (v : Words) (R : Clients) (t : Trace) (ops : ℕ) → Returns (returned T o) number v R t ops
     → Reports o T (reportIn number v R ops) t
@@ -21,6 +21,8 @@ exported-called : OfLibrary Exported
 exported-called I s _ _ _ (opens l k number v R t ops r) = (tt, returned-reports _ (k .trace) number v R t ops r)
 exported-called I s c q _ (writes u e w k number v R t ops bytes r) =
     subst (λ (x : Session). Called I x c q t) e (bytes, returned-reports _ (k .trace) number v R t ops r)
+exported-called I s c q _ (discards u e i k number t ops r) =
+    subst (λ (x : Session). Called I x c q t) e (tt, returned-reports _ (k .trace) number u (k .clients) t ops r)
 exported-called I s c q _ (checkpoints u e k number v R t ops r) =
     subst (λ (x : Session). Called I x c q t) e (tt, returned-reports _ (k .trace) number v R t ops r)
 

@@ -13,9 +13,9 @@ use Rattle.model.specs.Ops.{Trace}
 use Rattle.model.specs.Clients.{Clients}
 use Rattle.model.specs.Outcome.{Lent}
 use Rattle.model.specs.Write.{WriteArgs}
-use Rattle.model.specs.History.{Call, callOpen, callWrite, callCheckpoint}
+use Rattle.model.specs.History.{Call, callOpen, callWrite, callDiscard, callCheckpoint}
 use Rattle.clients.specs.Words.{Words}
-use Rattle.interface.specs.Interface.{sessionIn, openReturned, writeReturned, checkpointReturned, Returns}
+use Rattle.interface.specs.Interface.{sessionIn, openReturned, writeReturned, discardReturned, checkpointReturned, Returns}
 use Rattle.driver.specs.Stepped.{Report}
 use Rattle.driver.specs.Driven.{DrivenHistories, DrivenSameBoard, DrivenSafety, DrivenOpeningSafety}
 
@@ -25,12 +25,15 @@ abbrev pub reportIn : ℕ → Words → Clients → ℕ → Report
 reportIn number s R ops = record { number = number; session = sessionIn s; clients = R; ops = ops }
 
 -- a call of the interface on the image I, with what it reports and the trace that it leaves: the contracts of `crpm_open`, and, on
--- words in which the session s stands, of `crpm_write` (whose bytes are bytes) and `crpm_checkpoint`
+-- words in which the session s stands, of `crpm_write` (whose bytes are bytes), `crpm_discard` (which leaves the words, and records that it
+-- is not lent) and `crpm_checkpoint`
 pub data Exported (I : Image) (s : Session) : Call → Report → Trace → Type 0 where
   opens : (l : Layout) (k : Lent) (number : ℕ) (v : Words) (R : Clients) (t : Trace) (ops : ℕ)
       → Returns (openReturned l I (k .clients) (k .trace)) number v R t ops → Exported I s (callOpen l k) (reportIn number v R ops) t
   writes : (u : Words) → sessionIn u ≡ s → (w : WriteArgs) (k : Lent) (number : ℕ) (v : Words) (R : Clients) (t : Trace) (ops : ℕ) → Bytes (w .bytes)
       → Returns (writeReturned I u (k .clients) w (k .trace)) number v R t ops → Exported I s (callWrite w k) (reportIn number v R ops) t
+  discards : (u : Words) → sessionIn u ≡ s → (i : ℕ) (k : Lent) (number : ℕ) (t : Trace) (ops : ℕ)
+      → Returns (discardReturned I u (k .clients) i (k .trace)) number u (k .clients) t ops → Exported I s (callDiscard i k) (reportIn number u (k .clients) ops) t
   checkpoints : (u : Words) → sessionIn u ≡ s → (k : Lent) (number : ℕ) (v : Words) (R : Clients) (t : Trace) (ops : ℕ)
       → Returns (checkpointReturned I u (k .clients) (k .trace)) number v R t ops → Exported I s (callCheckpoint k) (reportIn number v R ops) t
 

@@ -1,12 +1,13 @@
-// Callers of the C interface that carry the operations out themselves: the three exported calls of a history, each with what its
+// Callers of the C interface that carry the operations out themselves: the four exported calls of a history, each with what its
 // contract gives in the terms of `CarriedSafety` (specs/Carried.antt), so that the checker holds the one against the other.
 use clients::CLIENT_WORDS;
 use interface::SESSION_WORDS;
 ghost use Rattle.model.specs.declared.Session.{Session};
 ghost use Rattle.model.specs.Layout.{layoutOf};
 ghost use Rattle.model.specs.Write.{writeArgsOf};
+ghost use Rattle.model.specs.Clients.{Clients};
 ghost use Rattle.model.specs.Outcome.{lent};
-ghost use Rattle.model.specs.History.{callOpen, callWrite, callCheckpoint};
+ghost use Rattle.model.specs.History.{callOpen, callWrite, callDiscard, callCheckpoint};
 ghost use Rattle.clients.specs.Words.{clientsIn};
 ghost use Rattle.interface.specs.Interface.{sessionIn};
 ghost use Rattle.carried.specs.Carried.{reportIn, Exported};
@@ -54,6 +55,19 @@ pub fn exported_write(
         trace,
         ops,
     )
+}
+
+// A discard.
+pub fn exported_discard(
+    image: &[u8],
+    session: &[u64; SESSION_WORDS],
+    main: u64,
+    trace: &mut [u64],
+    ops: &mut u64,
+) -> u64
+    ensures { λ r. ⌜ ((R : Clients) → Exported (now (image .entry)) (sessionIn (now (session .entry))) (callDiscard main (lent R (now (trace .entry)))) (reportIn r (now (session .entry)) R (now (ops .exit))) (now (trace .exit))) ⌝ }
+{
+    capi::crpm_discard(image, session, main, trace, ops)
 }
 
 // A checkpoint.

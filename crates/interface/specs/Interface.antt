@@ -1,4 +1,4 @@
--- The C interface: a session as words (the trade: the card), and what opening, write and checkpoint return, by model's outcome of
+-- The C interface: a session as words (the trade: the card), and what opening, write, discard and checkpoint return, by model's outcome of
 -- the call. The contracts of crate capi, the exported functions, are said in these terms; the other calls' in model's own.
 -- docs/SPECIFICATION.md, section 19. Assumes nothing.
 use Prim.Native.Nat.{ℕ, _+_}
@@ -14,6 +14,7 @@ use Rattle.model.specs.Clients.{Clients}
 use Rattle.model.specs.Outcome.{lent, Outcome}
 use Rattle.model.specs.Open.{openOutcome}
 use Rattle.model.specs.Write.{WriteArgs, writeOutcome}
+use Rattle.model.specs.Discard.{discardOutcome}
 use Rattle.model.specs.Checkpoint.{checkpointOutcome}
 use Rattle.clients.specs.Words.{Words}
 
@@ -39,7 +40,7 @@ wordsOf s = s .layout .mains ∷ s .layout .backups ∷ s .layout .blocks ∷ s 
 unfoldable pub sessionIn : Words → Session
 sessionIn w = record { layout = layoutOf (getD w 0 0) (getD w 1 0) (getD w 2 0); «dirty_segments» = getD w dirtySegmentsAt 0; «dirty_blocks» = drop dirtyBlocksAt w }
 
--- ---- opening, write and checkpoint
+-- ---- opening, write, discard and checkpoint
 
 -- what a call returns and leaves: its number, the words of the session, the records of clients, the trace, and how many operations stand on
 -- it
@@ -54,13 +55,16 @@ pub record Returned : Type 0 where
 abbrev pub returned : Trace → Outcome → Returned
 returned t o = record { number = o .status; session = wordsOf (o .session); clients = o .clients; trace = written (o .ops) t; ops = length (o .ops) }
 
--- of each call; a write and a checkpoint take the session that stands in the words s, and each call the records R, which stand in words too
--- (crate clients, specs/Words.antt)
+-- of each call; all but an opening take the session that stands in the words s, and all but a discard are lent the records R, which stand in
+-- words too (crate clients, specs/Words.antt); a discard leaves them, whatever they are
 abbrev pub openReturned : Layout → Image → Clients → Trace → Returned
 openReturned l I R t = returned t (openOutcome l I (lent R t))
 
 abbrev pub writeReturned : Image → Words → Clients → WriteArgs → Trace → Returned
 writeReturned I s R w t = returned t (writeOutcome (sessionIn s) I w (lent R t))
+
+abbrev pub discardReturned : Image → Words → Clients → ℕ → Trace → Returned
+discardReturned I s R i t = returned t (discardOutcome (sessionIn s) I i (lent R t))
 
 abbrev pub checkpointReturned : Image → Words → Clients → Trace → Returned
 checkpointReturned I s R t = returned t (checkpointOutcome (sessionIn s) I (lent R t))
