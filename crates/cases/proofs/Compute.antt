@@ -19,14 +19,15 @@ use Rattle.model.specs.Replay.{wellFormed, allWellFormed, replayCount, replayed
 use Rattle.model.specs.Format.{container, formatted, formatOutcome}
 use Rattle.model.specs.Open.{recoveryAction, actionOps, recoverSegment, recoveryOps, openStatus, openOutcome}
 use Rattle.model.specs.Write.{needsCopy, needsBackup, copyPlan, pairOps, copyDirty, backupOps, stateOps, copyOnWriteOps, spanOps, writeOps, writeSession, writeClients, spanBad, writeStatus, writeOutcome}
+use Rattle.model.specs.Discard.{restoreDirty, discardOps, discardStatus, discardOutcome}
 use Rattle.model.specs.Checkpoint.{flushDirty, nextState, statesOps, epochOps, checkpointOps, checkpointStatus, checkpointOutcome}
 use Rattle.model.specs.Reads.{readStatus, workingPart, checkpointPart}
-use Rattle.model.specs.Reference.{CallArgs, openArgs, writeArgs, checkpointArgs, modelStep}
+use Rattle.model.specs.Reference.{CallArgs, openArgs, writeArgs, discardArgs, checkpointArgs, modelStep}
 use Rattle.model.specs.History.{Call, reported, playedOps, replayedImage, deviceStep, step, run, openedImage, start, PermittedArgs, AllPermitted}
 use Rattle.model.proofs.Laws.Range.{and-left, and-right}
 
 unfoldable pub model-rules : Unit {0}
-unfolding cat allB anyB orNext firstB sumTo littleEndian wordOf bytesOf storeWord overlay inRange sizesOk imageSize stateLine firstError isPaired validMetadata pairedBackup isFree anyFree freeBackups newBackup byState checkpointLocated checkpointSegment checkpointBytes headerOk bit setBit setBits dirtySegment dirtyBlock freshSession zeroSession withDirty withCheckpoint validSession encode opOf decode written traceShort apply replay stores clwbs putBlock persistCopy persistZero copySegment zeroSegment charged cleared clientsBad outcomeOf wellFormed allWellFormed replayCount replayedOps replayStatus replayOutcome container formatted formatOutcome recoveryAction actionOps recoverSegment recoveryOps openStatus openOutcome needsCopy needsBackup copyPlan pairOps copyDirty backupOps stateOps copyOnWriteOps spanOps writeOps writeSession writeClients spanBad writeStatus writeOutcome flushDirty nextState statesOps epochOps checkpointOps checkpointStatus checkpointOutcome readStatus workingPart checkpointPart modelStep reported playedOps replayedImage deviceStep step run openedImage start
+unfolding cat allB anyB orNext firstB sumTo littleEndian wordOf bytesOf storeWord overlay inRange sizesOk imageSize stateLine firstError isPaired validMetadata pairedBackup isFree anyFree freeBackups newBackup byState checkpointLocated checkpointSegment checkpointBytes headerOk bit setBit setBits dirtySegment dirtyBlock freshSession zeroSession withDirty withCheckpoint validSession encode opOf decode written traceShort apply replay stores clwbs putBlock persistCopy persistZero copySegment zeroSegment charged cleared clientsBad outcomeOf wellFormed allWellFormed replayCount replayedOps replayStatus replayOutcome container formatted formatOutcome recoveryAction actionOps recoverSegment recoveryOps openStatus openOutcome needsCopy needsBackup copyPlan pairOps copyDirty backupOps stateOps copyOnWriteOps spanOps writeOps writeSession writeClients spanBad writeStatus writeOutcome restoreDirty discardOps discardStatus discardOutcome flushDirty nextState statesOps epochOps checkpointOps checkpointStatus checkpointOutcome readStatus workingPart checkpointPart modelStep reported playedOps replayedImage deviceStep step run openedImage start
 model-rules = tt
 
 unfoldable pub same : List ℕ → List ℕ → Bool
@@ -57,6 +58,7 @@ small-bytes (x ∷ xs) e (suc i) = small-bytes xs (and-right (ltb x 256) (small 
 unfoldable pub smallArgs : CallArgs → Bool
 smallArgs (openArgs l) = true
 smallArgs (writeArgs w) = small (w .bytes)
+smallArgs (discardArgs i) = true
 smallArgs checkpointArgs = true
 
 unfoldable pub smallCalls : List Call → Bool
@@ -67,6 +69,7 @@ small-permitted : (a : CallArgs) → smallArgs a ≡ true → PermittedArgs a
 unfolding smallArgs
 small-permitted (openArgs l) e = tt
 small-permitted (writeArgs w) e = small-bytes (w .bytes) e
+small-permitted (discardArgs i) e = tt
 small-permitted checkpointArgs e = tt
 
 pub all-permitted : (cs : List Call) → smallCalls cs ≡ true → AllPermitted cs

@@ -14,3 +14,4 @@ pub mod FirstLife
 pub mod Restored
 pub mod Long
 pub mod Consoles
+pub mod Discards

@@ -14,7 +14,7 @@ use Rattle.model.specs.Layout.{lineSize, segmentSize, mainAt, backupAt}
 use Rattle.model.specs.Ops.{Trace, replay}
 use Rattle.model.specs.Outcome.{Lent, lent, Outcome}
 use Rattle.model.specs.Write.{WriteArgs, copyPlan, writeStatus}
-use Rattle.model.specs.Reference.{CallArgs, openArgs, writeArgs, checkpointArgs}
+use Rattle.model.specs.Reference.{CallArgs, openArgs, writeArgs, discardArgs, checkpointArgs}
 use Rattle.cases.specs.Turns.{Point, Turn, turn}
 use Rattle.cases.specs.Table.{turnWrite}
 use Rattle.model.proofs.Laws.Range.{and-left, and-right}
@@ -40,6 +40,7 @@ quickWrite p w t NoneFree = turn p (turnWrite w t) .state .device .image
 unfoldable pub quickArgs : Point → Trace → CallArgs → Image
 quickArgs p t (openArgs l) = turn p (record { args = openArgs l; trace = t }) .state .device .image
 quickArgs p t (writeArgs w) = quickWrite p w t (copyPlan (p .state .device .session) (p .state .device .image) (w .main))
+quickArgs p t (discardArgs i) = turn p (record { args = discardArgs i; trace = t }) .state .device .image
 quickArgs p t checkpointArgs = turn p (record { args = checkpointArgs; trace = t }) .state .device .image
 
 quick-write : (p : Point) (w : WriteArgs) (t : Trace) (q : Plan) → copyPlan (p .state .device .session) (p .state .device .image) (w .main) ≡ q
@@ -80,4 +81,5 @@ quick-same p c = go (c .args)
     go : (a : CallArgs) → quickArgs p (c .trace) a ≡ turn p (record { args = a; trace = c .trace }) .state .device .image
     go (openArgs l) = refl
     go (writeArgs w) = quick-write p w (c .trace) _ refl
+    go (discardArgs i) = refl
     go checkpointArgs = refl

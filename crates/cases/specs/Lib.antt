@@ -1,8 +1,9 @@
 -- The bench cases of SPECIFICATION 17: how a history shares one run of records, the table, the crash inside P4, the first checkpoint
--- after a restart, long registrations, and two clients on one board.
+-- after a restart, long registrations, two clients on one board, and edits dropped.
 pub mod Turns
 pub mod Table
 pub mod Cut
 pub mod Restored
 pub mod Long
 pub mod Consoles
+pub mod Discards

@@ -7,6 +7,7 @@ pub mod ClearedMarks
 pub mod SkippedCopy
 pub mod InactiveLine
 pub mod FirstMarked
+pub mod DiscardClears
 pub mod Faults
 pub mod BrokenOff
 pub mod Unflushed

@@ -1,12 +1,12 @@
 -- Faults that a reader could mistake for good work (SPECIFICATION 18.1). Each fault is model's own definition with one change,
 -- and each statement says that demand 3 then fails: a crash may leave an image that opening refuses, or of which it shows a
--- page that is not permitted, which nobody notices. One client writes, whose share and limit are all backup segments, and what a faulty
+-- page that is not permitted, which nobody notices. (`DiscardClearsTouch`, beside the last, breaks demand 2 alone.) One client writes, whose share and limit are all backup segments, and what a faulty
 -- call does with its record is right. Proved in proofs/.
 use Prim.Native.Nat.{ℕ, _+_}
 use mathlib.Core.Path.{_≡_}
 use mathlib.Core.Bool.{Bool, true, false, cond}
 use mathlib.Core.List.{List, [], _∷_, _++_}
-use lib.ListN.{length, take, replicate}
+use lib.ListN.{length, take, replicate, set}
 use Rattle.model.specs.declared.Layout.{Layout}
 use Rattle.model.specs.declared.Session.{Session}
 use Rattle.model.specs.declared.Action.{Action}
@@ -15,9 +15,9 @@ use Rattle.model.specs.declared.Plan.{Plan}
 use Rattle.model.specs.declared.Plan.the-variants.{NoCopy, OwnBackup, NewBackup, NoneFree}
 use Rattle.model.specs.Range.{cat}
 use Rattle.model.specs.Words.{Image}
-use Rattle.model.specs.Layout.{lineSize, unpaired, ssBackup}
+use Rattle.model.specs.Layout.{lineSize, unpaired, ssInitial, ssMain, ssBackup}
 use Rattle.model.specs.Status.{firstError, served}
-use Rattle.model.specs.Container.{activeLine, inactiveLine, segState, backupToMain, isPaired, pairedBackup, anyFree, freeBackups, newBackup, byState, checkpointBytes}
+use Rattle.model.specs.Container.{activeLine, activeState, inactiveLine, segState, backupToMain, isPaired, pairedBackup, anyFree, freeBackups, newBackup, byState, checkpointBytes}
 use Rattle.model.specs.Session.{dirtyWord, freshSession, withDirty}
 use Rattle.model.specs.Ops.{clwb, sfence, Ops, replay, storeByte}
 use Rattle.model.specs.Outcome.{Lent, lent}
@@ -32,6 +32,7 @@ use Rattle.model.specs.Shares.{alone}
 use Rattle.cases.specs.Turns.{Point, pointOf, begin, Turn, callAt, answerAt, turn, turns, made}
 use Rattle.cases.specs.Table.{sizes, l211, longTrace, lentAlone, writes, write, checkpoint, aWord}
 use Rattle.cases.specs.Cut.{OnlyShows}
+use Rattle.cases.specs.Discards.{discard}
 
 -- ---- how demand 3 fails
 
@@ -227,7 +228,47 @@ BothMarked p =
     AllPermitted (made p (writeTwo ∷ checkpoint ∷ []))
     × OnlyShows (turns p (writeTwo ∷ checkpoint ∷ []) .state) between (replicate 248 0 ++ aWord ++ aWord ++ replicate 248 0)
 
--- THE FIVE FAULTS, the first both ways, and the last beside what is right
+-- ---- 6. a discard that clears the marks
+
+-- a word written to an empty main segment, and dropped
+abbrev pub wordDropped : List Turn
+wordDropped = write 0 0 aWord ∷ discard 0 ∷ []
+
+-- with this fault: no block is dirty then; the segment still is
+unfoldable pub clearsMarks : Point → Point
+clearsMarks p = withSession p (record {
+  layout = p .state .device .session .layout;
+  «dirty_segments» = p .state .device .session .«dirty_segments»;
+  «dirty_blocks» = set (p .state .device .session .«dirty_blocks») 0 0;
+})
+
+-- a checkpoint, played whole, which flushes no block: opening then shows the word, which no checkpoint ever had
+pub record DiscardClearsMarks (p : Point) : Type 0 where
+  pub permitted : AllPermitted (made p wordDropped)
+  pub count : length (answerAt (clearsMarks (turns p wordDropped)) checkpoint .ops) ≡ 14
+  pub shows : CalledShowsOther (λ H. openedImage l111 H (lentLong l111)) (turn (clearsMarks (turns p wordDropped)) checkpoint .state) between
+  pub dropped : shows .page ≡ aWord ++ replicate 248 0
+  pub saved : turn (clearsMarks (turns p wordDropped)) checkpoint .state .model .checkpoint ≡ replicate 256 0
+
+-- with the marks kept the same calls leave what shows zeros alone
+abbrev pub DiscardKeepsMarks : Point → Type 0
+DiscardKeepsMarks p =
+    AllPermitted (made p (wordDropped ++ checkpoint ∷ [])) × OnlyShows (turns p (wordDropped ++ checkpoint ∷ []) .state) between (replicate 256 0)
+
+-- beside it a discard that clears the touch: no page shows it, but the checkpoint leaves the segment in state 0, and not in state 1
+unfoldable pub clearsTouch : Point → Point
+clearsTouch p = withSession p (record {
+  layout = p .state .device .session .layout;
+  «dirty_segments» = 0;
+  «dirty_blocks» = p .state .device .session .«dirty_blocks»;
+})
+
+abbrev pub DiscardClearsTouch : Point → Type 0
+DiscardClearsTouch p =
+    (activeState (turn (clearsTouch (turns p wordDropped)) checkpoint .state .device .image) 0 ≡ ssInitial)
+    × (activeState (turn (turns p wordDropped) checkpoint .state .device .image) 0 ≡ ssMain)
+
+-- THE SIX FAULTS, the first both ways, and the last two beside what is right
 pub record Faults : Type 0 where
   pub earlyState : EarlyState (begin l111 (one unpaired) (lentLong l111))
   pub earlyStateUnseen : EarlyStateUnseen (begin l111 (one 0) (lentLong l111))
@@ -236,3 +277,6 @@ pub record Faults : Type 0 where
   pub inactiveLine : InactiveLine (begin l211 two (lentLong l211))
   pub firstMarked : FirstMarked (begin l112 (formatted l112) (lentLong l112))
   pub bothMarked : BothMarked (begin l112 (formatted l112) (lentLong l112))
+  pub discardClearsMarks : DiscardClearsMarks (begin l111 (formatted l111) (lentLong l111))
+  pub discardKeepsMarks : DiscardKeepsMarks (begin l111 (formatted l111) (lentLong l111))
+  pub discardClearsTouch : DiscardClearsTouch (begin l111 (formatted l111) (lentLong l111))
