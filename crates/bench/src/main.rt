@@ -1,9 +1,10 @@
 // The bench cases P1 to P10 of SPECIFICATION 17, run on the library; R1 to R7, a restart with four levels restored from all spares and
-// the first save after it (SPECIFICATION 17.4), which crate `cases` computes (`RestoredStory`); and L1 to L7, long writes of 700 bytes
-// (SPECIFICATION 17.5), which it has too (`LongStory`) and which are read back here, byte by byte. Each line has what
-// was measured. The file `stdout` has the expected lines, worked out by hand from the specification. The cuts of P4, and those of a
-// restart like this one, are tried by the second program (rust/, `bench cases` and `restored levels`), over every permitted image, and
-// those of the long writes (`long writes`) over every image where there are 256 or fewer, and over samples where there are more.
+// the first save after it (SPECIFICATION 17.4), which crate `cases` computes (`RestoredStory`); L1 to L7, long writes of 700 bytes
+// (SPECIFICATION 17.5), which it has too (`LongStory`) and which are read back here, byte by byte; and D1 to D11, edits that are dropped
+// (SPECIFICATION 17.8, `DiscardStory`), with a drop that is cut and an opening after the last save. Each line has what was measured. The
+// file `stdout` has the expected lines, worked out by hand from the specification. The cuts of P4, and those of a restart like this one,
+// are tried by the second program (rust/, `bench cases` and `restored levels`), over every permitted image, and those of the long writes
+// (`long writes`) over every image where there are 256 or fewer, and over samples where there are more.
 use clients::CLIENT_WORDS;
 use libc::STDOUT_FILENO;
 use model::Answer;
@@ -43,8 +44,14 @@ const BYTES: [u8; 8] = [0xa1, 0xb2, 0xc3, 0xd4, 0xe5, 0xf6, 0x07, 0x18];
 
 const MOST_BYTES: usize = 995;
 
-// The number of the last case of a restart, R7; those behind it are of the long writes.
+// The number of the last case of a restart, R7, behind which those of the long writes stand, and of the last of these, L7, behind which
+// those of the dropped edits do.
 const LAST_RESTART: u64 = 17;
+
+const LAST_LONG: u64 = 24;
+
+// The two bytes of the writes of D1, D3 and D4.
+const EDITS: [[u8; 2]; 4] = [[10, 11], [0, 0], [20, 21], [30, 31]];
 
 // ---- printed lines
 
@@ -120,14 +127,20 @@ fn print_metadata(image: &[u8]) {
     print_number(b" at256=", byte_at(image, 256));
 }
 
-// Prints the metadata and the saved reads of levels 0 and 1, and for a long write what is read back; of the restart's image, the
-// board.
+// Prints the metadata and the saved reads of levels 0 and 1, for a long write what is read back, and for dropped edits the levels; of the
+// restart's image, the board.
 fn print_image(image: &[u8], layout: Layout, case: u64) {
     if layout.mains == BOARD_MAINS {
         print_board(image, layout);
         return;
     }
     print_metadata(image);
+    if LAST_LONG < case {
+        print_level(b" levels=", image, layout, 0);
+        print_level(b",", image, layout, 1);
+        print(b"\n");
+        return;
+    }
     print_saved(b" saved=", image, layout, 0);
     print_saved(b",", image, layout, 1);
     if LAST_RESTART < case {
@@ -140,14 +153,14 @@ fn print_image(image: &[u8], layout: Layout, case: u64) {
 // Prints how many bytes a read gives back: zeros, and of the long writes those of L2, of L4, of L6 and of the one of L7 that is
 // served.
 fn print_back(name: &[u8], image: &[u8], layout: Layout, saved: bool) {
-    print_number(name, back(image, layout, saved, row(40)));
+    print_number(name, back(image, layout, saved, row(50)));
     print_number(b",", back(image, layout, saved, row(31)));
     print_number(b",", back(image, layout, saved, row(33)));
     print_number(b",", back(image, layout, saved, row(35)));
     print_number(b",", back(image, layout, saved, row(38)));
 }
 
-// Prints a level of the board: its saved read, and the first two bytes of its working read in hexadecimal.
+// Prints a level: its saved read, and the first two bytes of its working read in hexadecimal.
 fn print_level(name: &[u8], image: &[u8], layout: Layout, main: u64) {
     let part = reads::crpm_read_working(
         image,
@@ -182,14 +195,16 @@ fn print_board(image: &[u8], layout: Layout) {
     print(b"\n");
 }
 
-// Prints the name of a case: P1 to P10, from 11 on R1 to R7, and from 18 on L1 to L7.
+// Prints the name of a case: P1 to P10, from 11 on R1 to R7, from 18 on L1 to L7, and from 25 on D1 to D11.
 fn print_case(case: u64) {
     if case <= 10 {
         print_number(b"P", case);
     } else if case <= LAST_RESTART {
         print_number(b"R", case - 10);
-    } else {
+    } else if case <= LAST_LONG {
         print_number(b"L", case - LAST_RESTART);
+    } else {
+        print_number(b"D", case - LAST_LONG);
     }
 }
 
@@ -234,13 +249,16 @@ fn first_of(bytes: &[u8], n: u64) -> &[u8] {
 // ---- the bytes of writes, and what is read back of them
 
 // Byte i of a case's writes. Of a long write it is 1 to 251, and where those of two cases stand in the same place their bytes differ;
-// L1 has zeros.
+// L1 has zeros, and the edits that are dropped have two bytes of their own.
 fn byte_of(case: u64, i: u64) -> u8 {
     if case <= LAST_RESTART {
         return BYTES[(i % 8) as usize];
     }
     if case == LAST_RESTART + 1 {
         return 0;
+    }
+    if LAST_LONG < case {
+        return EDITS[((case - LAST_LONG - 1) % 4) as usize][(i % 2) as usize];
     }
     ((i % 251 + 60 * (case % 8)) % 251 + 1) as u8
 }
@@ -329,10 +347,10 @@ struct Stand {
     client: [u64; CLIENT_WORDS],
 }
 
-// A call: a save, or a write of so many bytes.
+// A call: a write of so many bytes, a save, or a drop with a tape of so many numbers.
 struct Call {
     case: u64,
-    checkpoint: bool,
+    kind: u64,
     main: u64,
     block: u64,
     offset: u64,
@@ -340,8 +358,8 @@ struct Call {
 }
 
 // The calls of P3 to P9, which are one history, of P10, which are another, of the restart: those before it (case 11) and those
-// after it, and of the long writes. Case, 1 for a save, level, frame, offset, length.
-const CALLS: [[u64; 6]; 40] = [
+// after it, of the long writes, and of the dropped edits. Case, kind, level, frame, offset, length.
+const CALLS: [[u64; 6]; 50] = [
     [3, 0, 0, 0, 6, 4],
     [4, 1, 0, 0, 0, 0],
     [5, 0, 0, 0, 0, 8],
@@ -382,7 +400,22 @@ const CALLS: [[u64; 6]; 40] = [
     [24, 0, 0, 0, 256, 1],
     [24, 0, 0, 0, 30, 994],
     [24, 0, 0, 0, 30, 995],
+    [25, 0, 0, 0, 0, 2],
+    [26, 1, 0, 0, 0, 0],
+    [27, 0, 0, 0, 0, 2],
+    [28, 0, 1, 0, 0, 2],
+    [29, 2, 0, 0, 0, 1200],
+    [30, 2, 1, 0, 0, 1200],
+    [31, 2, 2, 0, 0, 1200],
+    [32, 2, 0, 0, 0, 95],
+    [33, 1, 0, 0, 0, 0],
+    [34, 2, 0, 0, 0, 0],
 ];
+
+// The kinds of calls that are no writes.
+const SAVE: u64 = 1;
+
+const DROP: u64 = 2;
 
 // The zeros of L1, as if they had been written.
 const ZEROS: [u64; 6] = [18, 0, 0, 0, 0, 1024];
@@ -391,7 +424,7 @@ const ZEROS: [u64; 6] = [18, 0, 0, 0, 0, 1024];
 fn call_of(row: [u64; 6]) -> Call {
     Call {
         case: row[0],
-        checkpoint: row[1] == 1,
+        kind: row[1],
         main: row[2],
         block: row[3],
         offset: row[4],
@@ -401,11 +434,30 @@ fn call_of(row: [u64; 6]) -> Call {
 
 // The call of row i of the table, or of the zeros past its end.
 fn row(i: usize) -> Call {
-    if i < 40 {
+    if i < 50 {
         call_of(CALLS[i])
     } else {
         call_of(ZEROS)
     }
+}
+
+// The first n numbers of a tape, or all if there are fewer.
+fn tape_of(trace: &mut [u64], n: u64) -> &mut [u64] {
+    let end = n as usize;
+    if end < trace.len() {
+        &mut trace[0..end]
+    } else {
+        trace
+    }
+}
+
+// Drops the edits of a level, with a part of the tape.
+fn drop_edits(image: &mut [u8], trace: &mut [u64], session: Session, call: Call) -> Answer {
+    let tape = tape_of(trace, call.length);
+    print_number(b" tape=", tape.len() as u64);
+    let dropped = driver::step_discard(image, session, call.main, tape);
+    print_answer(b" drop=", dropped);
+    dropped
 }
 
 // Makes a call, which is lent a run of one record.
@@ -418,12 +470,15 @@ fn make(
     bytes: &[u8],
 ) -> Answer {
     print_case(call.case);
-    if call.checkpoint {
+    if call.kind == SAVE {
         let saved = driver::step_checkpoint(image, session, clients, trace);
         print_answer(b" save=", saved);
         return saved;
     }
     print_number(b" level=", call.main);
+    if call.kind == DROP {
+        return drop_edits(image, trace, session, call);
+    }
     print_number(b" frame=", call.block);
     print_number(b" at=", call.offset);
     print_number(b" length=", bytes.len() as u64);
@@ -633,8 +688,8 @@ fn keeps(before: [u8; IMAGE_LONG], layout: Layout, written: &[u64], n: u64) -> b
     );
     let working = back(&image, layout, false, row(31));
     let kept = back(&image, layout, true, row(31));
-    let working_zeros = back(&image, layout, false, row(40));
-    let kept_zeros = back(&image, layout, true, row(40));
+    let working_zeros = back(&image, layout, false, row(50));
+    let kept_zeros = back(&image, layout, true, row(50));
     (working == 700) & (kept == 700) & (working_zeros == 324) & (kept_zeros == 324)
 }
 
@@ -685,6 +740,42 @@ fn long() {
     long_saved(image, layout, touched);
 }
 
+// ---- the dropped edits
+
+// The drop of D5 cut after n orders, every store of which has arrived; what stands is opened and read.
+fn cut_drop(before: [u8; IMAGE], layout: Layout, dropped: &[u64], n: u64) {
+    let mut image = before;
+    let mut trace = [0u64; TAPE];
+    let played = replay::crpm_replay(&mut image, dropped, n);
+    print_number(b"D5 cut=", played.played);
+    reopen(&mut image, layout, &mut trace, 29);
+}
+
+// D5 to D11: the drops, cuts of the first of them, the save, and an opening of what it left.
+fn drops(edited: [u8; IMAGE], layout: Layout, stand: Stand) {
+    let mut image = edited;
+    let mut trace = [0u64; TAPE];
+    let dropped = history(&mut image, &mut trace, stand, 44, 45);
+    cut_drop(edited, layout, &trace, 0);
+    cut_drop(edited, layout, &trace, 1);
+    cut_drop(edited, layout, &trace, 32);
+    history(&mut image, &mut trace, dropped, 45, 50);
+    print(b"D11");
+    reopen(&mut image, layout, &mut trace, 35);
+}
+
+// D1 to D4; and what follows.
+fn edits() {
+    let layout = Layout::new(MAINS, BACKUPS, BLOCKS);
+    let mut image = [7u8; IMAGE];
+    let mut trace = [0u64; TAPE];
+    print(b"D1");
+    let stand = open(&mut image, layout, &mut trace);
+    print(b"\n");
+    let touched = history(&mut image, &mut trace, stand, 40, 44);
+    drops(image, layout, touched);
+}
+
 fn main() {
     let mut image = [7u8; IMAGE];
     let mut trace = [0u64; TAPE];
@@ -694,4 +785,5 @@ fn main() {
     p10();
     restart();
     long();
+    edits();
 }
