@@ -25,11 +25,11 @@
  *    checkpoint. That an opening is served is no sign that a format finished:
  *    keep a mark of your own, outside the image, set after crpm_flush_all.
  *  - Never format because an opening was refused; keep the dump first.
- *  - Hand to crpm_write and crpm_checkpoint only the session that the last call
- *    on this image wrote. Never one kept over a restart, never a copy of an
- *    earlier one: CRPM_BAD_SESSION does not catch every wrong one, and a wrong
- *    one that is served can turn the checkpoint to old bytes, or make it of
- *    bytes that nobody flushed. After a restart, open.
+ *  - Hand to crpm_write, crpm_discard and crpm_checkpoint only the session that
+ *    the last call on this image wrote. Never one kept over a restart, never a
+ *    copy of an earlier one: CRPM_BAD_SESSION does not catch every wrong one, and
+ *    a wrong one that is served can turn the checkpoint to old bytes, or make it
+ *    of bytes that nobody flushed. After a restart, open.
  *  - The image is the module's memory, mapped so that a flush reaches it. Its
  *    byte 0 stands at an address divisible by 64, and the processor's cache line
  *    is 64 bytes. Each store of a trace is one aligned 8-byte store.
@@ -84,10 +84,10 @@ extern "C" {
 #endif
 
 /* The version of this interface: its first number is raised whenever a signature
-   or a struct changes, its second when what a call does, or what is promised of
-   it, changes and programs need no change. `pkg-config --modversion crpm` says
-   the same. */
-#define CRPM_VERSION "2.0.0"
+   or a struct changes, its second when a call is added, or when what a call does,
+   or what is promised of it, changes and programs need no change.
+   `pkg-config --modversion crpm` says the same. */
+#define CRPM_VERSION "2.1.0"
 
 /* ---- the layout of an image */
 
@@ -131,26 +131,28 @@ extern "C" {
 #define CRPM_OP_CLWB 2   /* write back (flush) the line at a place divisible by 64; the word is 0 */
 #define CRPM_OP_SFENCE 3 /* wait for what was written back; place and word are 0 */
 
-/* Numbers of a trace that are always enough for an opening, a write and a
-   checkpoint of an image with M main segments and B blocks in each. A trace can
-   be larger than the image: with 64 of each the image has 2,097,664 bytes, and
+/* Numbers of a trace that are always enough for an opening, a write, a discard
+   and a checkpoint of an image with M main segments and B blocks in each. A trace
+   can be larger than the image: with 64 of each the image has 2,097,664 bytes, and
    the trace of its first opening 3,538,968. A write may be as long as a main
    segment: 32 words for each of its blocks, besides the copy. With a trace of
    the length that sufficed before version 1.2.0 it gets CRPM_TRACE_SHORT. */
 #define CRPM_OPEN_TRACE(M, B) ((size_t)CRPM_OP_NUMBERS * (36 * (size_t)(B) * (size_t)(M) + 1))
 #define CRPM_WRITE_TRACE(B) ((size_t)CRPM_OP_NUMBERS * (36 * (size_t)(B) + 6 + 32 * (size_t)(B)))
+#define CRPM_DISCARD_TRACE(B) ((size_t)CRPM_OP_NUMBERS * 32 * (size_t)(B))
 #define CRPM_CHECKPOINT_TRACE(M, B) ((size_t)CRPM_OP_NUMBERS * (4 * (size_t)(B) * (size_t)(M) + 14))
 
-/* Numbers that are always enough for all three: the greatest of them. With one
-   main segment that is a write's, with more mostly an opening's; a checkpoint
-   never needs as many as an opening. */
+/* Numbers that are always enough for all four: the greatest of them. With one
+   main segment that is a write's, with more mostly an opening's; a discard never
+   needs as many as a write, a checkpoint never as many as an opening. */
 #define CRPM_TRACE(M, B) \
     (CRPM_OPEN_TRACE(M, B) > CRPM_WRITE_TRACE(B) ? CRPM_OPEN_TRACE(M, B) : CRPM_WRITE_TRACE(B))
 
 /* ---- the session */
 
 /* What is known of an image since it was opened. crpm_open writes it, crpm_write
-   and crpm_checkpoint take it and write it again; nobody else changes it. */
+   and crpm_checkpoint take it and write it again, crpm_discard takes it and leaves
+   it as it is; nobody else changes it. */
 struct crpm_session {
     uint64_t mains;          /* main segments */
     uint64_t backups;        /* backup segments */
@@ -255,6 +257,27 @@ uint64_t crpm_write(
     struct crpm_client *clients, size_t clients_length, uint64_t client,
     uint64_t main, uint64_t block, uint64_t offset,
     const uint8_t *bytes, size_t bytes_length,
+    uint64_t *trace, size_t trace_length,
+    uint64_t *ops);
+
+/* Drops what was written to a main segment since the last checkpoint: once its
+   operations are carried out, the working bytes of the main segment are those of
+   the checkpoint. For each dirty block of a dirty main segment they are 32 stores,
+   upward: its words as they stand in the backup segment, or zeros if no checkpoint
+   has bytes of this main segment. None is flushed, and there is no fence. A main
+   segment that is not dirty gets no operation, and then any trace is long enough,
+   even one of no numbers. Writes to `ops` the number of operations.
+
+   Takes the session that the last call on the image wrote, and leaves it as it is:
+   the main segment and its blocks stay dirty, since a later checkpoint must still
+   flush them. Where no checkpoint had bytes of the main segment, that one has:
+   zeros. No client is charged, and the backup segment stays in use until then. A
+   power cut inside the call or after it shows the last checkpoint, as one inside a
+   write does. Refusals in order: 1 to 6, 11. */
+uint64_t crpm_discard(
+    const uint8_t *image, size_t image_length,
+    const struct crpm_session *session,
+    uint64_t main,
     uint64_t *trace, size_t trace_length,
     uint64_t *ops);
 

@@ -221,6 +221,19 @@ static uint64_t write_bytes(struct bench *t)
     return status;
 }
 
+/* A discard leaves the session as it came, served or not, and every client. */
+static uint64_t discard(struct bench *t)
+{
+    struct crpm_session as_it_came = t->session;
+    uint64_t status;
+    before_call(t);
+    status = after_call(t, crpm_discard(t->image, t->image_length, &t->session, t->main, t->trace,
+                                        t->trace_length, &t->ops), &as_it_came);
+    CHECK(memcmp(&t->session, &as_it_came, sizeof as_it_came) == 0);
+    CHECK(memcmp(t->clients, t->lent, sizeof t->lent) == 0);
+    return status;
+}
+
 static uint64_t checkpoint(struct bench *t)
 {
     struct crpm_session as_it_came = t->session;
@@ -230,7 +243,8 @@ static uint64_t checkpoint(struct bench *t)
                                                        &t->ops), &as_it_came));
 }
 
-/* Names the write that comes next, of the same client. */
+/* Names the write that comes next, of the same client, or the main segment of a
+   discard. */
 static struct bench *at(struct bench *t, uint64_t main, uint64_t block, uint64_t offset,
                         const uint8_t *bytes, size_t length)
 {
@@ -596,6 +610,125 @@ static void longer_than_4_gib(void)
     free(bytes);
 }
 
+/* ---- discards: two main segments, one backup segment, two blocks in each. `want`
+   is the image by the specification, kept up step by step. */
+
+/* A discard of a main segment with a trace of so many numbers. */
+static uint64_t discard_with(struct bench *t, uint64_t main, size_t numbers)
+{
+    size_t whole = t->trace_length;
+    uint64_t status;
+    t->main = main;
+    t->trace_length = numbers;
+    status = discard(t);
+    t->trace_length = whole;
+    return status;
+}
+
+/* Operation n of the last call stores this word at this place. */
+static int stores(const struct bench *t, size_t n, uint64_t place, uint64_t word)
+{
+    const uint64_t *op = t->trace + CRPM_OP_NUMBERS * n;
+    return op[0] == CRPM_OP_STORE && op[1] == place && op[2] == word;
+}
+
+/* No operation, whatever the trace, for a main segment that nobody wrote to. */
+static void discard_nothing(struct bench *t, uint64_t main)
+{
+    SERVED(discard_with(t, main, 0));
+    CHECK(t->ops == 0);
+    SERVED(discard_with(t, main, t->trace_length));
+    CHECK(t->ops == 0);
+}
+
+/* An edit of block 1 of main segment 0, which no checkpoint has: zeros instead. Then
+   another edit, which stays, and a checkpoint. */
+static void discard_to_zeros(struct bench *t, uint8_t *want)
+{
+    STEP(discard_nothing(t, 0));
+    SERVED(write_bytes(at(t, 0, 1, 8, ONE, 8)));
+    STEP(play(t, 1, 0, 0));
+    RETURNS(discard_with(t, 0, 95), CRPM_TRACE_SHORT, 11);
+    SERVED(discard_with(t, 0, 96));
+    CHECK(stores(t, 0, 768, 0) && stores(t, 1, 776, 0) && stores(t, 31, 1016, 0));
+    STEP(play(t, 32, 0, 0));
+    CHECK(memcmp(t->image, want, 2048) == 0);
+    STEP(session_is(t, 1, 2, 0));
+    STEP(reads_at(t, 0, 1, 768, 0));
+    STEP(discard_nothing(t, 1));
+    RETURNS(discard_with(t, 2, 0), CRPM_NO_SUCH_MAIN, 6);
+    RETURNS(discard_with(t, UINT64_MAX, 0), CRPM_NO_SUCH_MAIN, 6);
+
+    SERVED(write_bytes(at(t, 0, 1, 16, TWO, 8)));
+    STEP(play(t, 1, 0, 0));
+    SERVED(checkpoint(t));
+    STEP(play(t, 9, 6, 3));
+    memcpy(want + 784, TWO, 8);
+    want[192] = 1;
+    put_word(want, 0, 1);
+    CHECK(memcmp(t->image, want, 2048) == 0);
+    STEP(session_is(t, 0, 2, 0));
+    STEP(discard_nothing(t, 0)); /* its block is dirty, and it is not */
+}
+
+/* Edits of both blocks, the first of which copies the main segment: the bytes of its
+   backup segment instead. What was copied stays so, and a checkpoint flushes both. */
+static void discard_from_backup(struct bench *t, uint8_t *want)
+{
+    static uint8_t saved[2048];
+    memcpy(saved, want, 2048);
+    SERVED(write_bytes(at(t, 0, 0, 0, ONE, 8)));
+    STEP(play(t, 67, 10, 2));
+    SERVED(write_bytes(at(t, 0, 1, 16, ONE, 8)));
+    STEP(play(t, 1, 0, 0));
+    memcpy(want + 1536, want + 512, 512);
+    want[192] = 2;
+    want[256] = 0;
+    RETURNS(discard_with(t, 0, 191), CRPM_TRACE_SHORT, 11);
+    SERVED(discard_with(t, 0, 192));
+    CHECK(stores(t, 0, 512, 0) && stores(t, 32, 768, 0) && stores(t, 34, 784, 0x0909090909090909));
+    STEP(play(t, 64, 0, 0));
+    CHECK(memcmp(t->image, want, 2048) == 0);
+    CHECK(same(t, saved));
+    STEP(session_is(t, 1, 3, 0));
+    STEP(reads_at(t, 0, 1, 768, 1792));
+    SERVED(discard(t));
+    STEP(play(t, 64, 0, 0)); /* once more, the same */
+    CHECK(memcmp(t->image, want, 2048) == 0);
+    SERVED(checkpoint(t));
+    STEP(play(t, 9, 10, 3));
+    CHECK(state_of(t, 0) == CRPM_SS_MAIN && same(t, saved));
+}
+
+/* A main segment that no checkpoint had is in the next one, of zeros, once it was
+   written to, even if that was discarded. */
+static void discard_and_checkpoint(struct bench *t)
+{
+    CHECK(state_of(t, 1) == CRPM_SS_INITIAL);
+    SERVED(write_bytes(at(t, 1, 0, 0, ONE, 8)));
+    STEP(play(t, 1, 0, 0));
+    SERVED(discard(t));
+    STEP(play(t, 32, 0, 0));
+    SERVED(checkpoint(t));
+    STEP(play(t, 9, 14, 3));
+    CHECK(state_of(t, 1) == CRPM_SS_MAIN && all(t->image + 1024, 512, 0));
+    STEP(reads_at(t, 1, 0, 1024, 1024));
+}
+
+static void discards(void)
+{
+    static uint8_t want[2048];
+    struct bench t;
+    start(&t, 2, 1, 2);
+    SERVED(open_image(&t));
+    STEP(play(&t, 128, 16, 1));
+    memcpy(want, t.image, 2048);
+    discard_to_zeros(&t, want);
+    discard_from_backup(&t, want);
+    discard_and_checkpoint(&t);
+    finish(&t);
+}
+
 /* ---- places, at sizes that all differ: 3 main segments, 2 backup segments, 4 blocks */
 
 static uint8_t shade(uint64_t main, uint64_t block)
@@ -711,21 +844,21 @@ static void needs(struct bench *t, bench_call *call, size_t length, size_t numbe
     t->trace_length = whole;
 }
 
-/* Numbers that an opening, a write and a checkpoint need at most. */
+/* Numbers that an opening, a write, a discard and a checkpoint need at most. */
 struct lengths {
     uint64_t mains, backups, blocks;
-    size_t image, opening, write, checkpoint;
+    size_t image, opening, write, discard, checkpoint;
 };
 
 static const struct lengths LENGTHS[] = {
-    {1, 1, 1, 1024, 111, 222, 54},
-    {2, 1, 1, 1280, 219, 222, 66},
-    {1, 1, 4, 2560, 435, 834, 90},
-    {2, 2, 2, 2560, 435, 426, 90},
-    {3, 2, 5, 6912, 1623, 1038, 222},
-    {64, 1, 1, 17152, 6915, 222, 810},
-    {1, 1, CRPM_MOST, 33280, 6915, 13074, 810},
-    {CRPM_MOST, CRPM_MOST, CRPM_MOST, 2097664, 442371, 13074, 49194},
+    {1, 1, 1, 1024, 111, 222, 96, 54},
+    {2, 1, 1, 1280, 219, 222, 96, 66},
+    {1, 1, 4, 2560, 435, 834, 384, 90},
+    {2, 2, 2, 2560, 435, 426, 192, 90},
+    {3, 2, 5, 6912, 1623, 1038, 480, 222},
+    {64, 1, 1, 17152, 6915, 222, 96, 810},
+    {1, 1, CRPM_MOST, 33280, 6915, 13074, 6144, 810},
+    {CRPM_MOST, CRPM_MOST, CRPM_MOST, 2097664, 442371, 13074, 6144, 49194},
 };
 
 /* The last main segment, in state 1 and unpaired, is written whole: then every block is dirty, and no other
@@ -769,7 +902,7 @@ static void trace_lengths_of(const struct lengths *of)
         STEP(needs(&t, open_image, CRPM_TRACE(of->mains, of->blocks), of->opening));
     SERVED(open_image(&t));
 
-    /* a checkpoint of which every block is dirty */
+    /* a discard and a checkpoint of which every block is dirty */
     for (i = 0; i < of->mains; i++)
         for (b = 0; b < of->blocks; b++) {
             SERVED(crpm_write(t.image, t.image_length, &t.session, t.clients, t.clients_length, 0, i, b, 0,
@@ -778,6 +911,8 @@ static void trace_lengths_of(const struct lengths *of)
         }
     CHECK(t.session.dirty_segments == UINT64_MAX >> (64 - of->mains));
     CHECK(t.session.dirty_blocks[of->mains - 1] == UINT64_MAX >> (64 - of->blocks));
+    t.main = of->mains - 1;
+    STEP(needs(&t, discard, CRPM_DISCARD_TRACE(of->blocks), of->discard));
     STEP(needs(&t, checkpoint, CRPM_CHECKPOINT_TRACE(of->mains, of->blocks), of->checkpoint));
     SERVED(checkpoint(&t));
     STEP(play(&t, 9, 4 * of->mains * of->blocks + 2, 3));
@@ -796,7 +931,7 @@ static void trace_lengths(void)
     for (m = 1; m <= 64; m++)
         for (b = 1; b <= 64; b++) {
             uint64_t opening = 108 * b * m + 3, write = 204 * b + 18;
-            if (CRPM_TRACE(m, b) != (opening > write ? opening : write))
+            if (CRPM_TRACE(m, b) != (opening > write ? opening : write) || CRPM_DISCARD_TRACE(b) != 96 * b)
                 wrong++;
         }
     CHECK(wrong == 0);
@@ -808,6 +943,7 @@ static void trace_lengths(void)
     CHECK(CRPM_BACKUP_AT(1 | 2, 1 | 4, 1 | 4) == 10752);
     CHECK(CRPM_OPEN_TRACE(1 | 2, 1 | 4) == 1623 && CRPM_TRACE(1 | 2, 1 | 4) == 1623);
     CHECK(CRPM_WRITE_TRACE(1 | 4) == 1038 && CRPM_TRACE(0 | 1, 1 | 4) == 1038);
+    CHECK(CRPM_DISCARD_TRACE(1 | 4) == 480);
     CHECK(CRPM_CHECKPOINT_TRACE(1 | 2, 1 | 4) == 222);
 }
 
@@ -938,7 +1074,7 @@ static uint64_t same_second(struct bench *t)
     return status;
 }
 
-/* Write and checkpoint have their sizes in the session. */
+/* Write, discard and checkpoint have their sizes in the session. */
 static void take_sizes(struct bench *t)
 {
     t->session.mains = t->mains;
@@ -950,6 +1086,12 @@ static uint64_t write_with_sizes(struct bench *t)
 {
     take_sizes(t);
     return write_bytes(t);
+}
+
+static uint64_t discard_with_sizes(struct bench *t)
+{
+    take_sizes(t);
+    return discard(t);
 }
 
 static uint64_t checkpoint_with_sizes(struct bench *t)
@@ -1016,6 +1158,7 @@ static void refusals(void)
     opened = t; /* a refused opening leaves a session of zeros */
     STEP(refused_layouts(open_image, &opened));
     STEP(refused_layouts(write_with_sizes, &t));
+    STEP(refused_layouts(discard_with_sizes, &t));
     STEP(refused_layouts(checkpoint_with_sizes, &t));
     STEP(refused_layouts(read_working, &t));
     STEP(refused_layouts(read_checkpoint, &t));
@@ -1033,6 +1176,8 @@ static void refusals(void)
     free(other);
 
     STEP(refused_sessions(write_bytes, &t));
+    none = t;
+    STEP(refused_sessions(discard, at(&none, 3, 0, 0, ONE, 1))); /* 5 before 6 */
     STEP(refused_sessions(checkpoint, &t));
     STEP(refused_blocks(read_working, &t));
     STEP(refused_blocks(read_checkpoint, &t));
@@ -1047,8 +1192,12 @@ static void refusals(void)
     RETURNS(write_bytes(at(&none, 2, 1, 255, ONE, 2)), CRPM_BAD_SPAN, 8);
     RETURNS(write_bytes(at(&none, 2, 0, 255, ONE, 2)), CRPM_NO_FREE_BACKUP, 9);
     RETURNS(write_bytes(at(&none, 1, 0, 255, ONE, 1)), CRPM_TRACE_SHORT, 11);
+    RETURNS(discard(at(&none, 3, 0, 0, ONE, 1)), CRPM_NO_SUCH_MAIN, 6); /* 6 before 11 */
+    RETURNS(discard(at(&none, 1, 0, 0, ONE, 1)), CRPM_TRACE_SHORT, 11);
+    SERVED(discard(at(&none, 2, 0, 0, ONE, 1)));
     RETURNS(checkpoint(&none), CRPM_TRACE_SHORT, 11);
     RETURNS(open_image(&none), CRPM_TRACE_SHORT, 11);
+    RETURNS(discard(&none), CRPM_BAD_SIZE, 1); /* with a session of zeros */
     finish(&t);
 }
 
@@ -1071,6 +1220,9 @@ static void epoch_limit(void)
     none.trace_length = 0;
     RETURNS(checkpoint(&none), CRPM_EPOCH_LIMIT, 10);
     SERVED(write_bytes(at(&t, 0, 0, 0, TWO, 8)));
+    STEP(play(&t, 35, 6, 2));
+    SERVED(discard(&t));
+    STEP(play(&t, 32, 0, 0));
     SERVED(open_image(&t));
     finish(&t);
 }
@@ -1079,11 +1231,11 @@ static void epoch_limit(void)
    block. One backup segment is reserved for each; client 0 may take two, client 1
    all three. */
 
-enum { OPEN, WRITE, CHECKPOINT };
+enum { OPEN, WRITE, DISCARD, CHECKPOINT };
 
 static const struct step {
     int call;
-    uint64_t client, main; /* of a write, of the first 8 bytes */
+    uint64_t client, main; /* of a write, of the first 8 bytes; main of a discard */
     uint64_t status, ops;
     uint64_t used[2]; /* after it */
 } STEPS[] = {
@@ -1100,6 +1252,9 @@ static const struct step {
     {WRITE, 1, 2, CRPM_BACKUPS_RESERVED, 0, {0, 2}},
     {WRITE, 0, 2, CRPM_SERVED, 43, {1, 2}},
     {WRITE, 0, 3, CRPM_NO_FREE_BACKUP, 0, {1, 2}},
+    {DISCARD, 0, 2, CRPM_SERVED, 32, {1, 2}}, /* its backup segment stays in use */
+    {WRITE, 0, 3, CRPM_NO_FREE_BACKUP, 0, {1, 2}},
+    {WRITE, 0, 2, CRPM_SERVED, 1, {1, 2}}, /* dirty still */
     {WRITE, 0, 0, CRPM_SERVED, 1, {1, 2}}, /* client 1 had it copied */
     {CHECKPOINT, 0, 0, CRPM_SERVED, 34, {0, 0}},
     {WRITE, 0, 0, CRPM_SERVED, 41, {1, 0}}, /* its dirty block to its own backup segment */
@@ -1108,6 +1263,7 @@ static const struct step {
     {WRITE, 1, 3, CRPM_SERVED, 43, {2, 1}},       /* client 0 has used more than its own */
     {OPEN, 0, 0, CRPM_SERVED, 109, {0, 0}},
     {WRITE, 0, 2, CRPM_NO_FREE_BACKUP, 0, {0, 0}}, /* three are still in use */
+    {DISCARD, 0, 0, CRPM_SERVED, 0, {0, 0}},       /* restored, and not written to since */
     {WRITE, 1, 0, CRPM_SERVED, 1, {0, 0}},         /* in state 2 nothing is copied */
     {CHECKPOINT, 0, 0, CRPM_SERVED, 18, {0, 0}},
     {OPEN, 0, 0, CRPM_SERVED, 109, {0, 0}},
@@ -1119,7 +1275,7 @@ static const struct step {
 
 static void two_clients(void)
 {
-    static bench_call *const CALLS[] = {open_image, write_bytes, checkpoint};
+    static bench_call *const CALLS[] = {open_image, write_bytes, discard, checkpoint};
     struct bench t;
     uint64_t played;
     size_t i;
@@ -1334,6 +1490,7 @@ int main(int count, char **arguments)
     long_writes();
     long_marks();
     longer_than_4_gib();
+    discards();
     places();
     trace_lengths();
     refusals();

@@ -38,6 +38,7 @@ static uintptr_t entered;
 CALL(format, MAINS, BACKUPS, BLOCKS)
 CALL(open, MAINS, BACKUPS, BLOCKS, SESSION_AND_CLIENTS, LENT_TRACE)
 CALL(write, SESSION_AND_CLIENTS, 0, 1, 1, 1, bytes, sizeof bytes, LENT_TRACE)
+CALL(discard, &session, 1, LENT_TRACE)
 CALL(checkpoint, SESSION_AND_CLIENTS, LENT_TRACE)
 CALL(replay, trace, CRPM_OP_NUMBERS * (size_t)ops, ops, &played)
 CALL(read_working, MAINS, BACKUPS, BLOCKS, 1, 1, &start, &size)
@@ -81,6 +82,8 @@ int main(void)
     checkpoint();
     replay();
     show("write", write);
+    replay();
+    show("discard", discard);
     replay();
     show("checkpoint", checkpoint);
     replay();

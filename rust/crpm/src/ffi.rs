@@ -116,6 +116,16 @@ extern "C" {
         trace_length: usize,
         ops: *mut u64,
     ) -> u64;
+    /// Drops what was written to a main segment since the last checkpoint.
+    pub fn crpm_discard(
+        image: *const u8,
+        image_length: usize,
+        session: *const Session,
+        main: u64,
+        trace: *mut u64,
+        trace_length: usize,
+        ops: *mut u64,
+    ) -> u64;
     /// Makes the working bytes the checkpoint.
     pub fn crpm_checkpoint(
         image: *const u8,

@@ -98,14 +98,20 @@ impl Layout {
         OP_NUMBERS * (36 * self.blocks + 6 + 32 * self.blocks)
     }
 
+    /// Numbers of a trace that are always enough for a discard: every word of a
+    /// main segment.
+    pub const fn discard_trace_length(self) -> usize {
+        OP_NUMBERS * 32 * self.blocks
+    }
+
     /// Numbers of a trace that are always enough for a checkpoint.
     pub const fn checkpoint_trace_length(self) -> usize {
         OP_NUMBERS * (4 * self.blocks * self.mains + 14)
     }
 
-    /// Numbers of a trace that are always enough for all three: the greatest of
+    /// Numbers of a trace that are always enough for all four: the greatest of
     /// them. With one main segment that is a write's, with more mostly an
-    /// opening's.
+    /// opening's; a discard never needs as many as a write.
     pub const fn trace_length(self) -> usize {
         let (open, write) = (self.open_trace_length(), self.write_trace_length());
         let greater = if open > write { open } else { write };

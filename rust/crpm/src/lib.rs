@@ -4,7 +4,7 @@
 //! cache may have written back any of the lines that were waiting, so an update
 //! in place can leave any mixture of old and new. This library, which is proved
 //! in Rattle, keeps a checkpoint whole through every such cut; this crate is its
-//! C interface (`include/crpm.h`) for Rust: the same eight calls by the same
+//! C interface (`include/crpm.h`) for Rust: the same nine calls by the same
 //! names, in the same order of parameters.
 //!
 //! An *image* is the contents of the module's memory. A call reads it and
@@ -102,9 +102,9 @@ pub const VERSION: &str = env!("CARGO_PKG_VERSION");
 /// What is known of an image since it was opened: which main segments and
 /// blocks were written to.
 ///
-/// [`open`] makes it, [`write()`] and [`checkpoint`] take it and change it; a
-/// refused call leaves it as it was. It has the layout of `struct
-/// crpm_session`, so that a pointer to one of C can be cast.
+/// [`open`] makes it, [`write()`] and [`checkpoint`] take it and change it,
+/// [`discard`] only reads it; a refused call leaves it as it was. It has the
+/// layout of `struct crpm_session`, so that a pointer to one of C can be cast.
 #[derive(PartialEq, Eq, Debug)]
 #[repr(transparent)]
 pub struct Session(ffi::Session);
@@ -259,6 +259,75 @@ pub fn write<'t>(
             offset as u64,
             bytes.as_ptr(),
             bytes.len(),
+            trace.as_mut_ptr(),
+            trace.len(),
+            &mut ops,
+        )
+    })?;
+    Ok(Ops::first(trace, ops))
+}
+
+/// Drops what was written to a main segment since the last checkpoint: once its
+/// operations are carried out, the working bytes of the main segment are those of
+/// the checkpoint.
+///
+/// For each dirty block of a dirty main segment they are 32 stores, upward: its
+/// words as they stand in the backup segment, or zeros if no checkpoint has bytes of
+/// this main segment. None is flushed, and there is no fence. A main segment that is
+/// not dirty gets no operation, and then any trace is long enough, even one of no
+/// numbers. The session stays: the main segment and its blocks stay dirty, since a
+/// later checkpoint must still flush them. No client is charged, and the backup
+/// segment stays in use until the checkpoint. A power cut inside the call or after it
+/// shows the last checkpoint, as one inside a write does.
+///
+/// ```
+/// # fn main() -> Result<(), crpm::Refusal> {
+/// let layout = crpm::Layout::new(2, 1, 1)?;
+/// let mut image = vec![0; layout.image_size()];
+/// let mut trace = vec![0; layout.trace_length()];
+/// let mut clients = [crpm::Client::new(1, 1)];
+/// crpm::format(&mut image, layout)?;
+/// let (mut session, ops) = crpm::open(&image, layout, &mut clients, &mut trace)?;
+/// crpm::replay(&mut image, ops, ops.len())?; // stands for carrying out
+/// let ops = crpm::write(&image, &mut session, &mut clients, 0, 0, 0, 6, b"oboe", &mut trace)?;
+/// crpm::replay(&mut image, ops, ops.len())?;
+/// let ops = crpm::checkpoint(&image, &mut session, &mut clients, &mut trace)?;
+/// crpm::replay(&mut image, ops, ops.len())?;
+///
+/// // an edit, and its end
+/// let ops = crpm::write(&image, &mut session, &mut clients, 0, 0, 0, 6, b"flue", &mut trace)?;
+/// crpm::replay(&mut image, ops, ops.len())?;
+/// assert_eq!(&crpm::read_working(&image, layout, 0, 0)?[6..10], b"flue");
+/// let ops = crpm::discard(&image, &session, 0, &mut trace)?;
+/// assert_eq!(ops.len(), 32); // one dirty block
+/// crpm::replay(&mut image, ops, ops.len())?;
+/// assert_eq!(&crpm::read_working(&image, layout, 0, 0)?[6..10], b"oboe");
+/// assert_eq!(session.words().dirty_segments, 1);
+///
+/// // nobody wrote to main segment 1
+/// assert!(crpm::discard(&image, &session, 1, &mut [])?.is_empty());
+/// # Ok(())
+/// # }
+/// ```
+///
+/// # Errors
+///
+/// In this order: [`Refusal::BadLength`] to [`Refusal::NoSuchMain`],
+/// [`Refusal::TraceShort`].
+pub fn discard<'t>(
+    image: &[u8],
+    session: &Session,
+    main: usize,
+    trace: &'t mut [u64],
+) -> Result<Ops<'t>, Refusal> {
+    let mut ops = 0;
+    // SAFETY: as in `open`.
+    served(unsafe {
+        ffi::crpm_discard(
+            image.as_ptr(),
+            image.len(),
+            &session.0,
+            main as u64,
             trace.as_mut_ptr(),
             trace.len(),
             &mut ops,
