@@ -4,7 +4,8 @@
  *
  *     module format FILE      makes FILE an empty image
  *     module run FILE [N]     opens the image and makes what is still to be
- *                             made of a history of writes and checkpoints
+ *                             made of a history of writes, discards and
+ *                             checkpoints
  *     module show FILE [N]    opens the image and says which checkpoint it shows
  *
  * With N the process is killed (SIGKILL) once N operations are carried out.
@@ -88,52 +89,78 @@ static void served(const char *call, uint64_t status)
 
 enum { CHECKPOINTS = 4 };
 
-/* Each write with the number of the checkpoint that it comes before, and what it
-   hears. Two run on over the end of a block. One is refused: the gallery has taken
-   its backup segment, and the other is reserved for the stage, which writes next.
+/* Each edit with the number of the checkpoint that it comes before, and what it
+   hears: a write, or a discard of what was written to a main segment since the last
+   checkpoint. Two writes run on over the end of a block. One is refused: the gallery
+   has taken its backup segment, and the other is reserved for the stage, which writes
+   next. The discards are of a main segment that was copied, whose bytes come back
+   from its backup segment, and of one that no checkpoint has, which is zeros again.
    No checkpoint comes after the last write: no opening shows it. */
-static const struct write {
-    int checkpoint;
-    uint64_t console, main, block, offset;
+enum { WRITE, DISCARD };
+
+static const struct edit {
+    int checkpoint, call;
+    uint64_t console, main, block, offset; /* of a discard only `main` counts */
     size_t length;
     uint64_t status;
-} writes[] = {
-    {1, STAGE, 0, 0, 6, 4, CRPM_SERVED},
-    {2, STAGE, 0, 0, 244, 24, CRPM_SERVED},
-    {2, GALLERY, 1, 1, 248, 8, CRPM_SERVED},
-    {3, GALLERY, 1, 0, 250, 12, CRPM_SERVED},
-    {3, STAGE, 0, 1, 0, 8, CRPM_SERVED},
-    {3, GALLERY, 2, 0, 100, 20, CRPM_SERVED},
-    {4, GALLERY, 2, 0, 0, 8, CRPM_SERVED},
-    {4, GALLERY, 0, 0, 0, 8, CRPM_BACKUPS_RESERVED},
-    {4, STAGE, 1, 1, 8, 8, CRPM_SERVED},
-    {CHECKPOINTS + 1, STAGE, 1, 0, 0, 8, CRPM_SERVED},
+} edits[] = {
+    {1, WRITE, STAGE, 0, 0, 6, 4, CRPM_SERVED},
+    {2, WRITE, STAGE, 0, 0, 244, 24, CRPM_SERVED},
+    {2, WRITE, GALLERY, 1, 1, 248, 8, CRPM_SERVED},
+    {3, WRITE, GALLERY, 1, 0, 250, 12, CRPM_SERVED},
+    {3, DISCARD, 0, 1, 0, 0, 0, CRPM_SERVED},
+    {3, WRITE, STAGE, 0, 1, 0, 8, CRPM_SERVED},
+    {3, WRITE, GALLERY, 2, 1, 40, 8, CRPM_SERVED},
+    {3, DISCARD, 0, 2, 0, 0, 0, CRPM_SERVED},
+    {3, WRITE, GALLERY, 2, 0, 100, 20, CRPM_SERVED},
+    {4, WRITE, GALLERY, 2, 0, 0, 8, CRPM_SERVED},
+    {4, WRITE, GALLERY, 0, 0, 0, 8, CRPM_BACKUPS_RESERVED},
+    {4, WRITE, STAGE, 1, 1, 8, 8, CRPM_SERVED},
+    {CHECKPOINTS + 1, WRITE, STAGE, 1, 0, 0, 8, CRPM_SERVED},
 };
 
-enum { WRITES = sizeof writes / sizeof writes[0], LONGEST = 24 };
+enum { EDITS = sizeof edits / sizeof edits[0], LONGEST = 24 };
 
-/* The bytes that write w stores; no two writes share one, and none is zero. */
-static const uint8_t *bytes_of(size_t w)
+/* The bytes that edit e writes; no two writes share one, and none is zero. */
+static const uint8_t *bytes_of(size_t e)
 {
     static uint8_t bytes[LONGEST];
-    size_t i;
-    for (i = 0; i < writes[w].length; i++)
-        bytes[i] = (uint8_t)(LONGEST * w + i + 1);
+    size_t i, before = 0;
+    for (i = 0; i < e; i++)
+        before += edits[i].length;
+    for (i = 0; i < edits[e].length; i++)
+        bytes[i] = (uint8_t)(before + i + 1);
     return bytes;
 }
 
 typedef uint8_t page[MAINS][BLOCKS][CRPM_BLOCK_SIZE];
 
-/* Every block as checkpoint k holds it: zeros, and on them all writes that came
+/* What an edit that was served makes of a page, where the last checkpoint holds
+   these bytes. */
+static void make_edit(size_t e, page blocks, page saved)
+{
+    const struct edit *made = &edits[e];
+    if (made->call == DISCARD)
+        memcpy(blocks[made->main], saved[made->main], sizeof saved[made->main]);
+    else
+        memcpy((uint8_t *)blocks[made->main] + CRPM_BLOCK_SIZE * made->block + made->offset, bytes_of(e),
+               made->length);
+}
+
+/* Every block as checkpoint k holds it: zeros, and on them all edits that came
    before and were served. The library has no part in this. */
 static void make_page(int k, page blocks)
 {
-    size_t w;
+    page saved;
+    size_t e;
+    int next;
     memset(blocks, 0, sizeof(page));
-    for (w = 0; w < WRITES; w++)
-        if (writes[w].checkpoint <= k && writes[w].status == CRPM_SERVED)
-            memcpy((uint8_t *)blocks[writes[w].main] + CRPM_BLOCK_SIZE * writes[w].block + writes[w].offset,
-                   bytes_of(w), writes[w].length);
+    for (next = 1; next <= k; next++) {
+        memcpy(saved, blocks, sizeof(page));
+        for (e = 0; e < EDITS; e++)
+            if (edits[e].checkpoint == next && edits[e].status == CRPM_SERVED)
+                make_edit(e, blocks, saved);
+    }
 }
 
 /* ---- the module: a mapping, 64-byte aligned as every mapping is */
@@ -253,18 +280,27 @@ static void open_image(uint8_t *image, struct crpm_session *session)
 
 /* A write that is refused leaves everything as it was. A program for a board would
    tell the console why: a checkpoint frees every backup segment. */
-static void write_bytes(uint8_t *image, struct crpm_session *session, size_t w)
+static void write_bytes(uint8_t *image, struct crpm_session *session, size_t e)
 {
     uint64_t ops;
-    const uint64_t status = crpm_write(image, IMAGE_SIZE, session, consoles, CONSOLES, writes[w].console,
-                                       writes[w].main, writes[w].block, writes[w].offset, bytes_of(w),
-                                       writes[w].length, trace, TRACE, &ops);
-    if (status == CRPM_BACKUPS_RESERVED && status == writes[w].status) {
+    const uint64_t status = crpm_write(image, IMAGE_SIZE, session, consoles, CONSOLES, edits[e].console,
+                                       edits[e].main, edits[e].block, edits[e].offset, bytes_of(e),
+                                       edits[e].length, trace, TRACE, &ops);
+    if (status == CRPM_BACKUPS_RESERVED && status == edits[e].status) {
         printf("write: %" PRIu64 " operations, refused with %" PRIu64 "\n", ops, status);
         return;
     }
     served("write", status);
     carry_out(image, "write", ops);
+}
+
+/* Drops what the consoles wrote to a main segment since the last checkpoint. The
+   session stays as it is: the next checkpoint must flush what is stored here. */
+static void discard_edits(uint8_t *image, const struct crpm_session *session, uint64_t main_segment)
+{
+    uint64_t ops;
+    served("discard", crpm_discard(image, IMAGE_SIZE, session, main_segment, trace, TRACE, &ops));
+    carry_out(image, "discard", ops);
 }
 
 static void make_checkpoint(uint8_t *image, struct crpm_session *session)
@@ -315,12 +351,14 @@ static int shown(const uint8_t *image)
 static void run(uint8_t *image, struct crpm_session *session)
 {
     int k = shown(image) + 1;
-    size_t w;
+    size_t e;
     make_checkpoint(image, session);
     for (; k <= CHECKPOINTS + 1; k++) {
-        for (w = 0; w < WRITES; w++)
-            if (writes[w].checkpoint == k)
-                write_bytes(image, session, w);
+        for (e = 0; e < EDITS; e++)
+            if (edits[e].checkpoint == k && edits[e].call == DISCARD)
+                discard_edits(image, session, edits[e].main);
+            else if (edits[e].checkpoint == k)
+                write_bytes(image, session, e);
         if (k <= CHECKPOINTS)
             make_checkpoint(image, session);
     }

@@ -1,5 +1,5 @@
 /*
- * Power lost in the middle of a checkpoint.
+ * Power lost in the middle of a checkpoint, and an edit that is dropped.
  *
  * Formats an image of two main segments, one backup segment and one block in
  * each, opens it, writes the bytes a1 b2 c3 d4 at offset 6 of main segment 0,
@@ -11,6 +11,10 @@
  * stores the epoch, 17 flushes its line and 18 is the fence that waits for
  * it. So after 16 and after 17 that line may have arrived or not, and both
  * are shown.
+ *
+ * Once the checkpoint is finished the bytes are edited, and the edit is
+ * discarded: the bytes of the checkpoint stand again. Power that fails among the
+ * operations of the discard shows that checkpoint too.
  *
  * The image is ordinary memory here, and crpm_replay stores into it. On a
  * module, flush every line after the format and at each start before the
@@ -37,8 +41,9 @@ enum { MAINS = 2, BACKUPS = 1, BLOCKS = 1 };
    A run lent after a restart starts so. */
 static const struct crpm_client CLIENT = {BACKUPS, BACKUPS, 0};
 
-/* What is written, and where in block 0 of main segment 0. */
+/* What is written, and where in block 0 of main segment 0; what it is edited to. */
 static const uint8_t BYTES[] = {0xa1, 0xb2, 0xc3, 0xd4};
+static const uint8_t EDIT[] = {0xe5, 0xf6, 0x07, 0x18};
 enum { OFFSET = 6 };
 
 static void fail(const char *what)
@@ -108,6 +113,12 @@ static const uint8_t *working_block(const uint8_t *image)
     return image + start;
 }
 
+/* Prints the bytes that stand where BYTES were written. */
+static void show_bytes(const uint8_t *block)
+{
+    printf("%02x %02x %02x %02x", block[OFFSET], block[OFFSET + 1], block[OFFSET + 2], block[OFFSET + 3]);
+}
+
 /* Whether two images have the same checkpoint. */
 static int same_checkpoint(const uint8_t *a, const uint8_t *b)
 {
@@ -130,15 +141,14 @@ static void show_checkpoint(const uint8_t *before, const uint8_t *image)
     if (memcmp(block, zeros, CRPM_BLOCK_SIZE) == 0)
         printf("zeros");
     else if (memcmp(block, written, CRPM_BLOCK_SIZE) == 0)
-        printf("%02x %02x %02x %02x", block[OFFSET], block[OFFSET + 1], block[OFFSET + 2],
-               block[OFFSET + 3]);
+        show_bytes(block);
     else
         fail("the block is neither the old one nor the new one");
     printf(", %s\n", same_checkpoint(before, image) ? "the old checkpoint" : "the new checkpoint");
 }
 
-/* Loses power after n operations of the checkpoint, with the line of the
-   epoch arrived or not, opens again, and shows the checkpoint. */
+/* Loses power after n operations of a call, with the line of the epoch arrived
+   or not, opens again, and shows the checkpoint. */
 static void lose_power(const uint8_t *before, const uint64_t *trace, uint64_t ops, uint64_t n,
                        int arrived)
 {
@@ -153,18 +163,11 @@ static void lose_power(const uint8_t *before, const uint64_t *trace, uint64_t op
     show_checkpoint(before, image);
 }
 
-int main(void)
+/* Makes a checkpoint, with power lost in it, and finishes it. */
+static void make_checkpoint(uint8_t *image, struct crpm_session *session, struct crpm_client *client)
 {
-    static uint8_t image[IMAGE_SIZE];
-    struct crpm_session session;
-    struct crpm_client client = CLIENT;
     uint64_t trace[TRACE_LENGTH], ops, n;
-
-    served("format", crpm_format(image, IMAGE_SIZE, MAINS, BACKUPS, BLOCKS));
-    printf("format: %zu bytes\n", IMAGE_SIZE);
-    printf("open: %" PRIu64 " operations\n", reopen(image, &session, &client));
-    write_bytes(image, &session, &client);
-    served("checkpoint", crpm_checkpoint(image, IMAGE_SIZE, &session, &client, 1, trace, TRACE_LENGTH, &ops));
+    served("checkpoint", crpm_checkpoint(image, IMAGE_SIZE, session, client, 1, trace, TRACE_LENGTH, &ops));
     printf("checkpoint: %" PRIu64 " operations\n", ops);
 
     printf("power lost after 15 operations: ");
@@ -177,6 +180,51 @@ int main(void)
     }
     printf("power lost after 18 operations: ");
     lose_power(image, trace, ops, 18, 1);
+    replay(image, trace, ops, ops);
+}
+
+/* Edits the bytes, which copies the main segment to its backup segment first. */
+static void edit_bytes(uint8_t *image, struct crpm_session *session, struct crpm_client *client)
+{
+    uint64_t trace[TRACE_LENGTH], ops;
+    served("write", crpm_write(image, IMAGE_SIZE, session, client, 1, 0, 0, 0, OFFSET, EDIT, sizeof EDIT,
+                               trace, TRACE_LENGTH, &ops));
+    replay(image, trace, ops, ops);
+    printf("edit: %" PRIu64 " operations, ", ops);
+    show_bytes(working_block(image));
+    printf(" stand, ");
+    show_bytes(checkpoint_block(image));
+    printf(" are saved\n");
+}
+
+/* Drops the edit, with power lost while one of its two words is as it was and
+   the other not. The session stays: the next checkpoint flushes the block. */
+static void drop_edit(uint8_t *image, const struct crpm_session *session)
+{
+    uint64_t trace[TRACE_LENGTH], ops;
+    served("discard", crpm_discard(image, IMAGE_SIZE, session, 0, trace, TRACE_LENGTH, &ops));
+    printf("discard: %" PRIu64 " operations\n", ops);
+    printf("power lost after 1 operation: ");
+    lose_power(image, trace, ops, 1, 1);
+    replay(image, trace, ops, ops);
+    printf("after the discard: ");
+    show_bytes(working_block(image));
+    printf(" stand\n");
+}
+
+int main(void)
+{
+    static uint8_t image[IMAGE_SIZE];
+    struct crpm_session session;
+    struct crpm_client client = CLIENT;
+
+    served("format", crpm_format(image, IMAGE_SIZE, MAINS, BACKUPS, BLOCKS));
+    printf("format: %zu bytes\n", IMAGE_SIZE);
+    printf("open: %" PRIu64 " operations\n", reopen(image, &session, &client));
+    write_bytes(image, &session, &client);
+    make_checkpoint(image, &session, &client);
+    edit_bytes(image, &session, &client);
+    drop_edit(image, &session);
 
     return fflush(stdout) == 0 && !ferror(stdout) ? EXIT_SUCCESS : EXIT_FAILURE;
 }
