@@ -415,9 +415,36 @@ fn long_span(rng: &mut Rng, own: usize, left: usize) -> usize {
     .max(1)
 }
 
+/// The level of a discard, mostly one that there is.
+pub fn discarding(rng: &mut Rng, sizes: Sizes) -> u64 {
+    let levels = sizes.levels.clamp(1, MOST);
+    match rng.once_in(16) {
+        true => rng.pick(&[levels, levels + 1, 64, 1 << 32, u64::MAX]),
+        false => rng.below(levels as usize) as u64,
+    }
+}
+
+/// The level of a discard on this card, as often one that is touched as any.
+pub fn discarding_on(rng: &mut Rng, card: &Card, sizes: Sizes) -> u64 {
+    let touched: Vec<u64> = (0..MOST).filter(|level| card.touched >> level & 1 == 1).collect();
+    match touched.is_empty() || rng.once_in(2) {
+        true => discarding(rng, sizes),
+        false => rng.pick(&touched),
+    }
+}
+
 /// Any call of a history with this run: good ones mostly, refused ones of each
-/// kind too, some lent another run.
+/// kind too, some lent another run. One in six is a discard, which is lent none.
 pub fn call(rng: &mut Rng, sizes: Sizes, own: &[Console]) -> Call {
+    if rng.once_in(6) {
+        let room = sizes.discard_room();
+        let tape = match rng.below(4) {
+            0 => rng.below(room + 1),
+            1 => rng.below(3),
+            _ => room + rng.below(3),
+        };
+        return Call { deed: Deed::Discard(discarding(rng, sizes)), lent: None, tape };
+    }
     let lent = rng.once_in(12).then(|| any_run(rng, sizes));
     let deed = match rng.below(20) {
         0..=12 => {

@@ -54,8 +54,11 @@ pub struct Bench<'a, C: Calls> {
 #[derive(Clone)]
 pub struct Ran {
     pub answer: Answer,
-    /// The numbers of its orders.
+    /// How many numbers its tape had, and those of its orders.
+    pub tape: usize,
     pub orders: Vec<u64>,
+    /// The card as it was lent and as it was left.
+    pub card_lent: Card,
     pub card: Card,
     /// The run as it was lent and as it was left.
     pub lent: Vec<Console>,
@@ -66,10 +69,22 @@ pub struct Ran {
 }
 
 impl Ran {
-    /// The call as a tally is fed it.
-    pub fn seen<'a>(&'a self, call: &'a Call) -> Seen<'a> {
-        let Ran { answer, lent, left, before, dump, .. } = self;
-        Seen { deed: &call.deed, number: answer.number, lent, left, before, after: dump }
+    /// Feeds a tally the call, whose orders are well formed.
+    pub fn feed(&self, tally: &mut Tally, call: &Call) -> Result<Tried, String> {
+        let orders = orders_of(&self.orders, self.dump.len()).ok_or("an order is ill formed")?;
+        let Ran { answer, tape, card_lent, card, lent, left, before, dump, .. } = self;
+        tally.feed(Seen {
+            deed: &call.deed,
+            number: answer.number,
+            tape: *tape,
+            orders: &orders,
+            card: card_lent,
+            card_left: card,
+            lent,
+            left,
+            before,
+            after: dump,
+        })
     }
 }
 
@@ -84,17 +99,19 @@ impl<'a, C: Calls> Bench<'a, C> {
     /// Runs a call, with rubbish on its tape, which is so many numbers longer than
     /// the call asks for, and plays its orders.
     pub fn run(&mut self, call: &Call, longer: usize) -> Ran {
-        let mut tape = self.rubbish.numbers(call.tape + longer);
+        let tape = call.tape + longer;
+        let mut orders = self.rubbish.numbers(tape);
         let lent = call.lent.as_ref().unwrap_or(&self.run).clone();
-        let mut left = lent.clone();
-        let answer = call.deed.make(self.calls, &self.image, &mut self.card, &mut left, &mut tape);
+        let (card_lent, mut left) = (self.card, lent.clone());
+        let answer = call.deed.make(self.calls, &self.image, &mut self.card, &mut left, &mut orders);
         if call.lent.is_none() {
             self.run.clone_from(&left);
         }
-        tape.truncate(answer.orders.saturating_mul(3) as usize);
+        orders.truncate(answer.orders.saturating_mul(3) as usize);
         let before = self.image.clone();
-        self.calls.play(&mut self.image, &tape, answer.orders);
-        Ran { answer, orders: tape, card: self.card, lent, left, before, dump: self.image.clone() }
+        self.calls.play(&mut self.image, &orders, answer.orders);
+        let (card, dump) = (self.card, self.image.clone());
+        Ran { answer, tape, orders, card_lent, card, lent, left, before, dump }
     }
 }
 
@@ -207,7 +224,7 @@ pub fn random_histories<C: Calls>(calls: &C, seed: u64, histories: u64) -> Outco
             let second = other.run(&call, longer);
             let told = format!("history {number}, sizes {sizes}: {call}");
             same(&told, &first, &second)?;
-            let fed = tally.feed(first.seen(&call));
+            let fed = first.feed(&mut tally, &call);
             tried.add(fed.map_err(|what| format!("{told}: {what}"))?);
             ran += 1;
         }

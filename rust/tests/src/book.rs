@@ -12,6 +12,8 @@ use std::fmt;
 pub enum Deed {
     Open(Sizes),
     Write(Target, Vec<u8>),
+    /// The unsaved edits of a level are dropped.
+    Discard(u64),
     Save,
 }
 
@@ -28,6 +30,7 @@ impl Deed {
         match self {
             Deed::Open(sizes) => calls.open(image, *sizes, card, run, tape),
             Deed::Write(target, bytes) => calls.write(image, card, run, *target, bytes, tape),
+            Deed::Discard(level) => calls.discard(image, card, *level, tape),
             Deed::Save => calls.save(image, card, run, tape),
         }
     }
@@ -37,6 +40,7 @@ impl fmt::Display for Deed {
     fn fmt(&self, f: &mut fmt::Formatter) -> fmt::Result {
         match self {
             Deed::Open(sizes) => write!(f, "open {sizes}"),
+            Deed::Discard(level) => write!(f, "discard of level {level}"),
             Deed::Save => write!(f, "save"),
             Deed::Write(target, bytes) => {
                 let (Target { console, level, frame, offset }, length) = (target, bytes.len());
@@ -106,11 +110,20 @@ impl Book {
             _ if !served => {}
             Deed::Open(_) => self.working.clone_from(&self.saved),
             Deed::Save => self.saved.clone_from(&self.working),
+            Deed::Discard(level) => self.drop_edits(*level as usize),
             Deed::Write(target, bytes) => {
                 self.put(*target, bytes);
                 self.working.set |= 1 << target.level;
             }
         }
+    }
+
+    /// Puts the saved bytes of a level into the working page. A level that was
+    /// written stays one that the next save sets.
+    fn drop_edits(&mut self, level: usize) {
+        let length = FRAME * self.sizes.frames as usize;
+        let own = length * level..length * (level + 1);
+        self.working.frames[own.clone()].copy_from_slice(&self.saved.frames[own]);
     }
 
     /// Puts bytes into the working page, one after the other, over the ends of

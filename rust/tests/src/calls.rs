@@ -69,6 +69,12 @@ impl Sizes {
         3 * (36 * self.frames as usize + 6 + FRAME / WORD * self.frames as usize)
     }
 
+    /// A tape of this many numbers is long enough for every discard: every word of
+    /// a level stored.
+    pub fn discard_room(self) -> usize {
+        3 * FRAME / WORD * self.frames as usize
+    }
+
     /// A tape of this many numbers is long enough for every save.
     pub fn save_room(self) -> usize {
         3 * (4 * (self.levels * self.frames) as usize + 14)
@@ -76,7 +82,7 @@ impl Sizes {
 
     /// A tape of this many numbers is long enough for every call.
     pub fn room(self) -> usize {
-        self.opening_room().max(self.write_room()).max(self.save_room())
+        self.opening_room().max(self.write_room()).max(self.discard_room()).max(self.save_room())
     }
 }
 
@@ -218,7 +224,8 @@ pub enum Page {
 }
 
 /// The calls of sections 4, 6 and 9 to 13. A run is lent to those that know
-/// consoles.
+/// consoles. A discard is lent its card like a write, so that one is noticed that
+/// changes it.
 pub trait Calls {
     fn lay_out(&self, image: &mut [u8], sizes: Sizes) -> u64;
     fn open(
@@ -238,6 +245,7 @@ pub trait Calls {
         bytes: &[u8],
         tape: &mut [u64],
     ) -> Answer;
+    fn discard(&self, image: &[u8], card: &mut Card, level: u64, tape: &mut [u64]) -> Answer;
     fn save(&self, image: &[u8], card: &mut Card, run: &mut [Console], tape: &mut [u64]) -> Answer;
     fn play(&self, image: &mut [u8], tape: &[u64], n: u64) -> Answer;
     fn read(&self, page: Page, image: &[u8], sizes: Sizes, level: u64, frame: u64) -> Part;

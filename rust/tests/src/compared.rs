@@ -5,16 +5,18 @@
 //! difference is kept. The caller gets what the tested one gave, so the explorer
 //! over a `Compared` is a history through the tested one, held against the other
 //! step by step. The numbers that each call knows are those of section 14.
-//! Writes are counted by their spans and calls by the records (`laws`).
+//! Writes are counted by their spans, calls by the records, and discards by what
+//! they store (`laws`).
 
-use crate::book::{told, Deed};
+use crate::book::{state_of, told, Deed};
 use crate::calls::*;
-use crate::laws::{Charges, Spans};
+use crate::laws::{Charges, Discards, Spans};
 use std::cell::{Cell, RefCell};
 use std::collections::BTreeMap;
 
 /// The numbers that each call knows, 0 for served.
-const LISTED: [(&str, &[u64]); 7] = [
+const LISTED: [(&str, &[u64]); 8] = [
+    ("discard", &[0, 1, 2, 3, 4, 5, 6, 11]),
     ("lay_out", &[0, 1, 2]),
     ("like", &[0, 1, 2, 3, 4]),
     ("open", &[0, 1, 2, 3, 4, 11, 13]),
@@ -48,6 +50,7 @@ fn name_of(deed: &Deed) -> &'static str {
     match deed {
         Deed::Open(_) => "open",
         Deed::Write(..) => "write",
+        Deed::Discard(_) => "discard",
         Deed::Save => "save",
     }
 }
@@ -62,6 +65,7 @@ pub struct Compared<'a, G: Calls, T: Calls> {
     answers: RefCell<BTreeMap<(&'static str, u64), u64>>,
     spans: Cell<Spans>,
     charges: Cell<Charges>,
+    discards: Cell<Discards>,
     differences: Cell<u64>,
     first: RefCell<Option<String>>,
 }
@@ -69,8 +73,8 @@ pub struct Compared<'a, G: Calls, T: Calls> {
 impl<'a, G: Calls, T: Calls> Compared<'a, G, T> {
     pub fn new(good: &'a G, tested: &'a T) -> Compared<'a, G, T> {
         let (answers, first, differences) = (RefCell::default(), RefCell::default(), Cell::new(0));
-        let (spans, charges) = (Cell::default(), Cell::default());
-        Compared { good, tested, answers, spans, charges, differences, first }
+        let (spans, charges, discards) = (Cell::default(), Cell::default(), Cell::default());
+        Compared { good, tested, answers, spans, charges, discards, differences, first }
     }
 
     /// How many writes of each kind of span were compared.
@@ -81,6 +85,11 @@ impl<'a, G: Calls, T: Calls> Compared<'a, G, T> {
     /// How many calls of each kind that the records decide were compared.
     pub fn charges(&self) -> Charges {
         self.charges.get()
+    }
+
+    /// How many discards of each kind were compared.
+    pub fn discards(&self) -> Discards {
+        self.discards.get()
     }
 
     /// How many calls were compared.
@@ -131,7 +140,10 @@ impl<'a, G: Calls, T: Calls> Compared<'a, G, T> {
         let (mut card_due, mut run_due, mut tape_due) = (given, lent.clone(), tape.to_vec());
         let due = deed.make(self.good, image, &mut card_due, &mut run_due, &mut tape_due);
         let got = deed.make(self.tested, image, card, run, tape);
-        self.count(deed, image, &given, &lent, due.number, run_due != lent);
+        match deed {
+            Deed::Discard(level) => self.count_discard(*level, image, &given, tape.len(), due.number),
+            _ => self.count(deed, image, &given, &lent, due.number, run_due != lent),
+        }
         let same = (got, &*card, &*run) == (due, &card_due, &run_due) && tape_due == tape && kept == image;
         self.judge(name_of(deed), due.number, same, || {
             let (told, lent) = (tapes(tape, &tape_due), told(&lent));
@@ -151,6 +163,7 @@ impl<'a, G: Calls, T: Calls> Compared<'a, G, T> {
         match deed {
             Deed::Open(sizes) => charges.feed(None, lent, sizes.spares, number),
             Deed::Save => charges.feed(None, lent, card.sizes.spares, number),
+            Deed::Discard(_) => {}
             Deed::Write(target, bytes) => {
                 charges.feed(Some(target.console), lent, card.sizes.spares, number);
                 if [0, 14, 15].contains(&number) {
@@ -165,6 +178,16 @@ impl<'a, G: Calls, T: Calls> Compared<'a, G, T> {
         }
         self.charges.set(charges);
         self.spans.set(spans);
+    }
+
+    /// Counts a discard by what it stores, from the image and the card that it got.
+    fn count_discard(&self, level: u64, image: &[u8], card: &Card, tape: usize, number: u64) {
+        if [0, 11].contains(&number) {
+            let (mut discards, level) = (self.discards.get(), level as usize);
+            let (touched, state) = (card.touched >> level & 1 == 1, state_of(image, level));
+            discards.feed(number, touched, state, card.marks[level], tape);
+            self.discards.set(discards);
+        }
     }
 
     fn judge(&self, call: &'static str, number: u64, same: bool, tell: impl Fn() -> String) {
@@ -208,6 +231,10 @@ impl<G: Calls, T: Calls> Calls for Compared<'_, G, T> {
         tape: &mut [u64],
     ) -> Answer {
         self.both(&Deed::Write(target, bytes.to_vec()), image, card, run, tape)
+    }
+
+    fn discard(&self, image: &[u8], card: &mut Card, level: u64, tape: &mut [u64]) -> Answer {
+        self.both(&Deed::Discard(level), image, card, &mut [], tape)
     }
 
     fn save(&self, image: &[u8], card: &mut Card, run: &mut [Console], tape: &mut [u64]) -> Answer {

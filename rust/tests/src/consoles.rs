@@ -14,7 +14,7 @@ use crate::book::{told, Call, Deed};
 use crate::calls::*;
 use crate::explore::*;
 use crate::groups::{add, all_found, due, laid_out, metadata_of, plain, starts, states, Going};
-use crate::laws::{never_at, EMPTY_KEPT, OF_SPANS};
+use crate::laws::{never_at, EMPTY_KEPT, OF_DISCARDS, OF_SPANS, TO_ZEROS};
 use crate::report::Outcome;
 
 /// A console at the start of a level.
@@ -42,6 +42,7 @@ type Row = (&'static str, Call, (u64, u64), [u64; 2]);
 fn rows() -> Vec<Row> {
     let (stage, gallery) = (|level| word(SIZES, STAGE, level, 1), |level| word(SIZES, GALLERY, level, 2));
     let (open, save) = (plain(Deed::Open(SIZES), SIZES), plain(Deed::Save, SIZES));
+    let discard = |level| plain(Deed::Discard(level), SIZES);
     let short = Call { tape: 14, ..gallery(3) };
     let too_much = Call { lent: Some(vec![Console::new(2, 2); 2]), ..save.clone() };
     let mut rows: Vec<Row> =
@@ -59,8 +60,12 @@ fn rows() -> Vec<Row> {
         ("the level has a spare and one mark", stage(0), (0, 41), [1, 0]),
         ("above its share", stage(1), (0, 41), [2, 0]),
         ("at its limit, and one that is free is kept", stage(2), (14, 0), [2, 0]),
+        ("its edits are dropped, the spare stays taken", discard(1), (0, 32), [2, 0]),
+        ("at its limit still", stage(2), (14, 0), [2, 0]),
+        ("the level is still touched", gallery(1), (0, 1), [2, 0]),
         ("the stage above its share has none unused", gallery(3), (0, 43), [2, 1]),
         ("three levels are restored", open.clone(), (0, 109), [0, 0]),
+        ("a restored level is not touched", discard(1), (0, 0), [0, 0]),
         ("below its share, but not since a save", stage(2), (9, 0), [0, 0]),
         ("a restored level is not copied", gallery(0), (0, 1), [0, 0]),
         ("one frame is marked", save.clone(), (0, 18), [0, 0]),
@@ -101,12 +106,13 @@ fn runs_of_two(spares: u64) -> Vec<[Console; 2]> {
     pairs.filter(|[first, second]| first.share + second.share <= spares).collect()
 }
 
-/// The calls of short histories: a save, an opening and a write of each console to
-/// each level; at the end of a history also calls that the records or the tape
-/// refuse.
+/// The calls of short histories: a save, an opening, a discard and a write of each
+/// console to each level; at the end of a history also calls that the records or the
+/// tape refuse.
 fn alphabet(sizes: Sizes, depth: usize, at: usize) -> Vec<Call> {
     let writers = (0..2).flat_map(|console| (0..sizes.levels).map(move |level| (console, level)));
     let mut calls = vec![plain(Deed::Save, sizes), plain(Deed::Open(sizes), sizes)];
+    calls.push(plain(Deed::Discard(0), sizes));
     calls.extend(writers.map(|(console, level)| word(sizes, console, level, at)));
     if at + 1 == depth {
         let (first, no_such) = (word(sizes, 0, 0, at), word(sizes, 2, 0, at));
@@ -114,6 +120,7 @@ fn alphabet(sizes: Sizes, depth: usize, at: usize) -> Vec<Call> {
         let wrapping = vec![Console::new(1 << 63, u64::MAX); 2];
         calls.extend([
             Call { tape: 0, ..first.clone() },
+            Call { tape: 0, ..plain(Deed::Discard(0), sizes) },
             no_such,
             Call { lent: Some(bad.clone()), ..first },
             Call { deed: Deed::Write(start_of(0, 0), vec![]), lent: Some(bad), tape: 0 },
@@ -144,7 +151,8 @@ pub fn of_two<C: Calls>(calls: &C, sizes: Sizes, depth: usize, runs: usize, plan
         add(&mut total, Counts { histories, ..explorer.counts() });
     }
     let mut left_out = [never_at(sizes), OF_SPANS.to_vec()].concat();
-    left_out.extend((sizes.spares > 1).then_some(EMPTY_KEPT));
+    left_out.extend([EMPTY_KEPT, TO_ZEROS].iter().filter(|_| sizes.spares > 1));
+    left_out.extend(OF_DISCARDS.iter().filter(|_| depth < 3));
     total.tried.all_tried(&left_out)?;
     Ok(all_found(total))
 }

@@ -10,7 +10,7 @@ use crate::calls::*;
 use std::cell::Cell;
 
 /// What is spoiled, by the call that it belongs to; those of a deed belong to
-/// opening, write or save.
+/// opening, write, discard or save.
 #[derive(Clone, Copy, PartialEq, Eq, Debug)]
 pub enum Spoil {
     LaidOutNumber,
@@ -41,6 +41,7 @@ pub enum Spoil {
 pub enum CallKind {
     Open,
     Write,
+    Discard,
     Save,
 }
 
@@ -50,10 +51,12 @@ impl Spoil {
         use Spoil::*;
         let mut all = vec![LaidOutNumber, LaidOutImage, PlayedNumber, PlayedOrders, PlayedImage];
         all.extend([ReadNumber, ReadStart, ReadLength, LikeNumber, Likeness]);
-        for deed in [CallKind::Open, CallKind::Write, CallKind::Save] {
+        for deed in [CallKind::Open, CallKind::Write, CallKind::Discard, CallKind::Save] {
             all.extend([Number, Orders, CardSizes, CardTouched, CardMarks].map(|kind| kind(deed)));
-            all.extend([RunShare, RunLimit, RunTaken].map(|kind| kind(deed)));
             all.extend([TapeKind, TapePlace, TapeWord, TapeBehind].map(|kind| kind(deed)));
+            if deed != CallKind::Discard {
+                all.extend([RunShare, RunLimit, RunTaken].map(|kind| kind(deed)));
+            }
         }
         all
     }
@@ -88,7 +91,8 @@ impl<'a, C: Calls> Corrupted<'a, C> {
         left == 0
     }
 
-    /// Spoils what opening, write or save answers and leaves.
+    /// Spoils what opening, write, discard or save answers and leaves; a discard has
+    /// no run.
     fn answered(
         &self,
         deed: CallKind,
@@ -161,6 +165,11 @@ impl<C: Calls> Calls for Corrupted<'_, C> {
     ) -> Answer {
         let answer = self.calls.write(image, card, run, target, bytes, tape);
         self.answered(CallKind::Write, answer, card, run, tape)
+    }
+
+    fn discard(&self, image: &[u8], card: &mut Card, level: u64, tape: &mut [u64]) -> Answer {
+        let answer = self.calls.discard(image, card, level, tape);
+        self.answered(CallKind::Discard, answer, card, &mut [], tape)
     }
 
     fn save(&self, image: &[u8], card: &mut Card, run: &mut [Console], tape: &mut [u64]) -> Answer {

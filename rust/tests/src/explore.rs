@@ -7,7 +7,7 @@
 //! lent any run that 13 does not refuse, and the first opening that finishes must
 //! be served and show a permitted page. The faults of section 18 are caught by it
 //! (`selftest`). After each call both reads must give the book's pages, and the
-//! laws of sections 11.5, 10.9, 3.4, 10.10 and 15.7 must hold (`laws`).
+//! laws of sections 11.5, 10.9, 3.4, 10.10, 15.7 and 10.12 must hold (`laws`).
 //!
 //! A page is shown only if the levels that were never set, and no others, are
 //! empty: a little more than the demand asks, as a level of zeros would do.
@@ -85,7 +85,8 @@ distinct: images that differ, over all cuts; each is opened again once
 restored levels settled, empty levels kept: those in state 2 and in state 0 that nobody had touched, at served saves
 spares taken: by writes that needed a new one; passed over: with a lower one whose level was in state 2
 long writes: served writes over several frames; refusals 8: those by one of its conditions alone
-shares needed: copying writes of a console below its share, since a save, while another was above its own";
+shares needed: copying writes of a console below its share, since a save, while another was above its own
+discards from a spare, to zeros: of marked frames of touched levels; untouched levels get no order, whatever the tape";
 
 /// A history in progress: what stands, the card last answered, the consoles'
 /// records as the last call left them, the book, and the tally of the laws.
@@ -203,7 +204,7 @@ impl<'a, C: Calls> Explorer<'a, C> {
         let image = history.module.image().to_vec();
         let mut tape = vec![RUBBISH; call.tape];
         let lent = call.lent.clone().unwrap_or_else(|| history.run.clone());
-        let mut left = lent.clone();
+        let (card, mut left) = (history.card, lent.clone());
         let answer = self.call(&image, &mut history.card, &mut left, &call.deed, &mut tape)?;
         if call.lent.is_none() {
             history.run.clone_from(&left);
@@ -231,8 +232,18 @@ impl<'a, C: Calls> Explorer<'a, C> {
         }
         self.check_reads(history)?;
         if self.laws {
-            let (deed, number, after) = (&call.deed, answer.number, history.module.image());
-            let seen = Seen { deed, number, lent: &lent, left: &left, before: &image, after };
+            let seen = Seen {
+                deed: &call.deed,
+                number: answer.number,
+                tape: call.tape,
+                orders: &orders,
+                card: &card,
+                card_left: &history.card,
+                lent: &lent,
+                left: &left,
+                before: &image,
+                after: history.module.image(),
+            };
             let tried = history.tally.feed(seen);
             self.counts.tried.add(tried.map_err(|what| format!("{call}: {what}"))?);
         }

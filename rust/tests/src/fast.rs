@@ -565,6 +565,47 @@ fn part_of_word(image: &[u8], place: usize, skipped: usize, part: &[u8]) -> [u64
 }
 
 #[inline(never)]
+pub fn discard<F: Form>(
+    image: &[u8],
+    session: &Session,
+    level: u64,
+    tape: &mut [u64],
+    orders: &mut u64,
+) -> u64 {
+    answered(orders, discarding::<F>(image, session, level, tape))
+}
+
+/// The words of a frame of zeros.
+const ZEROS: [[u8; 8]; 32] = [[0; 8]; 32];
+
+fn discarding<F: Form>(image: &[u8], session: &Session, level: u64, tape: &mut [u64]) -> Result<usize, u64> {
+    let sizes = sizes_of(session);
+    let sound = Sound::of(image, sizes)?;
+    if !is_true(&sound, session) {
+        return Err(5);
+    }
+    if level >= sizes.levels {
+        return Err(6);
+    }
+    let level = level as usize;
+    if !has(session.dirty_segments, level) {
+        return Ok(0);
+    }
+    let mut marks = session.dirty_blocks[level];
+    let count = 32 * marks.count_ones() as usize;
+    let tape = tape.get_mut(..3 * count).ok_or(11u64)?;
+    let (own, spared) = (sizes.in_level(level, 0), has(sound.spared, level));
+    let saved = if spared { &image[sizes.in_spare(sound.spare_of(level), 0)..] } else { &[] };
+    for part in tape.chunks_exact_mut(96) {
+        let at = FRAME * marks.trailing_zeros() as usize;
+        let words = if spared { saved[at..at + FRAME].as_chunks().0 } else { &ZEROS };
+        F::store(part, own + at, words);
+        marks &= marks - 1;
+    }
+    Ok(count)
+}
+
+#[inline(never)]
 pub fn save(
     image: &[u8],
     session: &mut Session,
@@ -743,6 +784,16 @@ impl Calls for Fast {
             Fast::Chunked => write::<Chunked>(image, session, clients, target, bytes, tape, ops),
         };
         lent.answer(number, card, run)
+    }
+
+    fn discard(&self, image: &[u8], card: &mut Card, level: u64, tape: &mut [u64]) -> Answer {
+        let mut lent = Lent::of(card, &[]);
+        let Lent { session, ops, .. } = &mut lent;
+        let number = match self {
+            Fast::Indexed => discard::<Indexed>(image, session, level, tape, ops),
+            Fast::Chunked => discard::<Chunked>(image, session, level, tape, ops),
+        };
+        lent.answer(number, card, &mut [])
     }
 
     fn save(&self, image: &[u8], card: &mut Card, run: &mut [Console], tape: &mut [u64]) -> Answer {

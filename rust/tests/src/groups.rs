@@ -1,7 +1,7 @@
 //! Groups of checks that run over any implementation of the calls: the bench
 //! cases, every permitted image of single calls and short histories, random
-//! histories, and calls with any contents. `restart`, `long`, `consoles` and
-//! `benches` have more.
+//! histories, and calls with any contents. `restart`, `long`, `consoles`,
+//! `discards` and `benches` have more.
 //!
 //! `selftest` runs them over the reference, `differential` over the library.
 //! Each gives a line of counts or the first failure.
@@ -11,7 +11,9 @@ use crate::book::{state_of, Call, Deed};
 use crate::calls::*;
 use crate::crash::{permitted, Module};
 use crate::explore::*;
-use crate::laws::{never_at, Tried, OF_CONSOLES, OF_SPANS, OF_SPARES, PASSED_OVER, SHARES_NEEDED};
+use crate::laws::{
+    never_at, Tried, OF_CONSOLES, OF_DISCARDS, OF_SPANS, OF_SPARES, PASSED_OVER, SHARES_NEEDED,
+};
 use crate::prng::Rng;
 use crate::report::{Found, Outcome};
 
@@ -230,10 +232,10 @@ pub(crate) fn found(text: impl Into<String>, counts: Counts) -> Found {
     found
 }
 
-/// How often the laws were tried, in words; of spares, spans and consoles those
-/// that there were.
+/// How often the laws were tried, in words; of spares, spans, consoles and discards
+/// those that there were.
 pub(crate) fn laws_tried(tried: Tried) -> String {
-    let sometimes = [&OF_SPANS[..], &OF_SPARES, &OF_CONSOLES].concat();
+    let sometimes = [&OF_SPANS[..], &OF_SPARES, &OF_CONSOLES, &OF_DISCARDS].concat();
     let mut named = tried.named();
     named.retain(|(name, count)| *count > 0 || !sometimes.contains(name));
     let told: Vec<String> = named.iter().map(|(name, count)| format!("{count} {name}")).collect();
@@ -249,7 +251,8 @@ pub(crate) fn all_found(counts: Counts) -> Found {
 }
 
 /// Every permitted image of single calls with one frame a level, all words of
-/// levels and spares different: each call alone, and a save after each write.
+/// levels and spares different: each call alone, and after each write a save, and a
+/// discard and a save.
 pub fn single_calls<C: Calls>(calls: &C) -> Outcome {
     let sizes = Sizes::new(1, 1, 1);
     let mut total = Counts::default();
@@ -262,23 +265,40 @@ pub fn single_calls<C: Calls>(calls: &C) -> Outcome {
         for (offset, length) in spans {
             let mut history = start.clone();
             explorer.step(&mut history, &write_call(sizes, 0, offset, length, 0x90), Plan::ALL)?;
+            explorer.step(&mut history.clone(), &plain(Deed::Save, sizes), Plan::ALL)?;
+            explorer.step(&mut history, &plain(Deed::Discard(0), sizes), Plan::ALL)?;
             explorer.step(&mut history, &plain(Deed::Save, sizes), Plan::ALL)?;
         }
-        add(&mut total, Counts { histories: 2 + spans.len() as u64, ..explorer.counts() });
+        add(&mut total, Counts { histories: 2 + 2 * spans.len() as u64, ..explorer.counts() });
     }
     Ok(all_found(total))
 }
 
-/// The calls of short histories: a save, openings and writes. The bytes name
-/// the depth.
-fn alphabet(sizes: Sizes, depth: usize) -> Vec<Call> {
-    let value = 0x40 + 0x10 * depth as u8;
+/// The calls of short histories: a save, openings, discards and writes. The bytes
+/// name the depth.
+fn alphabet(sizes: Sizes, depth: usize, at: usize) -> Vec<Call> {
+    let value = 0x40 + 0x10 * at as u8;
     let mut calls = vec![plain(Deed::Save, sizes), plain(Deed::Open(sizes), sizes)];
+    calls.push(plain(Deed::Discard(0), sizes));
+    if at + 1 == depth {
+        calls.extend(last_discards(sizes));
+    }
     match sizes.frames {
         1 => calls.extend(in_one_frame(sizes, value)),
         _ => calls.extend(over_frames(sizes, value)),
     }
     calls
+}
+
+/// At the end of a history: discards of the last level, of a level that there is
+/// not, and with a tape a number short for one frame.
+fn last_discards(sizes: Sizes) -> Vec<Call> {
+    let short = Sizes { frames: 1, ..sizes }.discard_room() - 1;
+    vec![
+        plain(Deed::Discard(sizes.levels - 1), sizes),
+        plain(Deed::Discard(sizes.levels), sizes),
+        Call { tape: short, ..plain(Deed::Discard(0), sizes) },
+    ]
 }
 
 /// With one frame a level: a refused opening, writes to a line of each level
@@ -343,32 +363,44 @@ fn told_after(path: &[Call], what: String) -> String {
 
 /// Every history of `depth` calls from the alphabet, and with it each shorter
 /// one, from every start image, at every cut, over every permitted image. One
-/// call is enough to try each law that these sizes allow.
+/// call is enough to try each law that these sizes allow but those of discards,
+/// for which there must be three.
 pub fn short_histories<C: Calls>(calls: &C, sizes: Sizes, depth: usize) -> Outcome {
-    let total = all_short(|| Explorer::new(calls, sizes, 5), sizes, depth)?;
+    let starts = starts(sizes, &arbitrary::sparse_data(sizes));
+    let total = all_short(|| Explorer::new(calls, sizes, 5), sizes, depth, &starts)?;
     let mut left_out = never_at(sizes);
     left_out.extend(OF_CONSOLES);
     left_out.extend(OF_SPANS.iter().filter(|_| sizes.frames == 1));
+    left_out.extend(OF_DISCARDS.iter().filter(|_| depth < 3));
     total.tried.all_tried(&left_out)?;
     Ok(all_found(total))
 }
 
 /// The same with demand 3 and the book alone, for faults that must break them.
 pub fn short_histories_without_laws<C: Calls>(calls: &C, sizes: Sizes, depth: usize) -> Outcome {
-    all_short(|| Explorer::new(calls, sizes, 5).without_laws(), sizes, depth).map(all_found)
+    let starts = starts(sizes, &arbitrary::sparse_data(sizes));
+    all_short(|| Explorer::new(calls, sizes, 5).without_laws(), sizes, depth, &starts).map(all_found)
+}
+
+/// The same from images without an empty level.
+pub fn short_histories_of_set_levels<C: Calls>(calls: &C, sizes: Sizes, depth: usize) -> Outcome {
+    let mut starts = starts(sizes, &arbitrary::sparse_data(sizes));
+    starts.retain(|image| !states(image, sizes).contains(&0));
+    all_short(|| Explorer::new(calls, sizes, 5).without_laws(), sizes, depth, &starts).map(all_found)
 }
 
 fn all_short<'a, C: Calls + 'a>(
     explorer: impl Fn() -> Explorer<'a, C>,
     sizes: Sizes,
     depth: usize,
+    starts: &[Vec<u8>],
 ) -> Result<Counts, String> {
     let mut total = Counts::default();
-    let going = Going { alphabet: &|at| alphabet(sizes, at), depth, plan: Plan::ALL };
-    for image in starts(sizes, &arbitrary::sparse_data(sizes)) {
+    let going = Going { alphabet: &|at| alphabet(sizes, depth, at), depth, plan: Plan::ALL };
+    for image in starts {
         let mut explorer = explorer();
-        let tell = |what| format!("sizes {sizes}, {}: {what}", metadata_of(&image, sizes));
-        let start = explorer.start(&image, Plan::ALL).map_err(tell)?;
+        let tell = |what| format!("sizes {sizes}, {}: {what}", metadata_of(image, sizes));
+        let start = explorer.start(image, Plan::ALL).map_err(tell)?;
         let histories = going.descend(&mut explorer, &start, &mut Vec::new()).map_err(tell)?;
         add(&mut total, Counts { histories, ..explorer.counts() });
     }
@@ -454,6 +486,7 @@ pub fn any_contents<C: Calls>(calls: &C, seed: u64, rounds: usize, sizes: fn(&mu
         like_others(calls, &mut rng, &image, sizes, named);
         open_any(calls, &mut rng, &image, named);
         write_any(calls, &mut rng, &image, sizes);
+        discard_any(calls, &mut rng, &image, sizes);
         save_any(calls, &mut rng, &image, sizes);
         play_any(calls, &mut rng, &image);
     }
@@ -536,6 +569,20 @@ fn write_any<C: Calls>(calls: &C, rng: &mut Rng, image: &[u8], sizes: Sizes) {
         with_tapes(rng, sizes.write_room() + 6, |tape| {
             calls.write(image, &mut card.clone(), &mut run.clone(), target, &bytes, tape)
         });
+    }
+}
+
+/// A discard with all kinds of tapes, also of no numbers, and with the tape of all
+/// marked frames, which an untouched level does not need.
+fn discard_any<C: Calls>(calls: &C, rng: &mut Rng, image: &[u8], sizes: Sizes) {
+    for _ in 0..3 {
+        let card = arbitrary::card(rng, image, sizes);
+        let level = arbitrary::discarding_on(rng, &card, sizes);
+        let mut discard = |tape: &mut [u64]| calls.discard(image, &mut card.clone(), level, tape);
+        with_tapes(rng, sizes.discard_room() + 6, &mut discard);
+        discard(&mut []);
+        let marks = card.marks[level.min(MOST - 1) as usize].count_ones() as usize;
+        discard(&mut rng.words((3 * FRAME / WORD * marks).saturating_sub(1)));
     }
 }
 

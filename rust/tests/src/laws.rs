@@ -1,17 +1,19 @@
 //! The laws of section 11.5, counted over a history, refusal 8 by its conditions
-//! (section 10.9), which spare a write takes (section 3.4), and what is kept for
-//! consoles (sections 5.7, 10.10 and 15.7).
+//! (section 10.9), which spare a write takes (section 3.4), what is kept for
+//! consoles (sections 5.7, 10.10 and 15.7), and what a discard stores and leaves
+//! (sections 10.12 to 10.14).
 //!
-//! A tally is fed each call's arguments, its number, the run as it was lent and
-//! left, and the images before and after it, of which it reads states and pairs
-//! (section 2) by itself. The explorer feeds one in every history, so the laws are
-//! held against whatever histories are run over. What a write's span is follows
-//! from its arguments alone; writes over several frames are counted, and each of
-//! refusal 8's conditions where no other holds. A spare that is taken is known by
-//! the pair byte that changed, and is judged by the image before. That one run is
-//! lent on is known by the records: they are as the last call left them.
+//! A tally is fed each call's arguments, its number, tape and orders, card and run
+//! as they were lent and left, and the images before and after it, of which it
+//! reads states and pairs (section 2) by itself. The explorer feeds one in every
+//! history, so the laws are held against whatever histories are run over. What a
+//! write's span is follows from its arguments alone; writes over several frames are
+//! counted, and each of refusal 8's conditions where no other holds. A spare that is
+//! taken is known by the pair byte that changed, and is judged by the image before.
+//! That one run is lent on is known by the records: they are as the last call left
+//! them. Which levels are touched and which frames marked is known by the writes.
 
-use crate::book::{state_of, told, Deed};
+use crate::book::{saved_bytes, state_of, told, Deed};
 use crate::calls::*;
 
 /// A call of a history: what it was asked and lent, and what it answered and
@@ -20,6 +22,12 @@ use crate::calls::*;
 pub struct Seen<'a> {
     pub deed: &'a Deed,
     pub number: u64,
+    /// How many numbers its tape has, and the orders that it wrote there.
+    pub tape: usize,
+    pub orders: &'a [Order],
+    /// The card, and what the call left of it.
+    pub card: &'a Card,
+    pub card_left: &'a Card,
     /// The run, and what the call left of it.
     pub lent: &'a [Console],
     pub left: &'a [Console],
@@ -38,6 +46,9 @@ pub struct Tally {
     copied: u64,
     /// Levels written since, and since the last served opening, bit by bit.
     touched: u64,
+    /// Frames of each level written since the last served opening and since the
+    /// level was last copied, bit by bit.
+    marks: [u64; 64],
     /// The run as the last call left it.
     run: Vec<Console>,
     /// Is a console below its share kept from 9, 14 and 15 (section 15.7)? From a
@@ -68,6 +79,73 @@ pub struct Tried {
     pub spans: Spans,
     /// Calls by what the records say.
     pub heard: Heard,
+    /// Discards by what they store.
+    pub discards: Discards,
+}
+
+/// How many discards there were of each kind.
+#[derive(Clone, Copy, Default, PartialEq, Eq, Debug)]
+pub struct Discards {
+    /// Served, of marked frames of a touched level in state 2, and of an empty one.
+    pub from_spare: u64,
+    pub to_zeros: u64,
+    /// Served, of a touched level without a mark; no history has one.
+    pub of_no_frame: u64,
+    /// Served, of an untouched level.
+    pub untouched: u64,
+    /// Those of them with a tape too short for the marked frames of the level.
+    pub short: u64,
+    /// Refused with 11.
+    pub elevens: u64,
+}
+
+impl Discards {
+    /// Counts a discard that heard 0 or 11, of a level with this state and these
+    /// marks, with so many numbers of a tape.
+    pub fn feed(&mut self, number: u64, touched: bool, state: u8, marks: u64, tape: usize) {
+        let kind = match (number, touched) {
+            (0, true) if marks == 0 => &mut self.of_no_frame,
+            (0, true) if state == 0 => &mut self.to_zeros,
+            (0, true) => &mut self.from_spare,
+            (0, false) => &mut self.untouched,
+            _ => &mut self.elevens,
+        };
+        *kind += 1;
+        self.short += u64::from(number == 0 && !touched && tape < 3 * stores_of(marks));
+    }
+
+    pub fn add(&mut self, other: Discards) {
+        self.from_spare += other.from_spare;
+        self.to_zeros += other.to_zeros;
+        self.of_no_frame += other.of_no_frame;
+        self.untouched += other.untouched;
+        self.short += other.short;
+        self.elevens += other.elevens;
+    }
+
+    /// The counts under the names that are printed.
+    pub fn named(self) -> [(&'static str, u64); 6] {
+        let Discards { from_spare, to_zeros, of_no_frame, untouched, short, elevens } = self;
+        let [of_spare, of_zeros, of_untouched, of_short, of_elevens] = OF_DISCARDS;
+        [
+            (of_spare, from_spare),
+            (of_zeros, to_zeros),
+            (of_untouched, untouched),
+            (of_short, short),
+            (of_elevens, elevens),
+            (OF_NO_FRAME, of_no_frame),
+        ]
+    }
+
+    /// Fails if one kind was never tried.
+    pub fn all_tried(self) -> Result<(), String> {
+        none_is_zero(&self.named(), &[])
+    }
+}
+
+/// How many words the marked frames have.
+fn stores_of(marks: u64) -> usize {
+    FRAME / WORD * marks.count_ones() as usize
 }
 
 /// How many calls heard each of the refusals of consoles, and how often a share
@@ -268,11 +346,12 @@ impl Tried {
         self.taken.add(other.taken);
         self.spans.add(other.spans);
         self.heard.add(other.heard);
+        self.discards.add(other.discards);
     }
 
     /// The counts under the names that are printed.
     pub fn named(self) -> Vec<(&'static str, u64)> {
-        let Tried { saves, settled, empty, copies, nines, taken, spans, heard } = self;
+        let Tried { saves, settled, empty, copies, nines, taken, spans, heard, discards } = self;
         let mut named = vec![
             ("served saves", saves),
             ("restored levels settled", settled),
@@ -283,6 +362,7 @@ impl Tried {
         named.extend(taken.named());
         named.extend(spans.named());
         named.extend(heard.named());
+        named.extend(discards.named().into_iter().filter(|(name, _)| *name != OF_NO_FRAME));
         named
     }
 
@@ -335,6 +415,17 @@ pub const OF_SPANS: [&str; 5] = [
 /// One console for which every spare is kept hears none of these refusals.
 pub const OF_CONSOLES: [&str; 4] = ["refusals 13", "refusals 14", "refusals 15", SHARES_NEEDED];
 pub const SHARES_NEEDED: &str = "shares needed";
+
+/// A level is touched by a write, and untouched with marks after a save.
+pub const OF_DISCARDS: [&str; 5] = [
+    "discards from a spare",
+    TO_ZEROS,
+    "discards of untouched levels",
+    "discards of untouched levels with a short tape",
+    "refusals 11 of discards",
+];
+pub const TO_ZEROS: &str = "discards to zeros";
+const OF_NO_FRAME: &str = "discards of no frame";
 
 /// The numbers that are given only where 13 does not apply, and those of a write
 /// to which none of the refusals before 8 applies.
@@ -422,7 +513,8 @@ impl Tally {
     pub fn start(image: &[u8], sizes: Sizes, run: &[Console]) -> Tally {
         let alone = run == [Console::alone(sizes)];
         let found = in_state_2(image, sizes);
-        Tally { sizes, found, copied: 0, touched: 0, run: run.to_vec(), kept: false, alone }
+        let (touched, marks) = (0, [0; 64]);
+        Tally { sizes, found, copied: 0, touched, marks, run: run.to_vec(), kept: false, alone }
     }
 
     /// Counts a call and holds the laws against what it answered and left.
@@ -439,8 +531,9 @@ impl Tally {
             Deed::Write(target, bytes) if JUDGED.contains(&number) => {
                 taker = self.feed_write(*target, bytes.len(), seen, &mut tried)?
             }
+            Deed::Discard(level) => self.hold_discard(*level, seen, &mut tried)?,
             Deed::Save if number == 0 => self.feed_save(before, &mut tried),
-            Deed::Open(_) if number == 0 => self.touched = 0,
+            Deed::Open(_) if number == 0 => (self.touched, self.marks) = (0, [0; 64]),
             _ => {}
         }
         self.hold_records(seen, self.copied > copied)?;
@@ -456,12 +549,14 @@ impl Tally {
     }
 
     /// 13 where one of its conditions holds, and after it only where none does. An
-    /// opening names its own spares.
+    /// opening names its own spares; a discard is lent no run.
     fn hold_13(&self, Seen { deed, number, lent, .. }: Seen, tried: &mut Tried) -> Result<(), String> {
         let (writer, spares) = match deed {
             Deed::Write(target, _) => (Some(target.console), self.sizes.spares),
             Deed::Open(sizes) => (None, sizes.spares),
             Deed::Save => (None, self.sizes.spares),
+            Deed::Discard(_) if number == 13 => return Err("a discard answers 13".to_string()),
+            Deed::Discard(_) => return Ok(()),
         };
         let due = conditions_of_13(writer, lent, spares).contains(&true);
         if (number == 13 && !due) || (AFTER_13.contains(&number) && due) {
@@ -477,7 +572,7 @@ impl Tally {
     /// The records that a call leaves: a charge of one spare for a copying write
     /// that is served (section 10.10), counts of 0 after a served save (section
     /// 11.8) or opening (section 9.8), and else what was lent. None that a served
-    /// call leaves is above its limit.
+    /// call leaves is above its limit, if the call judges records.
     fn hold_records(&mut self, seen: Seen, charged: bool) -> Result<(), String> {
         let Seen { deed, number, lent, left, .. } = seen;
         let mut due = lent.to_vec();
@@ -485,15 +580,17 @@ impl Tally {
             _ if number != 0 => {}
             Deed::Write(target, _) => due[target.console as usize].taken += u64::from(charged),
             Deed::Open(_) | Deed::Save => due.iter_mut().for_each(|console| console.taken = 0),
+            Deed::Discard(_) => {}
         }
-        if number == 0 && left.iter().any(|console| console.taken > console.limit) {
+        let judges = !matches!(deed, Deed::Discard(_));
+        if number == 0 && judges && left.iter().any(|console| console.taken > console.limit) {
             return Err(format!("a served call leaves {}, a count above its limit", told(left)));
         }
         if left != due {
             return Err(format!("a call lent {} leaves {}, due {}", told(lent), told(left), told(&due)));
         }
         self.run = due;
-        if number == 0 && !matches!(deed, Deed::Write(..)) {
+        if number == 0 && matches!(deed, Deed::Open(_) | Deed::Save) {
             self.kept = *deed == Deed::Save;
             self.alone = self.run == [Console::alone(self.sizes)];
         }
@@ -551,6 +648,11 @@ impl Tally {
         self.copied += u64::from(copies);
         tried.copies += u64::from(copies);
         self.touched |= 1 << level;
+        if copies {
+            self.marks[level] = 0;
+        }
+        let frames = target.frame..target.frame + frames_met(target, length);
+        frames.for_each(|frame| self.marks[level] |= 1 << frame);
         let needs_spare = copies && !pairs(before, self.sizes).contains(&(level as u8));
         Ok(needs_spare.then_some(level as u8))
     }
@@ -563,6 +665,61 @@ impl Tally {
             true if lent[writer].taken >= lent[writer].limit => Some(14),
             true if free <= kept_for_others(writer, lent) => Some(15),
             _ => None,
+        }
+    }
+
+    /// The number of a discard: 1 after a refused opening, 6 for a level that there
+    /// is not, 11 where the tape is too short for 32 stores for each marked frame of
+    /// a touched level.
+    fn hold_discard(&self, level: u64, seen: Seen, tried: &mut Tried) -> Result<(), String> {
+        let Seen { number, tape, .. } = seen;
+        let (there, at) = (level < self.sizes.levels, level as usize);
+        let touched = there && self.is_touched(at);
+        let marks = if touched { self.marks[at] } else { 0 };
+        let due = match there {
+            _ if *seen.card == Card::zeros() => 1,
+            false => 6,
+            true if tape < 3 * stores_of(marks) => 11,
+            true => 0,
+        };
+        if number != due {
+            return Err(format!("a discard with a tape of {tape} numbers answers {number}, due {due}"));
+        }
+        if [0, 11].contains(&number) {
+            tried.discards.feed(number, touched, state_of(seen.before, at), self.marks[at], tape);
+        }
+        match number {
+            0 => self.hold_dropped(at, marks, seen).map_err(|what| format!("a discard {what}")),
+            _ => Ok(()),
+        }
+    }
+
+    /// What a served discard of these marked frames writes and leaves: their words as
+    /// they were saved, upward. Then the level is as it was saved, and nothing else of
+    /// the image is changed, nor the card.
+    fn hold_dropped(&self, level: usize, marks: u64, seen: Seen) -> Result<(), String> {
+        let Seen { orders, before, after, .. } = seen;
+        let (start, length) = (self.sizes.in_level(level, 0), FRAME * self.sizes.frames as usize);
+        let saved = &saved_bytes(before, self.sizes)[length * level..][..length];
+        let places = (0..length).step_by(WORD).filter(|at| marks >> (at / FRAME) & 1 == 1);
+        let stores: Vec<Order> =
+            places.map(|at| Order::Store { place: start + at, word: word_at(saved, at) }).collect();
+        if orders.len() != stores.len() {
+            return Err(format!("gives {} orders, due {}", orders.len(), stores.len()));
+        }
+        if let Some((got, due)) = orders.iter().zip(&stores).find(|(got, due)| got != due) {
+            return Err(format!("gives {got:?}, due {due:?}"));
+        }
+        if seen.card != seen.card_left {
+            return Err("changes the card".to_string());
+        }
+        let (own, behind) = (start..start + length, start + length..);
+        match after[own] == *saved
+            && after[..start] == before[..start]
+            && after[behind.clone()] == before[behind]
+        {
+            true => Ok(()),
+            false => Err("leaves other bytes than those saved, or changes others".to_string()),
         }
     }
 

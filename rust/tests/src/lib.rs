@@ -22,6 +22,7 @@ pub mod consoles;
 pub mod corners;
 pub mod corrupted;
 pub mod crash;
+pub mod discards;
 pub mod explore;
 pub mod fast;
 pub mod groups;

@@ -43,6 +43,13 @@ impl Calls for Library {
         lent.answer(number, card, run)
     }
 
+    fn discard(&self, image: &[u8], card: &mut Card, level: u64, tape: &mut [u64]) -> Answer {
+        let mut lent = Lent::of(card, &[]);
+        let Lent { session, ops, .. } = &mut lent;
+        let number = raw::discard(image, session, level, tape, ops);
+        lent.answer(number, card, &mut [])
+    }
+
     fn save(&self, image: &[u8], card: &mut Card, run: &mut [Console], tape: &mut [u64]) -> Answer {
         let mut lent = Lent::of(card, run);
         let Lent { session, clients, ops } = &mut lent;
@@ -151,6 +158,10 @@ impl Calls for Wrapped {
         with_lent(card, run, |session, clients| {
             answer(crpm::write(image, session, clients, client, main, block, offset, bytes, tape))
         })
+    }
+
+    fn discard(&self, image: &[u8], card: &mut Card, level: u64, tape: &mut [u64]) -> Answer {
+        with_lent(card, &mut [], |session, _| answer(crpm::discard(image, session, level as usize, tape)))
     }
 
     fn save(&self, image: &[u8], card: &mut Card, run: &mut [Console], tape: &mut [u64]) -> Answer {

@@ -120,6 +120,15 @@ pub fn write(
     }
 }
 
+/// The session is lent for change, so that one is noticed that the library changes.
+pub fn discard(image: &[u8], session: &mut Session, level: u64, trace: &mut [u64], ops: &mut u64) -> u64 {
+    let session = std::ptr::from_mut(session).cast_const();
+    // SAFETY: as in `open`.
+    unsafe {
+        ffi::crpm_discard(image.as_ptr(), image.len(), session, level, trace.as_mut_ptr(), trace.len(), ops)
+    }
+}
+
 pub fn checkpoint(
     image: &[u8],
     session: &mut Session,

@@ -35,8 +35,8 @@ pub enum Refusal {
 /// The faults of section 18.1, which a reader could mistake for good work, and
 /// worthless programs of section 18.2 or like them: three wrong rules for the
 /// states that a save stores (section 11.2), five for long writes (section 10),
-/// six for the spare that a write takes (section 3.4) and eleven for consoles
-/// (sections 5.7 and 10.10).
+/// six for the spare that a write takes (section 3.4), eleven for consoles
+/// (sections 5.7 and 10.10) and nine for discards (sections 10.12 and 10.13).
 #[derive(Clone, Copy, PartialEq, Eq, Debug)]
 pub enum Fault {
     StateBeforeFence,
@@ -97,6 +97,25 @@ pub enum Fault {
     JudgesOneRecord,
     /// A write judges its run after its span.
     RunAfterSpan,
+    /// A discard clears the marks of its level: fault 6.
+    DiscardClearsMarks,
+    /// A discard leaves its level untouched: program 30.
+    DiscardClearsTouch,
+    /// A discard stores every frame of its level, marked or not: program 31.
+    DiscardStoresAllFrames,
+    /// A discard flushes the frames that it stores: program 32.
+    DiscardFlushes,
+    /// A discard stores zeros whatever was saved: program 33.
+    DiscardsToZeros,
+    /// A discard of an empty level stores what the first spare has: program 34.
+    DiscardsEmptyFromSpare,
+    /// A discard stores the last marked frame first: program 35.
+    DiscardsDownward,
+    /// A discard stores the marked frames of an untouched level too, from its spare.
+    DiscardsUntouched,
+    /// A discard of an untouched level asks for the tape of a touched one: program
+    /// 36.
+    DiscardRefusesUntouched,
 }
 
 #[derive(Clone, Copy)]
@@ -252,18 +271,20 @@ fn idle_line(epoch: u64) -> usize {
 
 /// The orders of copying the frame at `from` to `to`.
 fn copy(orders: &mut Vec<Order>, image: &[u8], from: usize, to: usize) {
-    let words: Vec<u64> = (0..FRAME / WORD).map(|i| word_at(image, from + WORD * i)).collect();
-    store_frame(orders, to, &words);
+    store_frame(orders, image, Some(from), to);
+    flush_frame(orders, to);
 }
 
 /// The orders of filling the frame at `to` with zeros.
 fn fill(orders: &mut Vec<Order>, to: usize) {
-    store_frame(orders, to, &[0; FRAME / WORD]);
+    store_frame(orders, &[], None, to);
+    flush_frame(orders, to);
 }
 
-fn store_frame(orders: &mut Vec<Order>, to: usize, words: &[u64]) {
-    orders.extend(words.iter().enumerate().map(|(i, &word)| Order::Store { place: to + WORD * i, word }));
-    flush_frame(orders, to);
+/// The stores of a frame's words at `to`, as they stand at `from`, or zeros.
+fn store_frame(orders: &mut Vec<Order>, image: &[u8], from: Option<usize>, to: usize) {
+    let word = |at| from.map_or(0, |from| word_at(image, from + at));
+    orders.extend((0..FRAME).step_by(WORD).map(|at| Order::Store { place: to + at, word: word(at) }));
 }
 
 fn flush_frame(orders: &mut Vec<Order>, at: usize) {
@@ -526,6 +547,56 @@ impl Reference {
         orders.extend([first, second, Order::Flush { place: line }, Order::Fence]);
     }
 
+    /// The orders of a discard (section 10.12) and the card that it leaves, which
+    /// is the one that it got (section 10.13).
+    fn discarding(&self, image: &[u8], card: &Card, level: u64) -> Result<(Vec<Order>, Card), Refusal> {
+        let board = Board::of(image, card.sizes)?;
+        if !board.card_is_true(card) {
+            return Err(Refusal::Card);
+        }
+        if level >= card.sizes.levels {
+            return Err(Refusal::Level);
+        }
+        let level = level as usize;
+        let mut orders = Vec::new();
+        if card.touched >> level & 1 == 1 || self.has(Fault::DiscardsUntouched) {
+            for f in self.frames_to_discard(card.marks[level], board.frames().len()) {
+                let own = board.sizes.in_level(level, f);
+                store_frame(&mut orders, image, self.discard_from(&board, level, f), own);
+                if self.has(Fault::DiscardFlushes) {
+                    flush_frame(&mut orders, own);
+                }
+            }
+        }
+        let mut next = *card;
+        match self.fault {
+            Some(Fault::DiscardClearsMarks) => next.marks[level] = 0,
+            Some(Fault::DiscardClearsTouch) => next.touched &= !(1 << level),
+            _ => {}
+        }
+        Ok((orders, next))
+    }
+
+    /// The frames that a discard of a touched level with these marks stores.
+    fn frames_to_discard(&self, marks: u64, frames: usize) -> Vec<usize> {
+        match self.fault {
+            Some(Fault::DiscardStoresAllFrames) => (0..frames).collect(),
+            Some(Fault::DiscardsDownward) => (0..frames).rev().filter(|f| marks >> f & 1 == 1).collect(),
+            _ => marked(marks).collect(),
+        }
+    }
+
+    /// Where the words stand that a discard stores in a frame: in the spare; in an
+    /// empty level nowhere, they are zeros. Only a fault comes to a level in state 1.
+    fn discard_from(&self, board: &Board, level: usize, frame: usize) -> Option<usize> {
+        match board.levels[level] {
+            _ if self.has(Fault::DiscardsToZeros) => None,
+            Level::Empty if self.has(Fault::DiscardsEmptyFromSpare) => Some(board.sizes.in_spare(0, frame)),
+            Level::Own { spare: Some(spare) } => Some(board.sizes.in_spare(spare, frame)),
+            _ => board.saved_start(level, frame),
+        }
+    }
+
     fn saving(&self, image: &[u8], card: &Card, run: &[Console]) -> Result<(Vec<Order>, Card), Refusal> {
         let board = Board::of(image, card.sizes)?;
         if !board.card_is_true(card) {
@@ -665,6 +736,19 @@ impl Calls for Reference {
                 *card = written.card;
             }
             answer
+        });
+        answer.unwrap_or_else(refused)
+    }
+
+    fn discard(&self, image: &[u8], card: &mut Card, level: u64, tape: &mut [u64]) -> Answer {
+        let answer = self.discarding(image, card, level).and_then(|(orders, next)| {
+            let marks = card.marks[level as usize].count_ones() as usize;
+            if self.has(Fault::DiscardRefusesUntouched) && tape.len() < 3 * FRAME / WORD * marks {
+                return Err(Refusal::TapeShort);
+            }
+            let answer = put_on(tape, &orders)?;
+            *card = next;
+            Ok(answer)
         });
         answer.unwrap_or_else(refused)
     }

@@ -5,14 +5,15 @@
 //! first save after it settles them, whether they are touched or not, and is
 //! cut at every order, as are the calls around it; where every spare restored a
 //! level, power also comes back after each cut up to the end of that save, and
-//! the story goes on.
+//! the story goes on. Before that save a level may be written, and its edits
+//! dropped again.
 //! Like the other groups it runs over any implementation of the calls.
 
 use crate::book::{Call, Deed};
 use crate::calls::*;
 use crate::explore::*;
 use crate::groups::{all_found, cut_line, due, laid_out, plain, states};
-use crate::laws::{never_at, OF_CONSOLES, OF_SPANS};
+use crate::laws::{never_at, OF_CONSOLES, OF_DISCARDS, OF_SPANS};
 use crate::report::{Found, Outcome};
 use std::collections::BTreeMap;
 
@@ -43,14 +44,28 @@ fn before_restart(sizes: Sizes) -> Vec<Call> {
     calls
 }
 
+/// What is done to a level before the first save: it is written, or discarded, both
+/// before it is written and after.
+#[derive(Clone, Copy, PartialEq, Eq)]
+enum Between {
+    Nothing,
+    Written(u64),
+    Dropped(u64),
+}
+
 /// After it, up to the first save, with the numbers due if every spare restored
-/// a level. `between` is a level written before the save.
-fn up_to_save(sizes: Sizes, between: Option<u64>) -> Vec<(Call, u64)> {
+/// a level.
+fn up_to_save(sizes: Sizes, between: Between) -> Vec<(Call, u64)> {
     let (own, _) = own_and_empty(sizes);
-    let mut calls = vec![(word_to(sizes, own, 2), 9)];
-    calls.extend(between.map(|level| (word_to(sizes, level, 2), 0)));
-    calls.push((plain(Deed::Save, sizes), 0));
-    calls
+    let (write, discard) = (|level| word_to(sizes, level, 2), |level| plain(Deed::Discard(level), sizes));
+    let mut calls = vec![write(own)];
+    match between {
+        Between::Nothing => {}
+        Between::Written(level) => calls.push(write(level)),
+        Between::Dropped(level) => calls.extend([discard(level), write(level), discard(level)]),
+    }
+    calls.push(plain(Deed::Save, sizes));
+    (0..).zip(calls).map(|(place, call)| (call, if place == 0 { 9 } else { 0 })).collect()
 }
 
 /// After the first save: as many levels can be copied as there are spares; then
@@ -64,14 +79,14 @@ fn after_save(sizes: Sizes) -> Vec<(Call, u64)> {
     calls
 }
 
-fn after_restart(sizes: Sizes, between: Option<u64>) -> Vec<(Call, u64)> {
+fn after_restart(sizes: Sizes, between: Between) -> Vec<(Call, u64)> {
     [up_to_save(sizes, between), after_save(sizes)].concat()
 }
 
 /// The story by the numbers heard, by the states, and by the last level's saved
-/// read, which has a part only once the level is written and saved. There are
-/// no cuts, and no law is counted.
-fn by_numbers<C: Calls>(calls: &C, sizes: Sizes, between: Option<u64>) -> Result<(), String> {
+/// read, which has a part only once the level is written and saved, even if its edits
+/// were dropped. There are no cuts, and no law is counted.
+fn by_numbers<C: Calls>(calls: &C, sizes: Sizes, between: Between) -> Result<(), String> {
     let (mut image, mut card, mut run) = (laid_out(calls, sizes)?, Card::zeros(), [Console::alone(sizes)]);
     let mut hear = |image: &mut [u8], call: &Call| {
         let mut tape = vec![0; call.tape];
@@ -90,7 +105,8 @@ fn by_numbers<C: Calls>(calls: &C, sizes: Sizes, between: Option<u64>) -> Result
     for (call, number) in after_restart(sizes, between) {
         due(&format!("after a restart {call}"), hear(&mut image, &call), number)?;
     }
-    let length = if between == Some(empty) { FRAME as u64 } else { 0 };
+    let written = [Between::Written(empty), Between::Dropped(empty)].contains(&between);
+    let length = if written { FRAME as u64 } else { 0 };
     due("saved read of the last level after saves", part(&image), length)
 }
 
@@ -133,7 +149,7 @@ struct Story<'a, C: Calls> {
 impl<C: Calls> Story<'_, C> {
     /// Goes on after a restart, with the cut line of each save that has a new
     /// page. The numbers are due only if every spare restored a level.
-    fn go_on(&mut self, start: &History, between: Option<u64>, all_restored: bool) -> Result<(), String> {
+    fn go_on(&mut self, start: &History, between: Between, all_restored: bool) -> Result<(), String> {
         let mut history = start.clone();
         self.histories += 1;
         for (call, number) in after_restart(self.sizes, between) {
@@ -154,7 +170,10 @@ impl<C: Calls> Story<'_, C> {
 /// The group at these sizes, which have two levels more than spares.
 pub fn restored_levels<C: Calls>(calls: &C, sizes: Sizes) -> Outcome {
     let (restarts, counts) = all_restarts(calls, sizes, Explorer::new(calls, sizes, 6))?;
-    counts.tried.all_tried(&[never_at(sizes), OF_SPANS.to_vec(), OF_CONSOLES.to_vec()].concat())?;
+    let [.., of_short, of_elevens] = OF_DISCARDS;
+    let mut left_out = [&never_at(sizes)[..], &OF_SPANS, &OF_CONSOLES].concat();
+    left_out.extend([of_short, of_elevens]);
+    counts.tried.all_tried(&left_out)?;
     Ok(told(restarts, counts))
 }
 
@@ -178,12 +197,14 @@ fn all_restarts<C: Calls>(
 ) -> Result<(String, Counts), String> {
     let (_, empty) = own_and_empty(sizes);
     due("levels", sizes.levels, empty + 1)?;
-    let betweens = [Some(empty), None, Some(0)];
+    let written = Between::Written(empty);
+    let betweens =
+        [written, Between::Nothing, Between::Written(0), Between::Dropped(0), Between::Dropped(empty)];
     betweens.iter().try_for_each(|between| by_numbers(calls, sizes, *between))?;
     let start = explorer.start(&laid_out(calls, sizes)?, Plan::ALL)?;
     let first = restarts(&mut explorer, start, &before_restart(sizes))?;
     let mut story = Story { explorer, sizes, histories: 1, cut_lines: 0 };
-    first.values().try_for_each(|start| story.go_on(start, Some(empty), false))?;
+    first.values().try_for_each(|start| story.go_on(start, written, false))?;
     let mut all = first.values().filter(|start| states(start.module.image(), sizes) == restored(sizes));
     let (Some(all_restored), None) = (all.next(), all.next()) else {
         return Err("not one restart with every spare taken".to_string());
@@ -193,7 +214,7 @@ fn all_restarts<C: Calls>(
         story.go_on(all_restored, between, true)?;
         let calls: Vec<Call> = up_to_save(sizes, between).into_iter().map(|(call, _)| call).collect();
         let second = restarts(&mut story.explorer, all_restored.clone(), &calls)?;
-        second.values().try_for_each(|start| story.go_on(start, Some(empty), false))?;
+        second.values().try_for_each(|start| story.go_on(start, written, false))?;
         again += second.len();
     }
     let counts = Counts { histories: story.histories, ..story.explorer.counts() };

@@ -1,6 +1,8 @@
-//! The random writes and runs: how often each kind of span and of record occurs.
+//! The random writes, runs and discards: how often each kind of span, of record and
+//! of tape occurs.
 
-use crpm_tests::arbitrary::{any_run, console, run, writing};
+use crpm_tests::arbitrary::{any_run, call, console, run, writing};
+use crpm_tests::book::Deed;
 use crpm_tests::calls::*;
 use crpm_tests::laws::{conditions_of_13, conditions_of_8, frames_met};
 use crpm_tests::prng::Rng;
@@ -141,4 +143,33 @@ fn every_record_occurs() {
             assert!(count > 20, "{what}: {count} at {spares} spares");
         }
     }
+}
+
+/// One call of a history in six is a discard: of each level and of none, with tapes of
+/// every kind, and never with a run of its own.
+#[test]
+fn every_discard_occurs() {
+    let (mut rng, sizes) = (Rng::new(7), Sizes::new(3, 2, 2));
+    let calls: Vec<_> = (0..6000).map(|_| call(&mut rng, sizes, &[Console::alone(sizes)])).collect();
+    let discards: Vec<(u64, usize)> = calls
+        .iter()
+        .filter_map(|call| match call.deed {
+            Deed::Discard(level) if call.lent.is_none() => Some((level, call.tape)),
+            Deed::Discard(_) => panic!("{call}"),
+            _ => None,
+        })
+        .collect();
+    assert!((800..1200).contains(&discards.len()), "{}", discards.len());
+    let occurs = |what: &str, is: &dyn Fn(u64, usize) -> bool| {
+        let count = discards.iter().filter(|(level, tape)| is(*level, *tape)).count();
+        assert!(count > 5, "{what}: {count}");
+    };
+    for level in [0, 1, 2, 3, 64, u64::MAX] {
+        occurs("a level", &|one, _| one == level);
+    }
+    occurs("no numbers", &|_, tape| tape == 0);
+    occurs("too few for a frame", &|_, tape| (3..96).contains(&tape));
+    occurs("too few for two", &|_, tape| (96..192).contains(&tape));
+    occurs("just as many", &|_, tape| tape == 192);
+    occurs("more", &|_, tape| tape > 192);
 }

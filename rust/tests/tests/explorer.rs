@@ -5,7 +5,7 @@ use crpm_tests::book::{Call, Deed};
 use crpm_tests::calls::*;
 use crpm_tests::crash::Module;
 use crpm_tests::explore::{Explorer, Images, Plan};
-use crpm_tests::reference::Reference;
+use crpm_tests::reference::{Fault, Reference};
 
 const SIZES: Sizes = Sizes::new(1, 1, 1);
 
@@ -62,4 +62,42 @@ fn few_images_or_samples() {
     };
     assert_eq!(looked_at(4, 9), 1 + 2 + 4);
     assert_eq!(looked_at(3, 9), 1 + 2 + 11);
+}
+
+/// On a laid-out image a word is written, dropped and saved. A power cut after the
+/// save leaves one image, which shows zeros; had the discard cleared the marks, the
+/// save would not flush the frame, and the word that was never saved might stand.
+#[test]
+fn a_dropped_word_is_flushed_by_the_save() {
+    let written = 0x7777_u64;
+    let ran = |calls: &Reference| {
+        let mut image = vec![0; SIZES.image_length()];
+        calls.lay_out(&mut image, SIZES);
+        let (mut card, mut run) = (Card::zeros(), [Console::alone(SIZES)]);
+        let mut module = Module::held(&image);
+        let target = Target { console: 0, level: 0, frame: 0, offset: 0 };
+        for deed in [
+            Deed::Open(SIZES),
+            Deed::Write(target, written.to_le_bytes().to_vec()),
+            Deed::Discard(0),
+            Deed::Save,
+        ] {
+            let mut tape = vec![0; SIZES.room()];
+            let answer = deed.make(calls, module.image(), &mut card, &mut run, &mut tape);
+            assert_eq!(answer.number, 0);
+            let orders = orders_of(&tape[..3 * answer.orders as usize], image.len()).expect("well formed");
+            orders.into_iter().for_each(|order| module.play(order));
+        }
+        let mut words = Vec::new();
+        let visit = |_, image: &dyn Fn() -> Vec<u8>| {
+            let image = image();
+            assert_eq!((image[EPOCH], image[ODD_STATES]), (1, 1), "saved, and the level set");
+            words.push(word_at(&image, DATA));
+            Ok::<(), String>(())
+        };
+        module.cut().for_all(visit).expect("nothing fails");
+        words
+    };
+    assert_eq!(ran(&Reference::good()), [0]);
+    assert_eq!(ran(&Reference::faulty(Fault::DiscardClearsMarks)), [written, 0]);
 }

@@ -12,6 +12,20 @@ fn image(states: [u8; 3], pairs: [u8; 2]) -> Vec<u8> {
     image_of(SIZES, 6, &metadata, 0, &distinct_data(SIZES))
 }
 
+/// A call without a tape and on the card of zeros, for laws that look at neither.
+const SEEN: Seen<'static> = Seen {
+    deed: &Deed::Save,
+    number: 0,
+    tape: 0,
+    orders: &[],
+    card: &Card::zeros(),
+    card_left: &Card::zeros(),
+    lent: &[],
+    left: &[],
+    before: &[],
+    after: &[],
+};
+
 fn write_to(level: u64) -> Deed {
     write_by(0, level)
 }
@@ -29,6 +43,7 @@ fn left_by(deed: &Deed, number: u64, before: &[u8], lent: &[Console]) -> Vec<Con
             left[target.console as usize].taken += u64::from(state_of(before, target.level as usize) == 1)
         }
         Deed::Open(_) | Deed::Save => left.iter_mut().for_each(|console| console.taken = 0),
+        Deed::Discard(_) => {}
     }
     left
 }
@@ -38,7 +53,8 @@ fn left_by(deed: &Deed, number: u64, before: &[u8], lent: &[Console]) -> Vec<Con
 fn one(deed: &Deed, number: u64, before: &[u8], after: &[u8]) -> Result<Tried, String> {
     let lent = [Console::alone(SIZES)];
     let left = left_by(deed, number, before, &lent);
-    Tally::start(before, SIZES, &lent).feed(Seen { deed, number, lent: &lent, left: &left, before, after })
+    let seen = Seen { deed, number, lent: &lent, left: &left, before, after, ..SEEN };
+    Tally::start(before, SIZES, &lent).feed(seen)
 }
 
 /// A save settles every level in state 2, touched or not.
@@ -109,14 +125,14 @@ fn from_save_to_save() {
     let mut total = Tried::default();
     for (deed, number, before, after) in calls {
         let left = left_by(&deed, number, before, &run);
-        let seen = Seen { deed: &deed, number, lent: &run, left: &left, before, after };
+        let seen = Seen { deed: &deed, number, lent: &run, left: &left, before, after, ..SEEN };
         total.add(tally.feed(seen).expect("the laws hold"));
         run = left;
     }
-    let Tried { saves, settled, empty, copies, nines, taken, spans, heard } = total;
+    let Tried { saves, settled, empty, copies, nines, taken, spans, heard, discards } = total;
     assert_eq!((saves, settled, empty, copies, nines), (1, 2, 0, 2, 2));
     assert_eq!(taken, Taken { unpaired: 1, ..Taken::default() });
-    assert_eq!((spans, heard), (Spans::default(), Heard::default()));
+    assert_eq!((spans, heard, discards), (Spans::default(), Heard::default(), Discards::default()));
 }
 
 /// A write to the last level, in state 1 and without a spare, from these states
@@ -203,7 +219,7 @@ fn long_write(frame: u64, offset: u64, length: usize, number: u64) -> Result<Spa
     let image = image_of(FRAMES, 6, &empty, 0, &distinct_data(FRAMES));
     let deed = &Deed::Write(Target { console: 0, level: 0, frame, offset }, vec![1; length]);
     let run = &[Console::alone(FRAMES)];
-    let seen = Seen { deed, number, lent: run, left: run, before: &image, after: &image };
+    let seen = Seen { deed, number, lent: run, left: run, before: &image, after: &image, ..SEEN };
     Ok(Tally::start(&image, FRAMES, run).feed(seen)?.spans)
 }
 
@@ -248,7 +264,9 @@ fn untried_laws_fail() {
     let spans = Spans { long: 1, long_copies: 1, eights: [1; 3] };
     let taken = Taken { unpaired: 1, of_levels: 1, passing: 1 };
     let heard = Heard { thirteens: 1, fourteens: 1, fifteens: 1, shares: 1 };
-    let tried = Tried { saves: 1, settled: 1, empty: 1, copies: 1, nines: 1, taken, spans, heard };
+    let discards =
+        Discards { from_spare: 1, to_zeros: 1, of_no_frame: 0, untouched: 1, short: 1, elevens: 1 };
+    let tried = Tried { saves: 1, settled: 1, empty: 1, copies: 1, nines: 1, taken, spans, heard, discards };
     assert!(tried.all_tried(&[]).is_ok());
     assert!(Tried { nines: 0, ..tried }.all_tried(&[NINES]).is_ok());
     assert!(Tried { spans: Spans::default(), ..tried }.all_tried(&OF_SPANS).is_ok());
@@ -269,6 +287,17 @@ fn untried_laws_fail() {
         Heard { shares: 0, ..heard },
     ] {
         assert!(Tried { heard, ..tried }.all_tried(&[NINES]).is_err());
+    }
+    assert!(Tried { discards: Discards::default(), ..tried }.all_tried(&OF_DISCARDS).is_ok());
+    assert!(discards.all_tried().is_err() && Discards { of_no_frame: 1, ..discards }.all_tried().is_ok());
+    for discards in [
+        Discards { from_spare: 0, ..discards },
+        Discards { to_zeros: 0, ..discards },
+        Discards { untouched: 0, ..discards },
+        Discards { short: 0, ..discards },
+        Discards { elevens: 0, ..discards },
+    ] {
+        assert!(Tried { discards, ..tried }.all_tried(&[NINES]).is_err());
     }
     for spans in [
         Spans { long: 0, ..spans },
@@ -296,7 +325,7 @@ fn lent(deed: &Deed, number: u64, lent: &[Console], left: &[Console]) -> Result<
         Deed::Save if number == 0 => saved,
         _ => before,
     };
-    Tally::start(before, SIZES, lent).feed(Seen { deed, number, lent, left, before, after })
+    Tally::start(before, SIZES, lent).feed(Seen { deed, number, lent, left, before, after, ..SEEN })
 }
 
 /// A copying write is charged to its console, once and alone; a refused one, and a
@@ -332,6 +361,7 @@ fn records_are_left_as_due() {
         left: &run,
         before: &image([1, 1, 2], [UNPAIRED, 2]),
         after: &image([1, 1, 2], [UNPAIRED, 2]),
+        ..SEEN
     };
     assert!(Tally::start(touched.before, SIZES, &run).feed(touched).is_ok());
     let charged = Seen { left: &charged[0], ..touched };
@@ -408,12 +438,13 @@ fn shares_are_kept_since_a_save() {
     let free = &image([1, 1, 1], [0, 1]);
     let said = |number| Err(format!("console 0 of [1/2/0 0/2/0], below its share, hears {number}"));
     let served = |tally: &mut Tally, deed: &Deed| {
-        let seen = Seen { deed, number: 0, lent: &run, left: &run, before: free, after: free };
+        let seen = Seen { deed, lent: &run, left: &run, before: free, after: free, ..SEEN };
         tally.feed(seen).map(|tried| tried.saves)
     };
     let refused = |tally: &Tally, writer, number, run: &[Console]| {
         let deed = &write_by(writer, 0);
-        tally.clone().feed(Seen { deed, number, lent: run, left: run, before: free, after: free }).map(drop)
+        let seen = Seen { deed, number, lent: run, left: run, before: free, after: free, ..SEEN };
+        tally.clone().feed(seen).map(drop)
     };
     let mut tally = Tally::start(free, SIZES, &run);
     for number in [9, 14, 15] {
@@ -441,11 +472,7 @@ fn needed_shares_are_counted() {
             ([first, record(0, 2, 1)], [record(first.share, 2, 1), record(0, 2, 1)]);
         let mut tally = Tally::start(free, SIZES, &run);
         let mut feed = |deed: &Deed, lent: &[Console], left: &[Console], before: &[u8], after: &[u8]| {
-            tally
-                .feed(Seen { deed, number: 0, lent, left, before, after })
-                .expect("the laws hold")
-                .heard
-                .shares
+            tally.feed(Seen { deed, lent, left, before, after, ..SEEN }).expect("the laws hold").heard.shares
         };
         let save = feed(&Deed::Save, &run, &run, free, free);
         let second = feed(&write_by(1, 1), &run, &after_second, free, &copied);
@@ -465,7 +492,7 @@ fn the_only_console_hears_no_refusal_of_consoles() {
     }
     assert!(one(&Deed::Save, 13, &full, &full).is_err());
     let (deed, run) = (&write_by(1, 2), &[Console::alone(SIZES)]);
-    let seen = Seen { deed, number: 13, lent: run, left: run, before: &full, after: &full };
+    let seen = Seen { deed, number: 13, lent: run, left: run, before: &full, after: &full, ..SEEN };
     assert!(Tally::start(&full, SIZES, run).feed(seen).is_ok(), "there is no console 1");
 }
 
@@ -500,5 +527,134 @@ fn charges_are_counted() {
         Charges { charged: [1, 1, 0], ..all },
     ] {
         assert!(untried.all_tried().is_err());
+    }
+}
+
+const TWO_FRAMES: Sizes = Sizes::new(2, 1, 2);
+
+/// A discard as a call of a history.
+#[derive(Clone)]
+struct Discarded {
+    level: u64,
+    number: u64,
+    tape: usize,
+    orders: Vec<Order>,
+    card: Card,
+    left: Card,
+    before: Vec<u8>,
+    after: Vec<u8>,
+}
+
+/// What a discard of level 0 is to give, of which these frames are marked.
+fn due_of(tally: &Tally, before: &[u8], saved: &[u8], frames: &[usize]) -> (Tally, Discarded) {
+    let places = frames.iter().flat_map(|frame| (0..FRAME).step_by(WORD).map(move |at| FRAME * frame + at));
+    let orders: Vec<Order> =
+        places.map(|at| Order::Store { place: DATA + at, word: word_at(saved, at) }).collect();
+    let mut card = Card::fresh(TWO_FRAMES);
+    card.touched = u64::from(!frames.is_empty());
+    card.marks[0] = frames.iter().fold(0, |marks, frame| marks | 1 << frame);
+    let mut after = before.to_vec();
+    after[DATA..DATA + saved.len()].copy_from_slice(saved);
+    let (tape, before) = (3 * orders.len(), before.to_vec());
+    (tally.clone(), Discarded { level: 0, number: 0, tape, orders, card, left: card, before, after })
+}
+
+/// A history that finds level 0 restored from its spare, or empty, and writes a word
+/// to each of these frames of it; then the discard that is due.
+fn edited(state: u8, frames: &[usize]) -> (Tally, Discarded) {
+    let pair = if state == 0 { UNPAIRED } else { 0 };
+    let metadata = Metadata { states: vec![state, 1], pairs: vec![pair] };
+    let mut image = image_of(TWO_FRAMES, 6, &metadata, 0, &distinct_data(TWO_FRAMES));
+    let spare = TWO_FRAMES.in_spare(0, 0);
+    let saved = if state == 0 { vec![0; 2 * FRAME] } else { image[spare..].to_vec() };
+    image[DATA..DATA + saved.len()].copy_from_slice(&saved);
+    let run = [Console::alone(TWO_FRAMES)];
+    let mut tally = Tally::start(&image, TWO_FRAMES, &run);
+    for &frame in frames {
+        let before = image.clone();
+        image[DATA + FRAME * frame..][..WORD].fill(0xee);
+        let target = Target { console: 0, level: 0, frame: frame as u64, offset: 0 };
+        let deed = &Deed::Write(target, vec![0xee; WORD]);
+        let seen = Seen { deed, lent: &run, left: &run, before: &before, after: &image, ..SEEN };
+        tally.feed(seen).expect("the write keeps the laws");
+    }
+    due_of(&tally, &image, &saved, frames)
+}
+
+fn judged((tally, seen): (Tally, Discarded)) -> Result<Discards, String> {
+    let Discarded { level, number, tape, orders, card, left, before, after } = &seen;
+    let (run, deed) = (&[Console::alone(TWO_FRAMES)], &Deed::Discard(*level));
+    let (number, tape) = (*number, *tape);
+    let seen =
+        Seen { deed, number, tape, orders, card, card_left: left, lent: run, left: run, before, after };
+    tally.clone().feed(seen).map(|tried| tried.discards)
+}
+
+/// Discards by what they store, each with the tape that just suffices.
+#[test]
+fn discards_are_counted() {
+    let none = Discards::default();
+    assert_eq!(judged(edited(2, &[0])), Ok(Discards { from_spare: 1, ..none }));
+    assert_eq!(judged(edited(2, &[0, 1])), Ok(Discards { from_spare: 1, ..none }));
+    assert_eq!(judged(edited(0, &[1])), Ok(Discards { to_zeros: 1, ..none }));
+    assert_eq!(judged(edited(2, &[])), Ok(Discards { untouched: 1, ..none }));
+    let (tally, mut other) = edited(2, &[0]);
+    (other.level, other.tape, other.orders) = (1, 0, vec![]);
+    other.after.clone_from(&other.before);
+    assert_eq!(judged((tally, other)), Ok(Discards { untouched: 1, ..none }));
+    let mut fed = none;
+    fed.feed(0, true, 2, 0, 0);
+    fed.feed(0, false, 1, 0b11, 191);
+    fed.feed(0, false, 1, 0b11, 192);
+    fed.feed(11, true, 2, 0b1, 95);
+    assert_eq!(fed, Discards { of_no_frame: 1, untouched: 2, short: 1, elevens: 1, ..none });
+}
+
+/// The number is that of the first condition, and there are as many orders as due.
+#[test]
+fn discards_hear_what_is_due() {
+    let heard = |level, tape, number| {
+        let (tally, due) = edited(2, &[0, 1]);
+        let (orders, after) = (vec![], due.before.clone());
+        judged((tally, Discarded { level, number, tape, orders, after, ..due }))
+    };
+    assert_eq!(heard(0, 191, 11), Ok(Discards { elevens: 1, ..Discards::default() }));
+    assert_eq!(heard(2, 0, 6), Ok(Discards::default()));
+    for (level, tape, number, due) in
+        [(0, 191, 0, 11), (0, 192, 11, 0), (1, 0, 11, 0), (2, 0, 0, 6), (2, 0, 11, 6), (0, 192, 5, 0)]
+    {
+        let said = format!("a discard with a tape of {tape} numbers answers {number}, due {due}");
+        assert_eq!(heard(level, tape, number), Err(said));
+    }
+    assert_eq!(heard(0, 192, 13), Err("a discard answers 13".to_string()));
+    let (tally, due) = edited(2, &[0]);
+    let zeros = Discarded { card: Card::zeros(), number: 1, orders: vec![], ..due };
+    assert!(judged((tally.clone(), zeros.clone())).is_ok());
+    assert!(judged((tally, Discarded { number: 0, ..zeros })).is_err());
+}
+
+/// Each thing that a served discard may get wrong.
+#[test]
+fn discards_store_what_is_due() {
+    let broken = |frames: &[usize], spoil: fn(&mut Discarded)| {
+        let (tally, mut seen) = edited(2, frames);
+        spoil(&mut seen);
+        judged((tally, seen)).expect_err("a law is broken")
+    };
+    let bytes = "a discard leaves other bytes than those saved, or changes others";
+    assert_eq!(broken(&[1], |seen| seen.orders.truncate(31)), "a discard gives 31 orders, due 32");
+    assert_eq!(broken(&[1], |seen| seen.orders.push(Order::Fence)), "a discard gives 33 orders, due 32");
+    assert!(broken(&[1], |seen| seen.orders.swap(0, 1)).starts_with("a discard gives Store { place: 776"));
+    assert!(
+        broken(&[0, 1], |seen| seen.orders.rotate_left(32)).starts_with("a discard gives Store { place: 768")
+    );
+    let flush = |seen: &mut Discarded| seen.orders[31] = Order::Flush { place: 768 };
+    assert!(broken(&[1], flush).starts_with("a discard gives Flush"));
+    assert_eq!(broken(&[1], |seen| seen.left.touched = 0), "a discard changes the card");
+    assert_eq!(broken(&[1], |seen| seen.left.marks[0] = 0), "a discard changes the card");
+    for place in [DATA, DATA + 2 * FRAME, EVEN_STATES + 1, PAIRS, EPOCH] {
+        let (tally, mut seen) = edited(2, &[1]);
+        seen.after[place] ^= 1;
+        assert_eq!(judged((tally, seen)), Err(bytes.to_string()), "{place}");
     }
 }

@@ -4,11 +4,11 @@
 //! Compared byte for byte: each call with any contents; random histories step
 //! by step, cut at every order and opened again through the library's own
 //! calls; every permitted image of single calls, of short histories of one console
-//! and of two and of the first save after a restart; the stories of long writes and
-//! of two consoles at every cut; sheets and random histories on two benches. In
-//! every history the laws of sections 11.5, 10.9, 3.4, 10.10 and 15.7 are counted.
-//! Then the library's answers are spoiled one at a time, and each group must
-//! notice. Seeds are fixed.
+//! and of two and of the first save after a restart; the stories of long writes, of
+//! two consoles and of discards at every cut; sheets and random histories on two
+//! benches. In every history the laws of sections 11.5, 10.9, 3.4, 10.10, 15.7 and
+//! 10.12 are counted. Then the library's answers are spoiled one at a time, and each
+//! group must notice. Seeds are fixed.
 
 use crpm_tests::calls::*;
 use crpm_tests::compared::Compared;
@@ -20,7 +20,7 @@ use crpm_tests::long::{after_cuts, long_writes, longest_writes};
 use crpm_tests::reference::Reference;
 use crpm_tests::report::{arguments, Found, Outcome, Suite};
 use crpm_tests::restart::restored_levels;
-use crpm_tests::{arbitrary, benches, consoles};
+use crpm_tests::{arbitrary, benches, consoles, discards};
 use std::process::ExitCode;
 
 const USAGE: &str = "usage: differential [--quick]
@@ -71,6 +71,9 @@ fn all(suite: &mut Suite) {
     suite.add("long writes at 1,1,4", || compared(&Library, |both| long_writes(both, FEW_IMAGES)));
     suite.add("long writes after cuts", || compared(&Library, |both| after_cuts(both)));
     suite.add("longest writes", || compared(&Library, |both| longest_writes(both)));
+    suite.add("discards at 2,1,2", || compared(&Library, |both| discards::story(both, Plan::ALL)));
+    suite.add("discards of 17.8", || compared(&Library, |both| discards::worked_example(both)));
+    suite.add("longest discards", || compared(&Library, |both| discards::longest(both)));
     suite.add("stage and gallery at 5,3,1", || compared(&Library, |both| consoles::story(both)));
     suite.add("two consoles up to 3 at 2,1,1", || of_two(TWO, 21, Plan::ALL));
     suite.add("two consoles up to 3 at 3,2,1", || of_two(FIVE, 4, FEW_CUTS));
@@ -89,6 +92,7 @@ fn all(suite: &mut Suite) {
     suite.add("safe calls, any contents", || any_small(&Wrapped, 10_000));
     suite.add("safe calls, bench cases", || compared(&Wrapped, |both| groups::bench_cases(both)));
     suite.add("safe calls, stage and gallery", || compared(&Wrapped, |both| consoles::story(both)));
+    suite.add("safe calls, discards", || compared(&Wrapped, |both| discards::story(both, FEW_CUTS)));
     suite.add("safe calls, long writes", || compared(&Wrapped, |both| long_writes(both, SOME_OF_SAVES)));
     suite.add("spoiled answers, any contents", spoiled_contents);
     suite.add("spoiled answers, histories", spoiled_histories);
@@ -99,6 +103,7 @@ fn quick(suite: &mut Suite) {
     suite.add("bench cases", || compared(&Library, |both| groups::bench_cases(both)));
     suite.add("restored levels at 6,4,1", || restored(STORY));
     suite.add("long writes at 1,1,4", || compared(&Library, |both| long_writes(both, FEW_IMAGES)));
+    suite.add("discards at 2,1,2", || compared(&Library, |both| discards::story(both, Plan::ALL)));
     suite.add("stage and gallery at 5,3,1", || compared(&Library, |both| consoles::story(both)));
     suite.add("two consoles up to 3 at 3,2,1", || of_two(FIVE, 1, FEW_CUTS));
     suite.add("two benches, one sheet", || compared(&Library, |both| benches::one_sheet(both)));
@@ -139,12 +144,13 @@ fn any_large() -> Outcome {
     })
 }
 
-/// Adds the writes by their spans and the calls by the records, of which no kind
-/// may be missing.
+/// Adds the writes by their spans, the calls by the records and the discards by what
+/// they store, of which no kind may be missing.
 fn kinds_tried<C: Calls>(both: &Pair<C>, text: &str) -> Outcome {
     both.spans().all_tried()?;
     both.charges().all_tried()?;
-    let named = [&both.spans().named()[..], &both.charges().named()].concat();
+    both.discards().all_tried()?;
+    let named = [&both.spans().named()[..], &both.charges().named(), &both.discards().named()].concat();
     let told: Vec<String> = named.iter().map(|(name, count)| format!("{count} {name}")).collect();
     Ok(Found::new(format!("{text}; {}", told.join(", ")), &named))
 }
@@ -205,12 +211,13 @@ fn spoiled_histories() -> Outcome {
     let plan = Plan { images: Images::Some { samples: 1 }, every_cut_up_to: 20 };
     let random = Random { laws: Laws::Held, ..random(44, 8, 8, 2, plan) };
     let (all, few) = (Spoil::all(), [Spoil::Number(CallKind::Write), Spoil::PlayedImage, Spoil::ReadStart]);
-    let runs: [(&str, &[Spoil], SpoiledRun); 10] = [
+    let runs: [(&str, &[Spoil], SpoiledRun); 11] = [
         ("bench cases", &all, &|both| groups::bench_cases(both)),
         ("waiting lines", &all, &|both| groups::waiting_lines(both)),
         ("restored levels", &all, &|both| restored_levels(both, SHORT_STORY)),
         ("long writes", &all, &|both| long_writes(both, SOME_OF_SAVES)),
         ("long writes after cuts", &few, &|both| after_cuts(both)),
+        ("discards", &all, &|both| discards::story(both, plan)),
         ("stage and gallery", &all, &|both| consoles::story(both)),
         ("two benches", &all, &|both| benches::one_sheet(both)),
         ("random histories", &all, &|both| groups::random_histories(both, random)),

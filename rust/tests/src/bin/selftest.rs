@@ -3,10 +3,10 @@
 //! Checked against the specification: the bench cases, the cut model, demand 3
 //! over every permitted image of single calls, of short histories of one console
 //! and of two and of the first save after a restart, over the stories of long
-//! writes and of two consoles and over random histories, with the laws of sections
-//! 11.5, 10.9, 3.4, 10.10 and 15.7 counted in all of them; sheets and random
-//! histories on two benches; each fault must be caught by what it breaks, and those
-//! that keep demand 3 must keep it; the corner sheets print as they should.
+//! writes, of two consoles and of discards and over random histories, with the laws
+//! of sections 11.5, 10.9, 3.4, 10.10, 15.7 and 10.12 counted in all of them; sheets
+//! and random histories on two benches; each fault must be caught by what it breaks,
+//! and those that keep demand 3 must keep it; the corner sheets print as they should.
 
 use crpm_tests::calls::Sizes;
 use crpm_tests::compared::Compared;
@@ -17,7 +17,7 @@ use crpm_tests::long::{after_cuts, long_writes, longest_writes};
 use crpm_tests::reference::{Fault, Reference};
 use crpm_tests::report::{arguments, Found, Outcome, Suite};
 use crpm_tests::restart::{restored_levels, restored_levels_without_laws};
-use crpm_tests::{arbitrary, benches, consoles, corners, sheet};
+use crpm_tests::{arbitrary, benches, consoles, corners, discards, sheet};
 use std::process::ExitCode;
 
 const USAGE: &str = "usage: selftest
@@ -42,7 +42,7 @@ fn main() -> ExitCode {
     let mut suite = Suite::default();
     all_good(&mut suite, &good);
     faults(&mut suite);
-    suite.add("faults of writes among any contents", || differ(&good));
+    suite.add("faults among any contents", || differ(&good));
     suite.add("forms of the benchmark", || forms_agree(&good));
     suite.add("corner sheets", corner_sheets);
     suite.run("selftest")
@@ -62,6 +62,9 @@ fn all_good<'a>(suite: &mut Suite<'a>, good: &'a Reference) {
     suite.add("long writes at 1,1,4", || long_writes(good, EVERY_CUT));
     suite.add("long writes after cuts", || after_cuts(good));
     suite.add("longest writes", || longest_writes(good));
+    suite.add("discards at 2,1,2", || discards::story(good, Plan::ALL));
+    suite.add("discards of 17.8", || discards::worked_example(good));
+    suite.add("longest discards", || discards::longest(good));
     suite.add("stage and gallery at 5,3,1", || consoles::story(good));
     suite.add("two consoles up to 3 at 2,1,1", || consoles::of_two(good, TWO, 3, 7, Plan::ALL));
     suite.add("two consoles up to 3 at 3,2,1", || consoles::of_two(good, FIVE, 3, 8, FEW_CUTS));
@@ -101,6 +104,17 @@ fn faults(suite: &mut Suite) {
         let explored = move || consoles::of_two(&faulty, TWO, 2, 21, FEW_CUTS);
         suite.add(format!("fault {fault:?} at two consoles"), move || heard(explored(), breaks));
     }
+    for (fault, breaks) in FAULTS_OF_DISCARD {
+        let story = move || discards::story(&Reference::faulty(fault), Plan::ALL);
+        suite.add(format!("fault {fault:?} in the story"), move || heard(story(), breaks));
+    }
+    for fault in DISCARDS_THAT_KEEP_DEMAND_3 {
+        suite.add(format!("fault {fault:?} keeps demand 3"), move || discards_keep_demand_3(fault));
+    }
+    let clears_touch = Reference::faulty(Fault::DiscardClearsTouch);
+    suite.add("fault DiscardClearsTouch keeps demand 3 where no level is empty", move || {
+        groups::short_histories_of_set_levels(&clears_touch, TWO, 4)
+    });
     suite.add("fault TakesByTape on two benches", || {
         heard(on_two_benches(Fault::TakesByTape), "two benches have different orders")
     });
@@ -113,9 +127,10 @@ const ONE_FRAME: &[Sizes] = &[SMALL, TWO];
 const FRAMES: &[Sizes] = &[SMALL_OF_FRAMES];
 
 /// Each fault that the explorer shows, the sizes of the histories, and what
-/// must be said of it. A save that keeps restored levels and a write that takes
-/// offset 256 break neither demand 3 nor the book, and only the laws show them.
-const FAULTS: [(Fault, &[Sizes], &str); 13] = [
+/// must be said of it. A save that keeps restored levels, a write that takes offset
+/// 256 and the discards that keep demand 3 break neither it nor the book, and only
+/// the laws show them.
+const FAULTS: [(Fault, &[Sizes], &str); 22] = [
     (Fault::StateBeforeFence, ONE_FRAME, "opening again answers 4"),
     (Fault::MarksClearedAtSave, ONE_FRAME, "opening again shows a page that is not permitted"),
     (Fault::OpeningSkipsLevelToSpare, ONE_FRAME, "opening again shows a page that is not permitted"),
@@ -129,6 +144,43 @@ const FAULTS: [(Fault, &[Sizes], &str); 13] = [
     (Fault::TakesOffset256, FRAMES, "a write (refusal 8 due: true) answers 0"),
     (Fault::TakesLevelFromAnyFrame, FRAMES, "opening again shows a page that is not permitted"),
     (Fault::StoresFirstFrameOnly, FRAMES, "the reads do not give the book's pages"),
+    (Fault::DiscardClearsMarks, ONE_FRAME, "opening again shows a page that is not permitted"),
+    (Fault::DiscardClearsTouch, ONE_FRAME, "opening again shows other levels empty than those never set"),
+    (Fault::DiscardStoresAllFrames, FRAMES, "a discard gives 64 orders, due 32"),
+    (Fault::DiscardFlushes, ONE_FRAME, "a discard gives 36 orders, due 32"),
+    (Fault::DiscardsToZeros, ONE_FRAME, "the reads do not give the book's pages"),
+    (Fault::DiscardsEmptyFromSpare, ONE_FRAME, "the reads do not give the book's pages"),
+    (
+        Fault::DiscardsDownward,
+        FRAMES,
+        "a discard gives Store { place: 768, word: 17 }, due Store { place: 512, word: 1 }",
+    ),
+    (Fault::DiscardsUntouched, ONE_FRAME, "opening again shows a page that is not permitted"),
+    (Fault::DiscardRefusesUntouched, ONE_FRAME, "a discard with a tape of 95 numbers answers 11, due 0"),
+];
+
+/// The faults of discards, and what is due otherwise in their story.
+const FAULTS_OF_DISCARD: [(Fault, &str); 9] = [
+    (Fault::DiscardClearsMarks, "a discard changes the card"),
+    (Fault::DiscardClearsTouch, "a discard changes the card"),
+    (Fault::DiscardStoresAllFrames, "a discard gives 64 orders, due 32"),
+    (Fault::DiscardFlushes, "a discard gives 36 orders, due 32"),
+    (Fault::DiscardsToZeros, "discard of level 0, the reads do not give the book's pages"),
+    (Fault::DiscardsEmptyFromSpare, "discard of level 1, the reads do not give the book's pages"),
+    (
+        Fault::DiscardsDownward,
+        "a discard gives Store { place: 768, word: 572662306 }, due Store { place: 512, word: 0 }",
+    ),
+    (Fault::DiscardsUntouched, "a discard gives 32 orders, due 0"),
+    (Fault::DiscardRefusesUntouched, "a discard with a tape of 0 numbers answers 11, due 0"),
+];
+
+/// The faults of discards that no page shows, at any cut.
+const DISCARDS_THAT_KEEP_DEMAND_3: [Fault; 4] = [
+    Fault::DiscardStoresAllFrames,
+    Fault::DiscardFlushes,
+    Fault::DiscardsDownward,
+    Fault::DiscardRefusesUntouched,
 ];
 
 /// The faults of a save's states, and what is heard after a restart.
@@ -232,6 +284,13 @@ fn keeps_demand_3(fault: Fault) -> Outcome {
     Ok(Found { text: format!("{} histories, {} images", sum("histories"), sum("images")), counts })
 }
 
+/// The explorer finds nothing by demand 3 and the book in histories with discards.
+fn discards_keep_demand_3(fault: Fault) -> Outcome {
+    let faulty = Reference::faulty(fault);
+    groups::short_histories_without_laws(&faulty, SMALL, 3)?;
+    groups::short_histories_without_laws(&faulty, TWO_OF_FRAMES, 3)
+}
+
 /// What random histories on two benches show of a fault: one that takes spares by
 /// what stood on the tape, one that only three consoles show.
 fn on_two_benches(fault: Fault) -> Outcome {
@@ -246,19 +305,21 @@ fn heard(story: Outcome, breaks: &str) -> Outcome {
     }
 }
 
-/// Among calls with any contents each fault of long writes, of the new spare and
-/// of consoles answers or leaves something else than the reference.
+/// Among calls with any contents each fault of long writes, of the new spare, of
+/// consoles and of discards answers or leaves something else than the reference.
 fn differ(good: &Reference) -> Outcome {
     let mut differences = Vec::new();
     let of_writes = FAULTS_OF_WRITE.map(|(fault, _)| fault);
+    let of_discards = FAULTS_OF_DISCARD.map(|(fault, _)| fault);
     let of_spares = FAULTS_OF_SPARE.map(|(fault, ..)| fault);
     let in_use = [Fault::TakesSpareInUse, Fault::TakesLowestPaired];
     let of_consoles = FAULTS_OF_CONSOLES.map(|(fault, _)| fault);
     let of_three = [Fault::OverdrawnShares];
-    for fault in of_writes.iter().chain(&of_spares).chain(&in_use).chain(&of_consoles).chain(&of_three) {
+    let of_frames = [&of_writes[..], &of_discards].concat();
+    for fault in of_frames.iter().chain(&of_spares).chain(&in_use).chain(&of_consoles).chain(&of_three) {
         let faulty = Reference::faulty(*fault);
         let both = Compared::new(good, &faulty);
-        match of_writes.contains(fault) {
+        match of_frames.contains(fault) {
             true => groups::any_contents(&both, 33, 200, |rng| arbitrary::sizes(rng, 3)),
             false => groups::any_contents(&both, 33, 400, |_| FIVE),
         }
@@ -290,10 +351,14 @@ fn forms_agree(good: &Reference) -> Outcome {
         long_writes(&compared, EVERY_CUT)?;
         longest_writes(&compared)?;
         consoles::story(&compared)?;
+        discards::story(&compared, FEW_CUTS)?;
+        discards::worked_example(&compared)?;
+        discards::longest(&compared)?;
         benches::one_sheet(&compared)?;
         compared.verdict()?;
         compared.spans().all_tried()?;
         compared.charges().all_tried()?;
+        compared.discards().all_tried()?;
         calls += compared.calls();
     }
     Ok(Found::new(format!("{calls} calls as the reference"), &[("calls compared", calls)]))

@@ -92,7 +92,7 @@ fn printed_by_laws(input: &[u8]) -> Result<(Vec<u8>, Tried), String> {
     let due = sheet::printed_on(&Reference::good(), Rubbish::Zeros, input, |_, call, ran| {
         match (&call.deed, &mut tally, &mut all) {
             (Deed::Open(sizes), _, _) => tally = Some(Tally::start(&ran.before, *sizes, &ran.left)),
-            (_, Some(tally), Ok(tried)) => match tally.feed(ran.seen(call)) {
+            (_, Some(tally), Ok(tried)) => match ran.feed(tally, call) {
                 Ok(more) => tried.add(more),
                 Err(what) => all = Err(format!("{call}: {what}")),
             },

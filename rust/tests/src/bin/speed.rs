@@ -9,16 +9,16 @@
 //! the stack, since its place in its page alone moves a small call. Before
 //! measuring, all sides must give the same answers.
 //!
-//! Writes that copy nothing, saves and reads find every spare paired that can be,
-//! unless the row's name says how many are. The calls are lent the record of one
+//! Writes that copy nothing, discards, saves and reads find every spare paired that
+//! can be, unless the row's name says how many are. The calls are lent the record of one
 //! console, for which every spare is kept, or those of two, each with half of them,
 //! where the row's name says so. The line
 //! `worst: copies=C writes=W rust=R small=Q calls=K limit=L` has the greatest ratios
 //! of the library's time to Rust's: C over openings and writes that copy, of 1,000
 //! orders or more, W over all writes that copy, R over calls of 1,000 orders or
-//! more and over replay, Q over all other calls, K over all writes, saves and reads;
-//! and L, the greatest ratio to memset of an opening at 64,64,64. The line before
-//! names the row of K.
+//! more and over replay, Q over all other calls, K over all writes, discards, saves
+//! and reads; and L, the greatest ratio to memset of an opening at 64,64,64. The line
+//! before names the row of K.
 
 use crpm::ffi::{Client, Session};
 use crpm_tests::arbitrary::{distinct_data, image_of, Metadata};
@@ -33,15 +33,17 @@ use std::hint::black_box;
 use std::process::ExitCode;
 use std::time::Instant;
 
-const USAGE: &str = "usage: speed
+const USAGE: &str = "usage: speed [--no-discards]
 Measures the library beside safe Rust, memset and memcpy, and counts what an epoch costs; some seconds.
-A line for each call, totals at the end. Status: 0 measured, 1 answers differ, 2 wrong arguments.";
+A line for each call, totals at the end. Status: 0 measured, 1 answers differ, 2 wrong arguments.
+--no-discards: leaves these out, for a library before 2.1.0, which has none.";
 
 fn main() -> ExitCode {
-    if let Err(status) = arguments(USAGE, &[], 0) {
-        return status;
-    }
-    match run() {
+    let given = match arguments(USAGE, &["--no-discards"], 0) {
+        Ok(given) => given,
+        Err(status) => return status,
+    };
+    match run(given.is_empty()) {
         Ok((calls, workloads)) => {
             println!("speed: {calls} calls measured, {workloads} workloads, failures 0");
             ExitCode::SUCCESS
@@ -75,6 +77,8 @@ enum Action {
     Format,
     Open,
     Write(Target, Vec<u8>),
+    /// A discard of level 0.
+    Discard,
     Save,
     Replay,
     /// A read of the last frame of a level.
@@ -114,6 +118,9 @@ impl Case {
             (Action::Write(t, b), Side::Chunked) => {
                 fast::write::<Chunked>(image, session, run, *t, b, tape, out)
             }
+            (Action::Discard, Side::Library) => raw::discard(image, session, 0, tape, out),
+            (Action::Discard, Side::Indexed) => fast::discard::<Indexed>(image, session, 0, tape, out),
+            (Action::Discard, Side::Chunked) => fast::discard::<Chunked>(image, session, 0, tape, out),
             (Action::Save, Side::Library) => raw::checkpoint(image, session, run, tape, out),
             (Action::Save, _) => fast::save(image, session, run, tape, out),
             (Action::Replay, Side::Library) => raw::replay(image, tape, u64::MAX, out),
@@ -129,13 +136,18 @@ impl Case {
     /// The orders written or played; none for the other calls.
     fn orders(&self) -> u64 {
         match self.action {
-            Action::Open | Action::Write(..) | Action::Save | Action::Replay => self.out,
+            Action::Open | Action::Write(..) | Action::Discard | Action::Save | Action::Replay => self.out,
             _ => 0,
         }
     }
 
-    /// Does the call copy or fill frames? Of the writes measured here those that
-    /// give more orders than they have bytes: the copying ones write 8 bytes.
+    /// Is the call a write, a discard, a save or a read?
+    fn counts(&self) -> bool {
+        matches!(self.action, Action::Write(..) | Action::Discard | Action::Save | Action::Read(..))
+    }
+
+    /// Does the call copy or fill frames and flush them? Of the writes measured here
+    /// those that give more orders than they have bytes: the copying ones write 8 bytes.
     fn copies(&self) -> bool {
         match &self.action {
             Action::Open => true,
@@ -252,6 +264,10 @@ fn cases(sizes: Sizes) -> Vec<Case> {
         case("write, copy of 1 frame", write(8), &with_spares, few),
         case("write, copy of all frames", write(8), &with_spares, full),
         case("write, new spare", write(8), &own, few),
+        case("discard of 1 frame", Action::Discard, &in_spares, touched_few),
+        case("discard of all frames", Action::Discard, &in_spares, touched_full),
+        case("discard, empty level", Action::Discard, &empty, touched_full),
+        case("discard, untouched level", Action::Discard, &in_spares, few),
         case("save, one mark", Action::Save, &in_spares, touched_few),
         case("save, all marks", Action::Save, &in_spares, touched_full),
         case("save, restored levels", Action::Save, &in_spares, fresh),
@@ -386,8 +402,9 @@ fn memcpy_of_image(sizes: Sizes) -> f64 {
     median(times.collect())
 }
 
-/// Measures and prints everything; how many calls and workloads there were.
-fn run() -> Result<(usize, usize), String> {
+/// Measures and prints everything, or all but discards; how many calls and workloads
+/// there were.
+fn run(discards: bool) -> Result<(usize, usize), String> {
     let mut measured = 0;
     let (mut worst, mut small, mut limit, mut replay) = (0.0f64, 0.0f64, 0.0f64, 0.0f64);
     let (mut copies, mut writes) = (0.0f64, 0.0f64);
@@ -399,7 +416,8 @@ fn run() -> Result<(usize, usize), String> {
             "  {:<26} {:>7} {:>11} {:>11} {:>8} {:>6} {:>11} {:>6}",
             "call", "orders", "library", "rust", "form", "ratio", "memset", "tape"
         );
-        for case in &mut cases(sizes) {
+        let measures = |case: &Case| discards || !matches!(case.action, Action::Discard);
+        for case in cases(sizes).iter_mut().filter(|case| measures(case)) {
             let row = measure(case)?;
             measured += 1;
             let (ratio, to_limit) = (row.library / row.rust, row.library / row.memset);
@@ -417,7 +435,7 @@ fn run() -> Result<(usize, usize), String> {
             if row.copies && matches!(case.action, Action::Write(..)) {
                 writes = writes.max(ratio);
             }
-            if matches!(case.action, Action::Write(..) | Action::Save | Action::Read(..)) && ratio > calls.0 {
+            if case.counts() && ratio > calls.0 {
                 calls = (ratio, format!("{} at {sizes}", case.name));
             }
             if sizes == LARGEST && matches!(case.action, Action::Open) {
@@ -428,7 +446,7 @@ fn run() -> Result<(usize, usize), String> {
     let workloads = workloads()?;
     println!("replay: worst ratio {replay:.2}");
     let (calls, row) = calls;
-    println!("writes, saves, reads: worst ratio {calls:.2}, {row}");
+    println!("writes, discards, saves, reads: worst ratio {calls:.2}, {row}");
     println!(
         "worst: copies={copies:.2} writes={writes:.2} rust={worst:.2} small={small:.2} calls={calls:.2} \
          limit={limit:.2}"

@@ -84,7 +84,7 @@ impl At {
 type Formula = fn(At) -> usize;
 
 /// The macros: name, what the crate has, what the reference has.
-const MACROS: [(&str, Formula, Formula); 7] = [
+const MACROS: [(&str, Formula, Formula); 8] = [
     ("IMAGE_SIZE", |at| at.layout().image_size(), |at| at.sizes.image_length()),
     (
         "MAIN_AT",
@@ -98,6 +98,7 @@ const MACROS: [(&str, Formula, Formula); 7] = [
     ),
     ("OPEN_TRACE", |at| at.layout().open_trace_length(), |at| at.sizes.opening_room()),
     ("WRITE_TRACE", |at| at.layout().write_trace_length(), |at| at.sizes.write_room()),
+    ("DISCARD_TRACE", |at| at.layout().discard_trace_length(), |at| at.sizes.discard_room()),
     ("CHECKPOINT_TRACE", |at| at.layout().checkpoint_trace_length(), |at| at.sizes.save_room()),
     ("TRACE", |at| at.layout().trace_length(), |at| at.sizes.room()),
 ];
