@@ -10,7 +10,7 @@ use Rattle.model.specs.Layout.{ssInitial, ssMain, ssBackup, imageSize, segmentS
 use Rattle.model.specs.Words.{Image}
 use Rattle.model.specs.Container.{segState, backupToMain, Valid, pairedBackup, byState, checkpointLocated}
 use Rattle.model.proofs.Laws.Layout.{segment-in-image}
-use Rattle.model.proofs.Laws.Container.{paired-at, paired-by}
+use Rattle.model.proofs.Laws.Container.{kept-at}
 
 -- a segment that starts there ends inside the image
 abbrev pub Inside : Layout → Image → Located → Type 0
@@ -34,7 +34,7 @@ module _ (l : Layout) (I : Image) (line i : ℕ) where
   module _ (v : Valid l (segState I line) (backupToMain I)) (b : i < l .mains) where
     -- a main segment in state 2 has a backup segment
     pub backup-there : segState I line i ≡ ssBackup → pairedBackup l (backupToMain I) i < l .backups
-    backup-there h = let k = v .kept i b h in paired-at l (backupToMain I) i (paired-by l (backupToMain I) i (k .0) (k .1) (k .2)) .0
+    backup-there h = kept-at l (backupToMain I) i v b h .0
 
     -- a checkpoint that stands somewhere stands inside the image
     pub located-inside : length I ≡ imageSize l → Inside l I (checkpointLocated l I line i)

@@ -5,8 +5,8 @@ use mathlib.Core.Path.{_≡_, refl, sym, ap, _∙_, subst, subst₂}
 use mathlib.Core.Logic.{inl, inr, ⊎-elim}
 use native.Mathlib.Omega.{arith}
 use borrow.Author.Tests.{eq-eqb}
-use lib.ListN.{length, getD, take, drop, length-drop}
-use lib.Seq.{take-length, length-take-le, getD-take, getD-drop, ext-getD}
+use lib.ListN.{length, getD}
+use lib.Seq.{take-length}
 use Rattle.model.specs.declared.Layout.{Layout}
 use Rattle.model.specs.declared.Session.{Session}
 use Rattle.model.specs.Words.{Image, byteAt}
@@ -24,7 +24,7 @@ use Rattle.model.proofs.Laws.Replay.{discard-main, call-ok}
 use Rattle.model.proofs.Argument.Persist.{Clear, replay-clear}
 use Rattle.model.proofs.Argument.Stores.{Outside}
 use Rattle.model.proofs.Argument.Discard.{discard-clear}
-use Rattle.model.proofs.Argument.Pages.{contentsOf, Whole, block-inside}
+use Rattle.model.proofs.Argument.Pages.{contentsOf, Whole, parts-same, block-inside}
 use Rattle.model.proofs.Argument.Stands.{Stands, whole-lines, inv-at, session-known}
 use Rattle.model.proofs.Argument.DiscardCall.{page, page-here, discard-argument}
 use Rattle.model.proofs.CrashSafety.{history-stands}
@@ -34,15 +34,8 @@ use Rattle.model.proofs.Sisters.{stands-read}
 block-same : (l : Layout) (P Q : Page) → Whole l P → Whole l Q → (i b : ℕ) → i < l .mains → b < l .blocks
     → ((x : ℕ) → x < segmentSize l → contentsOf l P i x ≡ contentsOf l Q i x) → pageBlock l P i b ≡ pageBlock l Q i b
 block-same l P Q wp wq i b hi hb same =
-    ext-getD 0 (pageBlock l P i b) (pageBlock l Q i b) (long P wp ∙ sym (long Q wq))
-    (λ x h. let y : x < 256 = omega (arith, h, long P wp) in
-    at P x y ∙ same (256 * b + x) (omega arith) ∙ sym (at Q x y))
-  where
-    long : (S : Page) → Whole l S → length (pageBlock l S i b) ≡ 256
-    long S w = length-take-le 256 (drop (pageAt l i b) S) (omega (arith, length-drop (pageAt l i b) S, w, block-inside l i b hi hb))
-
-    at : (S : Page) (x : ℕ) → x < 256 → getD (pageBlock l S i b) x 0 ≡ contentsOf l S i (256 * b + x)
-    at S x y = getD-take 256 (drop (pageAt l i b) S) x 0 y ∙ getD-drop (pageAt l i b) S x 0 ∙ ap (λ (n : ℕ). getD S n 0) (omega arith)
+    parts-same P Q (pageAt l i b) (pageAt l i b) (omega (arith, wp, block-inside l i b hi hb)) (omega (arith, wq, block-inside l i b hi hb))
+    (λ x h. ap (λ (n : ℕ). getD P n 0) (omega arith) ∙ same (256 * b + x) (omega arith) ∙ ap (λ (n : ℕ). getD Q n 0) (omega arith))
 
 module _ (s : State) (st : Stands s) (i : ℕ) (k : Lent) (h : outcome (s .device) (callDiscard i k) .status ≡ 0) where
   abbrev d : Device

@@ -20,7 +20,7 @@ use Rattle.model.specs.Discard.{locatedWord, restoreDirty, discardOps}
 use Rattle.model.specs.Crash.{CrashImage}
 use Rattle.model.proofs.Laws.Words.{byte-of-word, byte-of-zero}
 use Rattle.model.proofs.Laws.Layout.{segment-in-image, apart}
-use Rattle.model.proofs.Laws.Container.{paired-at, paired-by}
+use Rattle.model.proofs.Laws.Container.{kept-at}
 use Rattle.model.proofs.Argument.Persist.{Clear, replay-clear}
 use Rattle.model.proofs.Argument.Runs.{Puts, puts-block, dirty-clear, clean-clear, dirty-leaves}
 use Rattle.model.proofs.Argument.View.{Recoverable}
@@ -64,8 +64,7 @@ module _ (O : Ops) (I₀ : Image) (s : Session) (P W : Contents) (held : Bytes I
     unfolding checkpointLocated byState
     located-bytes b k m hb hk hm = by-place
         (λ e. rw e (byte-of-zero m ∙ sym (inv .recovers .holds .initial i (256 * b + 8 * k + m) hi (omega arith) e)))
-        (λ e. let j = inv .recovers .holds .valid .kept i hi e in
-        let p = paired-at l (backupToMain I) i (paired-by l (backupToMain I) i (j .0) (j .1) (j .2)) in
+        (λ e. let p = kept-at l (backupToMain I) i (inv .recovers .holds .valid) hi e in
         rw e (byte-of-word (byteAt I) (backupAt l (pairedBackup l (backupToMain I) i) + 256 * b + 8 * k) m (inv .recovers .fit .bytes) hm
         ∙ ap (λ (n : ℕ). byteAt I n) (omega arith)
         ∙ inv .recovers .holds .backup i (pairedBackup l (backupToMain I) i) (256 * b + 8 * k + m) hi (p .0) (omega arith) e (p .1)))

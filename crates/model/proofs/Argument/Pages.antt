@@ -20,7 +20,7 @@ use Rattle.model.specs.Reference.{Page, pageBlock, pageAt}
 use Rattle.model.specs.CrashSafety.{Reads}
 use Rattle.model.proofs.Laws.Range.{length-cat}
 use Rattle.model.proofs.Laws.Layout.{segment-in-image}
-use Rattle.model.proofs.Laws.Container.{ContainerOk, container-passes, paired-by, paired-at, paired-once}
+use Rattle.model.proofs.Laws.Container.{ContainerOk, container-passes, kept-at, paired-once}
 use Rattle.model.proofs.Laws.Same.{length-checkpoint, length-checkpoint-segment}
 use Rattle.model.proofs.Argument.View.{Recoverable}
 use Rattle.model.proofs.Argument.Holds.{Contents, Holds}
@@ -32,6 +32,21 @@ contentsOf l P i x = getD P (256 * (i * l .blocks) + x) 0
 -- as many bytes as the main segments have
 abbrev pub Whole : Layout → Page → Type 0
 Whole l P = length P ≡ segmentSize l * l .mains
+
+-- ---- blocks of lists
+
+-- two blocks of 256 bytes are the same if all their bytes are
+pub parts-same : (X Y : List ℕ) (a b : ℕ) → a + 256 ≤ length X → b + 256 ≤ length Y
+    → ((x : ℕ) → x < 256 → getD X (a + x) 0 ≡ getD Y (b + x) 0) → take 256 (drop a X) ≡ take 256 (drop b Y)
+parts-same X Y a b hx hy same =
+    ext-getD 0 (take 256 (drop a X)) (take 256 (drop b Y)) (long X a hx ∙ sym (long Y b hy))
+    (λ x h. let y : x < 256 = omega (arith, h, long X a hx) in at X a x y ∙ same x y ∙ sym (at Y b x y))
+  where
+    long : (Z : List ℕ) (c : ℕ) → c + 256 ≤ length Z → length (take 256 (drop c Z)) ≡ 256
+    long Z c h = length-take-le 256 (drop c Z) (omega (arith, h, length-drop c Z))
+
+    at : (Z : List ℕ) (c x : ℕ) → x < 256 → getD (take 256 (drop c Z)) x 0 ≡ getD Z (c + x) 0
+    at Z c x h = getD-take 256 (drop c Z) x 0 h ∙ getD-drop c Z x 0
 
 -- ---- joined lists of one length
 
@@ -141,28 +156,13 @@ module _ (l : Layout) (I : Image) (P W : Page) (wp : Whole l P) (ww : Whole l W)
   block-is : (Q : Page) (k i b : ℕ) → Whole l Q → k < l .mains + l .backups → i < l .mains → b < l .blocks
       → ((x : ℕ) → x < segmentSize l → byteAt I (segmentAt l k + x) ≡ contentsOf l Q i x) → partOf I (blockPart (segmentAt l k) b) ≡ pageBlock l Q i b
   block-is Q k i b whole hk hi hb same =
-      ext-getD 0 (take 256 (drop (segmentAt l k + 256 * b) I)) (take 256 (drop (pageAt l i b) Q)) (long ∙ sym long′)
-      (λ x h. let y : x < 256 = omega (arith, long) in
-      getD-take 256 (drop (segmentAt l k + 256 * b) I) x 0 y ∙ getD-drop (segmentAt l k + 256 * b) I x 0
-      ∙ ap (λ (n : ℕ). byteAt I n) (omega arith) ∙ same (256 * b + x) (omega arith) ∙ ap (λ (n : ℕ). getD Q n 0) (omega arith)
-      ∙ sym (getD-take 256 (drop (pageAt l i b) Q) x 0 y ∙ getD-drop (pageAt l i b) Q x 0))
-    where
-      long : length (take 256 (drop (segmentAt l k + 256 * b) I)) ≡ 256
-      long = length-take-le 256 (drop (segmentAt l k + 256 * b) I)
-          (omega (arith, length-drop (segmentAt l k + 256 * b) I, r .fit .long, segment-in-image l k hk))
-
-      long′ : length (take 256 (drop (pageAt l i b) Q)) ≡ 256
-      long′ = length-take-le 256 (drop (pageAt l i b) Q) (omega (arith, length-drop (pageAt l i b) Q, whole, block-inside l i b hi hb))
+      parts-same I Q (segmentAt l k + 256 * b) (pageAt l i b) (omega (arith, r .fit .long, segment-in-image l k hk)) (omega (arith, whole, block-inside l i b hi hb))
+      (λ x h. ap (λ (n : ℕ). byteAt I n) (omega arith) ∙ same (256 * b + x) (omega arith) ∙ ap (λ (n : ℕ). getD Q n 0) (omega arith))
 
   zero-block : (i b : ℕ) → i < l .mains → b < l .blocks → activeState I i ≡ 0 → pageBlock l P i b ≡ replicate 256 0
   zero-block i b hi hb e =
-      ext-getD 0 (take 256 (drop (pageAt l i b) P)) (replicate 256 0) (long ∙ sym (length-replicate {A = ℕ} 256 0))
-      (λ x h. let y : x < 256 = omega (arith, long) in
-      getD-take 256 (drop (pageAt l i b) P) x 0 y ∙ getD-drop (pageAt l i b) P x 0
-      ∙ ap (λ (n : ℕ). getD P n 0) (omega arith) ∙ r .holds .initial i (256 * b + x) hi (omega arith) e ∙ sym (getD-replicate 256 x 0 0 y))
-    where
-      long : length (take 256 (drop (pageAt l i b) P)) ≡ 256
-      long = length-take-le 256 (drop (pageAt l i b) P) (omega (arith, length-drop (pageAt l i b) P, wp, block-inside l i b hi hb))
+      parts-same P (replicate 256 0) (pageAt l i b) 0 (omega (arith, wp, block-inside l i b hi hb)) (omega (arith, length-replicate {A = ℕ} 256 0))
+      (λ x h. ap (λ (n : ℕ). getD P n 0) (omega arith) ∙ r .holds .initial i (256 * b + x) hi (omega arith) e ∙ sym (getD-replicate {A = ℕ} 256 (0 + x) 0 0 (omega arith)))
 
   saved : (i b : ℕ) → i < l .mains → b < l .blocks → (checkpointBlock l I i b ≡ pageBlock l P i b)
       ⊎ ((segState I (activeLine I) i ≡ 0) × (checkpointBlock l I i b ≡ []) × (pageBlock l P i b ≡ replicate 256 0))
@@ -175,8 +175,7 @@ module _ (l : Layout) (I : Image) (P W : Page) (wp : Whole l P) (ww : Whole l W)
       go (suc zero) e = inl (rw (read-served i b hi hb, e) (block-is P i i b wp (omega arith) hi hb (λ x k. r .holds .own i x hi k e)))
       go (suc (suc n)) e =
           let two : activeState I i ≡ 2 = omega (arith, r .holds .valid .states i hi) in
-          let k = r .holds .valid .kept i hi two in
-          let p = paired-at l (backupToMain I) i (paired-by l (backupToMain I) i (k .0) (k .1) (k .2)) in
+          let p = kept-at l (backupToMain I) i (r .holds .valid) hi two in
           inl (rw (read-served i b hi hb, e) (block-is P (l .mains + pairedBackup l (backupToMain I) i) i b wp (omega (arith, p .0)) hi hb
           (λ x y. r .holds .backup i (pairedBackup l (backupToMain I) i) x hi (p .0) y two (p .1))))
 

@@ -56,7 +56,11 @@ module _ (l : Layout) (pr : ℕ → ℕ) (i : ℕ) where
   unfolding isPaired
   paired-by j b e = any-at (l .backups) (λ (j : ℕ). eqb (pr j) i) j b (eq-eqb _ _ e)
 
-  -- a main segment has one backup only
+  -- a main segment in state 2 has a backup
+  pub kept-at : {st : ℕ → ℕ} → Valid l st pr → i < l .mains → st i ≡ ssBackup → (pairedBackup l pr i < l .backups) × (pr (pairedBackup l pr i) ≡ i)
+  kept-at v h two = let k = v .kept i h two in paired-at (paired-by (k .0) (k .1) (k .2))
+
+  -- and has one backup only
   pub paired-once : {st : ℕ → ℕ} → Valid l st pr → (j : ℕ) → j < l .backups → pr j ≡ i → i < l .mains → pairedBackup l pr i ≡ j
   paired-once v j b e m =
       let p = paired-at (paired-by j b e) in

@@ -21,7 +21,7 @@ use Rattle.model.specs.Outcome.{Lent}
 use Rattle.model.specs.Discard.{locatedWord, restoreDirty, discardOps, discardErrors, discardStatus}
 use Rattle.model.specs.DiscardRestores.{eachStored, DiscardStores}
 use Rattle.model.proofs.Laws.Range.{cat-ext}
-use Rattle.model.proofs.Laws.Container.{ContainerOk, container-then, paired-by, paired-at}
+use Rattle.model.proofs.Laws.Container.{ContainerOk, container-then, kept-at}
 use Rattle.model.proofs.Laws.Session.{dirty-means}
 use Rattle.model.proofs.Laws.Status.{served-condition, given-condition}
 use Rattle.model.proofs.Laws.TraceLength.{long-enough}
@@ -56,8 +56,7 @@ module _ (s : Session) (I : Image) (i : ℕ) where
       go (suc zero) e = absurd (dirty .1 e)
       go (suc (suc n)) e =
           let two : activeState I i ≡ 2 = omega (arith, c .valid .states i (dirty .0)) in
-          let k = c .valid .kept i (dirty .0) two in
-          let p = paired-at l (backupToMain I) i (paired-by l (backupToMain I) i (k .0) (k .1) (k .2)) in
+          let p = kept-at l (backupToMain I) i (c .valid) (dirty .0) two in
           inr (two, (pairedBackup l (backupToMain I) i, p .0, p .1, rw two refl))
 
   -- a block that is not written back is its stores

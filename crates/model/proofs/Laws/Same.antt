@@ -18,7 +18,7 @@ use Rattle.model.specs.Container.{activeLine, segState, backupToMain, pa
 use Rattle.model.specs.Same.{sameErrors, sameBytes, sameCheckpoint, sameOutcome}
 use Rattle.model.proofs.Laws.Range.{length-cat, all-at, all-from}
 use Rattle.model.proofs.Laws.Layout.{segment-in-image}
-use Rattle.model.proofs.Laws.Container.{ContainerOk, paired-at, paired-by, container-ok, container-then}
+use Rattle.model.proofs.Laws.Container.{ContainerOk, kept-at, container-ok, container-then}
 
 -- ---- how long a checkpoint is
 
@@ -36,8 +36,7 @@ module _ (l : Layout) (I : Image) (c : ContainerOk l I) where
       go zero e = length-replicate (segmentSize l) 0
       go (suc zero) e = length-segment i (omega arith)
       go (suc (suc n)) e =
-          let k = c .valid .kept i h (omega (arith, e, c .valid .states i h)) in
-          let p = paired-at l (backupToMain I) i (paired-by l (backupToMain I) i (k .0) (k .1) (k .2)) in
+          let p = kept-at l (backupToMain I) i (c .valid) h (omega (arith, e, c .valid .states i h)) in
           length-segment (l .mains + pairedBackup l (backupToMain I) i) (omega (arith, p .0))
 
   pub length-checkpoint : length (checkpointBytes l I (activeLine I)) ≡ segmentSize l * l .mains
