@@ -5,7 +5,7 @@
 //! Runs (section 5.7) likewise have any numbers that 13 does not refuse, or are
 //! spoiled. Nothing here calls an implementation.
 
-use crate::book::{saved_bytes, Call, Deed};
+use crate::book::{saved_bytes, Call};
 use crate::calls::*;
 use crate::prng::Rng;
 

@@ -10,7 +10,7 @@
 //! the calls; over a `Compared` what the benches do is the reference's too.
 
 use crate::arbitrary;
-use crate::book::{Call, Deed};
+use crate::book::Call;
 use crate::calls::*;
 use crate::groups::{due, laws_tried, plain};
 use crate::laws::{Seen, Tally, Tried};
@@ -103,7 +103,8 @@ impl<'a, C: Calls> Bench<'a, C> {
         let mut orders = self.rubbish.numbers(tape);
         let lent = call.lent.as_ref().unwrap_or(&self.run).clone();
         let (card_lent, mut left) = (self.card, lent.clone());
-        let answer = call.deed.make(self.calls, &self.image, &mut self.card, &mut left, &mut orders);
+        let answer =
+            self.calls.make(&call.deed, &self.image, Given::of(&mut self.card, &mut left, &mut orders));
         if call.lent.is_none() {
             self.run.clone_from(&left);
         }

@@ -7,52 +7,6 @@
 use crate::calls::*;
 use std::fmt;
 
-/// A call's arguments without image, card, run and tape.
-#[derive(Clone, PartialEq, Eq, Debug)]
-pub enum Deed {
-    Open(Sizes),
-    Write(Target, Vec<u8>),
-    /// The unsaved edits of a level are dropped.
-    Discard(u64),
-    Save,
-}
-
-impl Deed {
-    /// Makes the call.
-    pub fn make<C: Calls>(
-        &self,
-        calls: &C,
-        image: &[u8],
-        card: &mut Card,
-        run: &mut [Console],
-        tape: &mut [u64],
-    ) -> Answer {
-        match self {
-            Deed::Open(sizes) => calls.open(image, *sizes, card, run, tape),
-            Deed::Write(target, bytes) => calls.write(image, card, run, *target, bytes, tape),
-            Deed::Discard(level) => calls.discard(image, card, *level, tape),
-            Deed::Save => calls.save(image, card, run, tape),
-        }
-    }
-}
-
-impl fmt::Display for Deed {
-    fn fmt(&self, f: &mut fmt::Formatter) -> fmt::Result {
-        match self {
-            Deed::Open(sizes) => write!(f, "open {sizes}"),
-            Deed::Discard(level) => write!(f, "discard of level {level}"),
-            Deed::Save => write!(f, "save"),
-            Deed::Write(target, bytes) => {
-                let (Target { console, level, frame, offset }, length) = (target, bytes.len());
-                write!(
-                    f,
-                    "console {console} writes {length} bytes to level {level} frame {frame} at {offset}"
-                )
-            }
-        }
-    }
-}
-
 /// One call of a history: its arguments, the run that it is lent, if that is not
 /// the history's own as the last call left it, and the length of its tape.
 #[derive(Clone, PartialEq, Eq, Debug)]

@@ -223,30 +223,53 @@ pub enum Page {
     Saved,
 }
 
-/// The calls of sections 4, 6 and 9 to 13. A run is lent to those that know
-/// consoles. A discard is lent its card like a write, so that one is noticed that
-/// changes it.
+/// A call of a history (section 8.1): its arguments without image, card, run and
+/// tape.
+#[derive(Clone, PartialEq, Eq, Debug)]
+pub enum Deed {
+    Open(Sizes),
+    Write(Target, Vec<u8>),
+    /// The unsaved edits of a level are dropped.
+    Discard(u64),
+    Save,
+}
+
+impl fmt::Display for Deed {
+    fn fmt(&self, f: &mut fmt::Formatter) -> fmt::Result {
+        match self {
+            Deed::Open(sizes) => write!(f, "open {sizes}"),
+            Deed::Discard(level) => write!(f, "discard of level {level}"),
+            Deed::Save => write!(f, "save"),
+            Deed::Write(target, bytes) => {
+                let (Target { console, level, frame, offset }, length) = (target, bytes.len());
+                write!(
+                    f,
+                    "console {console} writes {length} bytes to level {level} frame {frame} at {offset}"
+                )
+            }
+        }
+    }
+}
+
+/// What a call of a history is lent besides the image.
+pub struct Given<'a> {
+    pub card: &'a mut Card,
+    pub run: &'a mut [Console],
+    pub tape: &'a mut [u64],
+}
+
+impl<'a> Given<'a> {
+    pub fn of(card: &'a mut Card, run: &'a mut [Console], tape: &'a mut [u64]) -> Given<'a> {
+        Given { card, run, tape }
+    }
+}
+
+/// The calls of sections 4, 6 and 9 to 13. `make` makes a call of a history; a discard
+/// leaves the run alone, and is lent its card like a write, so that one is noticed
+/// that changes it.
 pub trait Calls {
     fn lay_out(&self, image: &mut [u8], sizes: Sizes) -> u64;
-    fn open(
-        &self,
-        image: &[u8],
-        sizes: Sizes,
-        card: &mut Card,
-        run: &mut [Console],
-        tape: &mut [u64],
-    ) -> Answer;
-    fn write(
-        &self,
-        image: &[u8],
-        card: &mut Card,
-        run: &mut [Console],
-        target: Target,
-        bytes: &[u8],
-        tape: &mut [u64],
-    ) -> Answer;
-    fn discard(&self, image: &[u8], card: &mut Card, level: u64, tape: &mut [u64]) -> Answer;
-    fn save(&self, image: &[u8], card: &mut Card, run: &mut [Console], tape: &mut [u64]) -> Answer;
+    fn make(&self, deed: &Deed, image: &[u8], given: Given) -> Answer;
     fn play(&self, image: &mut [u8], tape: &[u64], n: u64) -> Answer;
     fn read(&self, page: Page, image: &[u8], sizes: Sizes, level: u64, frame: u64) -> Part;
     fn like(&self, first: &[u8], second: &[u8], sizes: Sizes) -> (u64, bool);

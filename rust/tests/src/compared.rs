@@ -8,7 +8,7 @@
 //! Writes are counted by their spans, calls by the records, and discards by what
 //! they store (`laws`).
 
-use crate::book::{state_of, told, Deed};
+use crate::book::{state_of, told};
 use crate::calls::*;
 use crate::laws::{Charges, Discards, Spans};
 use std::cell::{Cell, RefCell};
@@ -127,35 +127,6 @@ impl<'a, G: Calls, T: Calls> Compared<'a, G, T> {
         }
     }
 
-    /// Makes a call on both, on equal copies of what it is lent.
-    fn both(
-        &self,
-        deed: &Deed,
-        image: &[u8],
-        card: &mut Card,
-        run: &mut [Console],
-        tape: &mut [u64],
-    ) -> Answer {
-        let (kept, given, lent) = (image.to_vec(), *card, run.to_vec());
-        let (mut card_due, mut run_due, mut tape_due) = (given, lent.clone(), tape.to_vec());
-        let due = deed.make(self.good, image, &mut card_due, &mut run_due, &mut tape_due);
-        let got = deed.make(self.tested, image, card, run, tape);
-        match deed {
-            Deed::Discard(level) => self.count_discard(*level, image, &given, tape.len(), due.number),
-            _ => self.count(deed, image, &given, &lent, due.number, run_due != lent),
-        }
-        let same = (got, &*card, &*run) == (due, &card_due, &run_due) && tape_due == tape && kept == image;
-        self.judge(name_of(deed), due.number, same, || {
-            let (told, lent) = (tapes(tape, &tape_due), told(&lent));
-            let got = format!("{got:?} {card:?} {run:?}");
-            format!(
-                "{deed}, lent {lent}, tape {}: {told}; {got}, due {due:?} {card_due:?} {run_due:?}",
-                tape.len()
-            )
-        });
-        got
-    }
-
     /// Counts a call by its run, and a write by its span and by what it copies,
     /// from the image and the card that it got.
     fn count(&self, deed: &Deed, image: &[u8], card: &Card, lent: &[Console], number: u64, changes: bool) {
@@ -210,35 +181,26 @@ impl<G: Calls, T: Calls> Calls for Compared<'_, G, T> {
         got
     }
 
-    fn open(
-        &self,
-        image: &[u8],
-        sizes: Sizes,
-        card: &mut Card,
-        run: &mut [Console],
-        tape: &mut [u64],
-    ) -> Answer {
-        self.both(&Deed::Open(sizes), image, card, run, tape)
-    }
-
-    fn write(
-        &self,
-        image: &[u8],
-        card: &mut Card,
-        run: &mut [Console],
-        target: Target,
-        bytes: &[u8],
-        tape: &mut [u64],
-    ) -> Answer {
-        self.both(&Deed::Write(target, bytes.to_vec()), image, card, run, tape)
-    }
-
-    fn discard(&self, image: &[u8], card: &mut Card, level: u64, tape: &mut [u64]) -> Answer {
-        self.both(&Deed::Discard(level), image, card, &mut [], tape)
-    }
-
-    fn save(&self, image: &[u8], card: &mut Card, run: &mut [Console], tape: &mut [u64]) -> Answer {
-        self.both(&Deed::Save, image, card, run, tape)
+    /// Makes the call on both, on equal copies of what it is lent.
+    fn make(&self, deed: &Deed, image: &[u8], Given { card, run, tape }: Given) -> Answer {
+        let (kept, given, lent) = (image.to_vec(), *card, run.to_vec());
+        let (mut card_due, mut run_due, mut tape_due) = (given, lent.clone(), tape.to_vec());
+        let due = self.good.make(deed, image, Given::of(&mut card_due, &mut run_due, &mut tape_due));
+        let got = self.tested.make(deed, image, Given::of(card, run, tape));
+        match deed {
+            Deed::Discard(level) => self.count_discard(*level, image, &given, tape.len(), due.number),
+            _ => self.count(deed, image, &given, &lent, due.number, run_due != lent),
+        }
+        let same = (got, &*card, &*run) == (due, &card_due, &run_due) && tape_due == tape && kept == image;
+        self.judge(name_of(deed), due.number, same, || {
+            let (told, lent) = (tapes(tape, &tape_due), told(&lent));
+            let got = format!("{got:?} {card:?} {run:?}");
+            format!(
+                "{deed}, lent {lent}, tape {}: {told}; {got}, due {due:?} {card_due:?} {run_due:?}",
+                tape.len()
+            )
+        });
+        got
     }
 
     fn play(&self, image: &mut [u8], tape: &[u64], n: u64) -> Answer {

@@ -10,7 +10,7 @@
 //! calls.
 
 use crate::arbitrary;
-use crate::book::{told, Call, Deed};
+use crate::book::{told, Call};
 use crate::calls::*;
 use crate::explore::*;
 use crate::groups::{add, all_found, due, laid_out, metadata_of, plain, starts, states, Going};

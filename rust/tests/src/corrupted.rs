@@ -95,7 +95,7 @@ impl<'a, C: Calls> Corrupted<'a, C> {
     /// no run.
     fn answered(
         &self,
-        deed: CallKind,
+        kind: CallKind,
         answer: Answer,
         card: &mut Card,
         run: &mut [Console],
@@ -108,20 +108,20 @@ impl<'a, C: Calls> Corrupted<'a, C> {
                 tape[at] ^= 1;
             }
         };
-        tape_at(Spoil::TapeKind(deed), last, end > 0);
-        tape_at(Spoil::TapePlace(deed), 1, end > 0);
-        tape_at(Spoil::TapeWord(deed), last + 2, end > 0);
-        tape_at(Spoil::TapeBehind(deed), end, behind);
-        card.sizes.spares ^= u64::from(self.now(Spoil::CardSizes(deed), true));
-        card.touched ^= u64::from(self.now(Spoil::CardTouched(deed), true));
-        card.marks[63] ^= u64::from(self.now(Spoil::CardMarks(deed), true));
+        tape_at(Spoil::TapeKind(kind), last, end > 0);
+        tape_at(Spoil::TapePlace(kind), 1, end > 0);
+        tape_at(Spoil::TapeWord(kind), last + 2, end > 0);
+        tape_at(Spoil::TapeBehind(kind), end, behind);
+        card.sizes.spares ^= u64::from(self.now(Spoil::CardSizes(kind), true));
+        card.touched ^= u64::from(self.now(Spoil::CardTouched(kind), true));
+        card.marks[63] ^= u64::from(self.now(Spoil::CardMarks(kind), true));
         if let Some(last) = run.last_mut() {
-            last.share ^= u64::from(self.now(Spoil::RunShare(deed), true));
-            last.limit ^= u64::from(self.now(Spoil::RunLimit(deed), true));
-            last.taken ^= u64::from(self.now(Spoil::RunTaken(deed), true));
+            last.share ^= u64::from(self.now(Spoil::RunShare(kind), true));
+            last.limit ^= u64::from(self.now(Spoil::RunLimit(kind), true));
+            last.taken ^= u64::from(self.now(Spoil::RunTaken(kind), true));
         }
-        let number = answer.number + u64::from(self.now(Spoil::Number(deed), true));
-        Answer { number, orders: self.orders(Spoil::Orders(deed), answer.orders) }
+        let number = answer.number + u64::from(self.now(Spoil::Number(kind), true));
+        Answer { number, orders: self.orders(Spoil::Orders(kind), answer.orders) }
     }
 
     /// One order fewer, or one in place of none.
@@ -142,39 +142,14 @@ impl<C: Calls> Calls for Corrupted<'_, C> {
         number + u64::from(self.now(Spoil::LaidOutNumber, true))
     }
 
-    fn open(
-        &self,
-        image: &[u8],
-        sizes: Sizes,
-        card: &mut Card,
-        run: &mut [Console],
-        tape: &mut [u64],
-    ) -> Answer {
-        let answer = self.calls.open(image, sizes, card, run, tape);
-        self.answered(CallKind::Open, answer, card, run, tape)
-    }
-
-    fn write(
-        &self,
-        image: &[u8],
-        card: &mut Card,
-        run: &mut [Console],
-        target: Target,
-        bytes: &[u8],
-        tape: &mut [u64],
-    ) -> Answer {
-        let answer = self.calls.write(image, card, run, target, bytes, tape);
-        self.answered(CallKind::Write, answer, card, run, tape)
-    }
-
-    fn discard(&self, image: &[u8], card: &mut Card, level: u64, tape: &mut [u64]) -> Answer {
-        let answer = self.calls.discard(image, card, level, tape);
-        self.answered(CallKind::Discard, answer, card, &mut [], tape)
-    }
-
-    fn save(&self, image: &[u8], card: &mut Card, run: &mut [Console], tape: &mut [u64]) -> Answer {
-        let answer = self.calls.save(image, card, run, tape);
-        self.answered(CallKind::Save, answer, card, run, tape)
+    fn make(&self, deed: &Deed, image: &[u8], Given { card, run, tape }: Given) -> Answer {
+        let answer = self.calls.make(deed, image, Given::of(card, run, tape));
+        match deed {
+            Deed::Open(_) => self.answered(CallKind::Open, answer, card, run, tape),
+            Deed::Write(..) => self.answered(CallKind::Write, answer, card, run, tape),
+            Deed::Discard(_) => self.answered(CallKind::Discard, answer, card, &mut [], tape),
+            Deed::Save => self.answered(CallKind::Save, answer, card, run, tape),
+        }
     }
 
     fn play(&self, image: &mut [u8], tape: &[u64], n: u64) -> Answer {

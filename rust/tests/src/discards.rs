@@ -9,7 +9,7 @@
 //! calls.
 
 use crate::arbitrary::{distinct_data, image_of, Metadata};
-use crate::book::{pages_read, Call, Deed};
+use crate::book::{pages_read, Call};
 use crate::calls::*;
 use crate::explore::*;
 use crate::groups::{all_found, due, laid_out, plain, states};
@@ -168,7 +168,7 @@ pub fn longest<C: Calls>(calls: &C) -> Outcome {
             let mut card = Card::fresh(sizes);
             (card.touched, card.marks[0]) = (touched, marks);
             let (given, mut tape) = (card, vec![0; numbers as usize]);
-            let answer = calls.discard(&image, &mut card, 0, &mut tape);
+            let answer = calls.make(&Deed::Discard(0), &image, Given::of(&mut card, &mut [], &mut tape));
             ((answer.number, answer.orders, card == given), tape)
         };
         let told = |what| format!("the longest discard at {sizes}, {what}");

@@ -260,7 +260,7 @@ impl<'a, C: Calls> Explorer<'a, C> {
     ) -> Result<Answer, String> {
         let unchanged = if matches!(deed, Deed::Open(_)) { Card::zeros() } else { *card };
         let lent = run.to_vec();
-        let answer = deed.make(self.calls, image, card, run, tape);
+        let answer = self.calls.make(deed, image, Given::of(card, run, tape));
         match answer.served() || (*card == unchanged && *run == lent && answer.orders == 0) {
             true => Ok(answer),
             false => Err("a refused call changes the card or the run, or reports orders".to_string()),
@@ -463,7 +463,7 @@ fn open_again<C: Calls>(
 ) -> Result<usize, String> {
     let mut card = Card::zeros();
     let due: Vec<Console> = run.iter().map(|console| Console { taken: 0, ..*console }).collect();
-    let answer = calls.open(image, sizes, &mut card, run, tape);
+    let answer = calls.make(&Deed::Open(sizes), image, Given::of(&mut card, run, tape));
     if !answer.served() || card != Card::fresh(sizes) {
         return Err(format!("opening again answers {}", answer.number));
     }

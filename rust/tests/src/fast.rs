@@ -746,60 +746,28 @@ impl Fast {
     pub const FORMS: [Fast; 2] = [Fast::Indexed, Fast::Chunked];
 }
 
+/// A call of a history in this form.
+fn made<F: Form>(deed: &Deed, image: &[u8], lent: &mut Lent, tape: &mut [u64]) -> u64 {
+    let Lent { session, clients, ops } = lent;
+    match deed {
+        Deed::Open(sizes) => open::<F>(image, *sizes, session, clients, tape, ops),
+        Deed::Write(target, bytes) => write::<F>(image, session, clients, *target, bytes, tape, ops),
+        Deed::Discard(level) => discard::<F>(image, session, *level, tape, ops),
+        Deed::Save => save(image, session, clients, tape, ops),
+    }
+}
+
 impl Calls for Fast {
     fn lay_out(&self, image: &mut [u8], sizes: Sizes) -> u64 {
         format(image, sizes)
     }
 
-    fn open(
-        &self,
-        image: &[u8],
-        sizes: Sizes,
-        card: &mut Card,
-        run: &mut [Console],
-        tape: &mut [u64],
-    ) -> Answer {
+    fn make(&self, deed: &Deed, image: &[u8], Given { card, run, tape }: Given) -> Answer {
         let mut lent = Lent::of(card, run);
-        let Lent { session, clients, ops } = &mut lent;
         let number = match self {
-            Fast::Indexed => open::<Indexed>(image, sizes, session, clients, tape, ops),
-            Fast::Chunked => open::<Chunked>(image, sizes, session, clients, tape, ops),
+            Fast::Indexed => made::<Indexed>(deed, image, &mut lent, tape),
+            Fast::Chunked => made::<Chunked>(deed, image, &mut lent, tape),
         };
-        lent.answer(number, card, run)
-    }
-
-    fn write(
-        &self,
-        image: &[u8],
-        card: &mut Card,
-        run: &mut [Console],
-        target: Target,
-        bytes: &[u8],
-        tape: &mut [u64],
-    ) -> Answer {
-        let mut lent = Lent::of(card, run);
-        let Lent { session, clients, ops } = &mut lent;
-        let number = match self {
-            Fast::Indexed => write::<Indexed>(image, session, clients, target, bytes, tape, ops),
-            Fast::Chunked => write::<Chunked>(image, session, clients, target, bytes, tape, ops),
-        };
-        lent.answer(number, card, run)
-    }
-
-    fn discard(&self, image: &[u8], card: &mut Card, level: u64, tape: &mut [u64]) -> Answer {
-        let mut lent = Lent::of(card, &[]);
-        let Lent { session, ops, .. } = &mut lent;
-        let number = match self {
-            Fast::Indexed => discard::<Indexed>(image, session, level, tape, ops),
-            Fast::Chunked => discard::<Chunked>(image, session, level, tape, ops),
-        };
-        lent.answer(number, card, &mut [])
-    }
-
-    fn save(&self, image: &[u8], card: &mut Card, run: &mut [Console], tape: &mut [u64]) -> Answer {
-        let mut lent = Lent::of(card, run);
-        let Lent { session, clients, ops } = &mut lent;
-        let number = save(image, session, clients, tape, ops);
         lent.answer(number, card, run)
     }
 

@@ -7,7 +7,7 @@
 //! Each gives a line of counts or the first failure.
 
 use crate::arbitrary::{self, Metadata};
-use crate::book::{state_of, Call, Deed};
+use crate::book::{state_of, Call};
 use crate::calls::*;
 use crate::crash::{permitted, Module};
 use crate::explore::*;
@@ -53,8 +53,9 @@ pub fn bench_cases<C: Calls>(calls: &C) -> Outcome {
     due("P1 M=65", calls.lay_out(&mut [0; 1280], Sizes::new(65, 1, 1)), 1)?;
     let image = laid_out(calls, sizes)?;
     let (mut card, mut run) = (Card::zeros(), [Console::alone(sizes)]);
-    due("P2 218", calls.open(&image, sizes, &mut card, &mut run, &mut [0; 218]).number, 11)?;
-    let served = calls.open(&image, sizes, &mut card, &mut run, &mut [0; 219]);
+    let open = Deed::Open(sizes);
+    due("P2 218", calls.make(&open, &image, Given::of(&mut card, &mut run, &mut [0; 218])).number, 11)?;
+    let served = calls.make(&open, &image, Given::of(&mut card, &mut run, &mut [0; 219]));
     due("P2 219", served, Answer { number: 0, orders: 73 })?;
 
     let mut explorer = Explorer::new(calls, sizes, 1);
@@ -127,7 +128,11 @@ fn p10<C: Calls>(calls: &C) -> Result<u64, String> {
     card.marks[0] = 0b0100;
     let target = Target { console: 0, level: 0, frame: 1, offset: 8 };
     let mut run = [Console::alone(sizes)];
-    let answer = calls.write(&image, &mut card, &mut run, target, &[7; 8], &mut [0; 3 * 41]);
+    let answer = calls.make(
+        &Deed::Write(target, vec![7; 8]),
+        &image,
+        Given::of(&mut card, &mut run, &mut [0; 3 * 41]),
+    );
     due("P10 number", answer.number, 0)?;
     due("P10 marks", (card.touched, card.marks[0]), (1, 0b0010))?;
     due("P10 spares taken", run[0].taken, 1)?;
@@ -531,7 +536,11 @@ fn like_others<C: Calls>(calls: &C, rng: &mut Rng, image: &[u8], sizes: Sizes, n
     }
     calls.like(image, &other, named);
     let mut tape = vec![0; sizes.opening_room()];
-    let opened = calls.open(image, sizes, &mut Card::zeros(), &mut [Console::alone(sizes)], &mut tape);
+    let opened = calls.make(
+        &Deed::Open(sizes),
+        image,
+        Given::of(&mut Card::zeros(), &mut [Console::alone(sizes)], &mut tape),
+    );
     let mut recovered = image.to_vec();
     calls.play(&mut recovered, &tape[..3 * opened.orders as usize], u64::MAX);
     calls.like(image, &recovered, named);
@@ -557,7 +566,10 @@ fn open_any<C: Calls>(calls: &C, rng: &mut Rng, image: &[u8], sizes: Sizes) {
     card.touched = rng.word();
     card.marks[rng.below(64)] = rng.word();
     let run = arbitrary::any_run(rng, sizes);
-    with_tapes(rng, room, |tape| calls.open(image, sizes, &mut card.clone(), &mut run.clone(), tape));
+    let open = Deed::Open(sizes);
+    with_tapes(rng, room, |tape| {
+        calls.make(&open, image, Given::of(&mut card.clone(), &mut run.clone(), tape))
+    });
 }
 
 fn write_any<C: Calls>(calls: &C, rng: &mut Rng, image: &[u8], sizes: Sizes) {
@@ -566,8 +578,9 @@ fn write_any<C: Calls>(calls: &C, rng: &mut Rng, image: &[u8], sizes: Sizes) {
         let (target, bytes) = arbitrary::writing(rng, sizes);
         let run = arbitrary::any_run(rng, sizes);
         let target = Target { console: arbitrary::console(rng, &run), ..target };
+        let write = Deed::Write(target, bytes);
         with_tapes(rng, sizes.write_room() + 6, |tape| {
-            calls.write(image, &mut card.clone(), &mut run.clone(), target, &bytes, tape)
+            calls.make(&write, image, Given::of(&mut card.clone(), &mut run.clone(), tape))
         });
     }
 }
@@ -578,7 +591,9 @@ fn discard_any<C: Calls>(calls: &C, rng: &mut Rng, image: &[u8], sizes: Sizes) {
     for _ in 0..3 {
         let card = arbitrary::card(rng, image, sizes);
         let level = arbitrary::discarding_on(rng, &card, sizes);
-        let mut discard = |tape: &mut [u64]| calls.discard(image, &mut card.clone(), level, tape);
+        let deed = Deed::Discard(level);
+        let mut discard =
+            |tape: &mut [u64]| calls.make(&deed, image, Given::of(&mut card.clone(), &mut [], tape));
         with_tapes(rng, sizes.discard_room() + 6, &mut discard);
         discard(&mut []);
         let marks = card.marks[level.min(MOST - 1) as usize].count_ones() as usize;
@@ -590,7 +605,9 @@ fn save_any<C: Calls>(calls: &C, rng: &mut Rng, image: &[u8], sizes: Sizes) {
     for _ in 0..2 {
         let card = arbitrary::card(rng, image, sizes);
         let run = arbitrary::any_run(rng, sizes);
-        with_tapes(rng, sizes.room(), |tape| calls.save(image, &mut card.clone(), &mut run.clone(), tape));
+        with_tapes(rng, sizes.room(), |tape| {
+            calls.make(&Deed::Save, image, Given::of(&mut card.clone(), &mut run.clone(), tape))
+        });
     }
 }
 

@@ -13,7 +13,7 @@
 //! That one run is lent on is known by the records: they are as the last call left
 //! them. Which levels are touched and which frames marked is known by the writes.
 
-use crate::book::{saved_bytes, state_of, told, Deed};
+use crate::book::{saved_bytes, state_of, told};
 use crate::calls::*;
 
 /// A call of a history: what it was asked and lent, and what it answered and

@@ -14,46 +14,15 @@ impl Calls for Library {
         raw::format(image, sizes)
     }
 
-    fn open(
-        &self,
-        image: &[u8],
-        sizes: Sizes,
-        card: &mut Card,
-        run: &mut [Console],
-        tape: &mut [u64],
-    ) -> Answer {
+    fn make(&self, deed: &Deed, image: &[u8], Given { card, run, tape }: Given) -> Answer {
         let mut lent = Lent::of(card, run);
         let Lent { session, clients, ops } = &mut lent;
-        let number = raw::open(image, sizes, session, clients, tape, ops);
-        lent.answer(number, card, run)
-    }
-
-    fn write(
-        &self,
-        image: &[u8],
-        card: &mut Card,
-        run: &mut [Console],
-        target: Target,
-        bytes: &[u8],
-        tape: &mut [u64],
-    ) -> Answer {
-        let mut lent = Lent::of(card, run);
-        let Lent { session, clients, ops } = &mut lent;
-        let number = raw::write(image, session, clients, target, bytes, tape, ops);
-        lent.answer(number, card, run)
-    }
-
-    fn discard(&self, image: &[u8], card: &mut Card, level: u64, tape: &mut [u64]) -> Answer {
-        let mut lent = Lent::of(card, &[]);
-        let Lent { session, ops, .. } = &mut lent;
-        let number = raw::discard(image, session, level, tape, ops);
-        lent.answer(number, card, &mut [])
-    }
-
-    fn save(&self, image: &[u8], card: &mut Card, run: &mut [Console], tape: &mut [u64]) -> Answer {
-        let mut lent = Lent::of(card, run);
-        let Lent { session, clients, ops } = &mut lent;
-        let number = raw::checkpoint(image, session, clients, tape, ops);
+        let number = match deed {
+            Deed::Open(sizes) => raw::open(image, *sizes, session, clients, tape, ops),
+            Deed::Write(target, bytes) => raw::write(image, session, clients, *target, bytes, tape, ops),
+            Deed::Discard(level) => raw::discard(image, session, *level, tape, ops),
+            Deed::Save => raw::checkpoint(image, session, clients, tape, ops),
+        };
         lent.answer(number, card, run)
     }
 
@@ -111,15 +80,15 @@ fn answer(result: Result<Ops, Refusal>) -> Answer {
 }
 
 /// Runs a call on a session and clients of any contents.
-fn with_lent(
+fn with_lent<'a>(
     card: &mut Card,
     run: &mut [Console],
-    call: impl FnOnce(&mut crpm::Session, &mut [Client]) -> Answer,
+    call: impl FnOnce(&mut crpm::Session, &mut [Client]) -> Result<Ops<'a>, Refusal>,
 ) -> Answer {
     let mut lent = Lent::of(card, run);
     // SAFETY: a `crpm::Session` has the layout of its words.
     let session = unsafe { &mut *std::ptr::from_mut(&mut lent.session).cast() };
-    let answer = call(session, &mut lent.clients);
+    let answer = answer(call(session, &mut lent.clients));
     lent.hand_back(card, run);
     answer
 }
@@ -129,43 +98,29 @@ impl Calls for Wrapped {
         number(layout(sizes).and_then(|layout| crpm::format(image, layout)))
     }
 
-    fn open(
-        &self,
-        image: &[u8],
-        sizes: Sizes,
-        card: &mut Card,
-        run: &mut [Console],
-        tape: &mut [u64],
-    ) -> Answer {
-        let mut lent = Lent::of(card, run);
-        let opened = layout(sizes).and_then(|layout| crpm::open(image, layout, &mut lent.clients, tape));
-        lent.session = opened.as_ref().map_or(Session::ZEROS, |(session, _)| *session.words());
-        lent.hand_back(card, run);
-        answer(opened.map(|(_, ops)| ops))
-    }
-
-    fn write(
-        &self,
-        image: &[u8],
-        card: &mut Card,
-        run: &mut [Console],
-        target: Target,
-        bytes: &[u8],
-        tape: &mut [u64],
-    ) -> Answer {
-        let Target { console, level, frame, offset } = target;
-        let [client, main, block, offset] = [console, level, frame, offset].map(|number| number as usize);
-        with_lent(card, run, |session, clients| {
-            answer(crpm::write(image, session, clients, client, main, block, offset, bytes, tape))
-        })
-    }
-
-    fn discard(&self, image: &[u8], card: &mut Card, level: u64, tape: &mut [u64]) -> Answer {
-        with_lent(card, &mut [], |session, _| answer(crpm::discard(image, session, level as usize, tape)))
-    }
-
-    fn save(&self, image: &[u8], card: &mut Card, run: &mut [Console], tape: &mut [u64]) -> Answer {
-        with_lent(card, run, |session, clients| answer(crpm::checkpoint(image, session, clients, tape)))
+    fn make(&self, deed: &Deed, image: &[u8], Given { card, run, tape }: Given) -> Answer {
+        match deed {
+            Deed::Open(sizes) => {
+                let mut lent = Lent::of(card, run);
+                let opened =
+                    layout(*sizes).and_then(|layout| crpm::open(image, layout, &mut lent.clients, tape));
+                lent.session = opened.as_ref().map_or(Session::ZEROS, |(session, _)| *session.words());
+                lent.hand_back(card, run);
+                answer(opened.map(|(_, ops)| ops))
+            }
+            Deed::Write(Target { console, level, frame, offset }, bytes) => {
+                let [client, main, block, offset] = [console, level, frame, offset].map(|n| *n as usize);
+                with_lent(card, run, |session, clients| {
+                    crpm::write(image, session, clients, client, main, block, offset, bytes, tape)
+                })
+            }
+            Deed::Discard(level) => {
+                with_lent(card, run, |session, _| crpm::discard(image, session, *level as usize, tape))
+            }
+            Deed::Save => {
+                with_lent(card, run, |session, clients| crpm::checkpoint(image, session, clients, tape))
+            }
+        }
     }
 
     fn play(&self, image: &mut [u8], tape: &[u64], n: u64) -> Answer {

@@ -10,7 +10,7 @@
 //! Like the other groups these run over any implementation of the calls.
 
 use crate::arbitrary::{distinct_data, image_of, Metadata};
-use crate::book::{pages_read, Call, Contents, Deed};
+use crate::book::{pages_read, Call, Contents};
 use crate::calls::*;
 use crate::crash::Module;
 use crate::explore::*;
@@ -113,7 +113,7 @@ impl Kept {
     /// A call's answer, and the numbers of its orders.
     fn answered<C: Calls>(&mut self, calls: &C, image: &[u8], deed: &Deed) -> (Answer, Vec<u64>) {
         let mut tape = vec![0; SIZES.room()];
-        let answer = deed.make(calls, image, &mut self.card, &mut self.run, &mut tape);
+        let answer = calls.make(deed, image, Given::of(&mut self.card, &mut self.run, &mut tape));
         tape.truncate(answer.orders.saturating_mul(3) as usize);
         (answer, tape)
     }
@@ -234,9 +234,9 @@ pub fn longest_writes<C: Calls>(calls: &C) -> Outcome {
         let bytes = registration(1, length + 1);
         let write = |length: usize, numbers: u64| {
             let (mut card, mut tape) = (Card::fresh(sizes), vec![0; numbers as usize]);
-            let (mut run, bytes) = ([Console::alone(sizes)], &bytes[..length]);
             let target = Target { console: 0, level: 0, frame: 0, offset: 0 };
-            let answer = calls.write(&image, &mut card, &mut run, target, bytes, &mut tape);
+            let (mut run, deed) = ([Console::alone(sizes)], Deed::Write(target, bytes[..length].to_vec()));
+            let answer = calls.make(&deed, &image, Given::of(&mut card, &mut run, &mut tape));
             ((answer.number, answer.orders, card.marks[0]), tape)
         };
         let told = |what| format!("the longest write at {sizes}, {what}");

@@ -685,6 +685,79 @@ fn likeness(first: &[u8], second: &[u8], sizes: Sizes) -> Result<bool, Refusal> 
     Ok((0..a.levels.len()).all(|l| a.frames().all(|f| agree(l, f))))
 }
 
+/// The calls of a history: their orders on the tape, and what a served one leaves in
+/// card and run.
+impl Reference {
+    fn open(
+        &self,
+        image: &[u8],
+        sizes: Sizes,
+        card: &mut Card,
+        run: &mut [Console],
+        tape: &mut [u64],
+    ) -> Result<Answer, Refusal> {
+        let answer = self.opening(image, sizes, run).and_then(|orders| put_on(tape, &orders));
+        *card = if answer.is_ok() { Card::fresh(sizes) } else { Card::zeros() };
+        if answer.is_ok() && !self.has(Fault::OpeningKeepsTaken) {
+            forget_taken(run);
+        }
+        answer
+    }
+
+    fn write(
+        &self,
+        image: &[u8],
+        card: &mut Card,
+        run: &mut [Console],
+        target: Target,
+        bytes: &[u8],
+        tape: &mut [u64],
+    ) -> Result<Answer, Refusal> {
+        let written = self.with_tape(tape).writing(image, card, run, target, bytes)?;
+        let answer = put_on(tape, &written.orders);
+        if written.charged && (answer.is_ok() || self.has(Fault::ChargesRefused)) {
+            run[target.console as usize].taken += 1;
+        }
+        if answer.is_ok() {
+            *card = written.card;
+        }
+        answer
+    }
+
+    fn discard(
+        &self,
+        image: &[u8],
+        card: &mut Card,
+        level: u64,
+        tape: &mut [u64],
+    ) -> Result<Answer, Refusal> {
+        let (orders, next) = self.discarding(image, card, level)?;
+        let marks = card.marks[level as usize].count_ones() as usize;
+        if self.has(Fault::DiscardRefusesUntouched) && tape.len() < 3 * FRAME / WORD * marks {
+            return Err(Refusal::TapeShort);
+        }
+        let answer = put_on(tape, &orders)?;
+        *card = next;
+        Ok(answer)
+    }
+
+    fn save(
+        &self,
+        image: &[u8],
+        card: &mut Card,
+        run: &mut [Console],
+        tape: &mut [u64],
+    ) -> Result<Answer, Refusal> {
+        let (orders, next) = self.saving(image, card, run)?;
+        let answer = put_on(tape, &orders)?;
+        *card = next;
+        if !self.has(Fault::SaveKeepsTaken) {
+            forget_taken(run);
+        }
+        Ok(answer)
+    }
+}
+
 impl Calls for Reference {
     fn lay_out(&self, image: &mut [u8], sizes: Sizes) -> u64 {
         if !sizes.in_range() {
@@ -701,67 +774,13 @@ impl Calls for Reference {
         0
     }
 
-    fn open(
-        &self,
-        image: &[u8],
-        sizes: Sizes,
-        card: &mut Card,
-        run: &mut [Console],
-        tape: &mut [u64],
-    ) -> Answer {
-        let answer = self.opening(image, sizes, run).and_then(|orders| put_on(tape, &orders));
-        *card = if answer.is_ok() { Card::fresh(sizes) } else { Card::zeros() };
-        if answer.is_ok() && !self.has(Fault::OpeningKeepsTaken) {
-            forget_taken(run);
-        }
-        answer.unwrap_or_else(refused)
-    }
-
-    fn write(
-        &self,
-        image: &[u8],
-        card: &mut Card,
-        run: &mut [Console],
-        target: Target,
-        bytes: &[u8],
-        tape: &mut [u64],
-    ) -> Answer {
-        let writing = self.with_tape(tape).writing(image, card, run, target, bytes);
-        let answer = writing.and_then(|written| {
-            let answer = put_on(tape, &written.orders);
-            if written.charged && (answer.is_ok() || self.has(Fault::ChargesRefused)) {
-                run[target.console as usize].taken += 1;
-            }
-            if answer.is_ok() {
-                *card = written.card;
-            }
-            answer
-        });
-        answer.unwrap_or_else(refused)
-    }
-
-    fn discard(&self, image: &[u8], card: &mut Card, level: u64, tape: &mut [u64]) -> Answer {
-        let answer = self.discarding(image, card, level).and_then(|(orders, next)| {
-            let marks = card.marks[level as usize].count_ones() as usize;
-            if self.has(Fault::DiscardRefusesUntouched) && tape.len() < 3 * FRAME / WORD * marks {
-                return Err(Refusal::TapeShort);
-            }
-            let answer = put_on(tape, &orders)?;
-            *card = next;
-            Ok(answer)
-        });
-        answer.unwrap_or_else(refused)
-    }
-
-    fn save(&self, image: &[u8], card: &mut Card, run: &mut [Console], tape: &mut [u64]) -> Answer {
-        let answer = self.saving(image, card, run).and_then(|(orders, next)| {
-            let answer = put_on(tape, &orders)?;
-            *card = next;
-            Ok(answer)
-        });
-        if answer.is_ok() && !self.has(Fault::SaveKeepsTaken) {
-            forget_taken(run);
-        }
+    fn make(&self, deed: &Deed, image: &[u8], Given { card, run, tape }: Given) -> Answer {
+        let answer = match deed {
+            Deed::Open(sizes) => self.open(image, *sizes, card, run, tape),
+            Deed::Write(target, bytes) => self.write(image, card, run, *target, bytes, tape),
+            Deed::Discard(level) => self.discard(image, card, *level, tape),
+            Deed::Save => self.save(image, card, run, tape),
+        };
         answer.unwrap_or_else(refused)
     }
 

@@ -9,7 +9,7 @@
 //! dropped again.
 //! Like the other groups it runs over any implementation of the calls.
 
-use crate::book::{Call, Deed};
+use crate::book::Call;
 use crate::calls::*;
 use crate::explore::*;
 use crate::groups::{all_found, cut_line, due, laid_out, plain, states};
@@ -90,7 +90,7 @@ fn by_numbers<C: Calls>(calls: &C, sizes: Sizes, between: Between) -> Result<(),
     let (mut image, mut card, mut run) = (laid_out(calls, sizes)?, Card::zeros(), [Console::alone(sizes)]);
     let mut hear = |image: &mut [u8], call: &Call| {
         let mut tape = vec![0; call.tape];
-        let answer = call.deed.make(calls, image, &mut card, &mut run, &mut tape);
+        let answer = calls.make(&call.deed, image, Given::of(&mut card, &mut run, &mut tape));
         calls.play(image, &tape[..3 * answer.orders as usize], answer.orders);
         answer.number
     };

@@ -6,7 +6,7 @@
 //! `benches` runs sheets over any implementation of the calls.
 
 use crate::benches::{Bench, Ran, Rubbish};
-use crate::book::{Call, Deed};
+use crate::book::Call;
 use crate::calls::*;
 use crate::groups::plain;
 use crate::reference::Reference;

@@ -2,7 +2,6 @@
 //! of tape occurs.
 
 use crpm_tests::arbitrary::{any_run, call, console, run, writing};
-use crpm_tests::book::Deed;
 use crpm_tests::calls::*;
 use crpm_tests::laws::{conditions_of_13, conditions_of_8, frames_met};
 use crpm_tests::prng::Rng;

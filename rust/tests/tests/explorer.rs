@@ -1,7 +1,7 @@
 //! The explorer with plans that the programs do not use.
 
 use crpm_tests::arbitrary::{self, Metadata};
-use crpm_tests::book::{Call, Deed};
+use crpm_tests::book::Call;
 use crpm_tests::calls::*;
 use crpm_tests::crash::Module;
 use crpm_tests::explore::{Explorer, Images, Plan};
@@ -83,7 +83,7 @@ fn a_dropped_word_is_flushed_by_the_save() {
             Deed::Save,
         ] {
             let mut tape = vec![0; SIZES.room()];
-            let answer = deed.make(calls, module.image(), &mut card, &mut run, &mut tape);
+            let answer = calls.make(&deed, module.image(), Given::of(&mut card, &mut run, &mut tape));
             assert_eq!(answer.number, 0);
             let orders = orders_of(&tape[..3 * answer.orders as usize], image.len()).expect("well formed");
             orders.into_iter().for_each(|order| module.play(order));

@@ -1,7 +1,7 @@
 //! The tally of the laws over single calls, each law broken by hand.
 
 use crpm_tests::arbitrary::{distinct_data, image_of, Metadata};
-use crpm_tests::book::{state_of, Deed};
+use crpm_tests::book::state_of;
 use crpm_tests::calls::*;
 use crpm_tests::laws::*;
 

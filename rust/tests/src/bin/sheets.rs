@@ -4,7 +4,7 @@
 //! Seeds are fixed.
 
 use crpm_tests::benches::Rubbish;
-use crpm_tests::book::Deed;
+use crpm_tests::calls::Deed;
 use crpm_tests::laws::{Tally, Tried};
 use crpm_tests::prng::Rng;
 use crpm_tests::reference::Reference;

@@ -509,11 +509,12 @@ fn workload(sizes: Sizes, writes: usize, levels: usize, frames: usize) -> Result
             let target = Target { console: 0, level, frame, offset: 8 * rng.below(32) as u64 };
             let bytes = rng.word().to_le_bytes();
             let Bench { image, card, run, tape, .. } = &mut board;
-            let answer = Library.write(image, card, run, target, &bytes, tape);
+            let answer =
+                Library.make(&Deed::Write(target, bytes.to_vec()), image, Given::of(card, run, tape));
             board.played(answer, &mut cost)?;
         }
         let Bench { image, card, run, tape, .. } = &mut board;
-        let answer = Library.save(image, card, run, tape);
+        let answer = Library.make(&Deed::Save, image, Given::of(card, run, tape));
         board.played(answer, &mut cost)?;
         if epoch >= WARM {
             library.add(cost);
@@ -547,7 +548,7 @@ impl Bench {
         let mut board = Bench { sizes, image, card, run, tape };
         Library.lay_out(&mut board.image, sizes);
         let Bench { image, card, run, tape, .. } = &mut board;
-        let opened = Library.open(image, sizes, card, run, tape);
+        let opened = Library.make(&Deed::Open(sizes), image, Given::of(card, run, tape));
         board.played(opened, &mut Cost::default())?;
         Ok(board)
     }
