@@ -1,5 +1,5 @@
--- What a discard restores (specs/DiscardRestores.antt), proved: the reads before it and after it give the pages of the reference model, which
--- differ in the one main segment.
+-- What a discard restores (specs/DiscardRestores.antt), proved: the reads before it and after it give the pages of the reference model, of
+-- which the later has the checkpoint's bytes in the one main segment; and its stores are in that segment alone.
 use Prim.Native.Nat.{ℕ, _+_, _*_, _<_}
 use mathlib.Core.Path.{_≡_, refl, sym, ap, _∙_, subst, subst₂}
 use mathlib.Core.Logic.{inl, inr, ⊎-elim}

@@ -39,16 +39,16 @@ isOpening (writeArgs w) = false
 isOpening (discardArgs i) = false
 isOpening checkpointArgs = false
 
+abbrev pub NoneOpens : State → List Call → Type 0
+NoneOpens s [] = Unit {0}
+NoneOpens s (c ∷ cs) = ((isOpening (c .args) && served (outcome (s .device) c .status)) ≡ false) × NoneOpens (step s c) cs
+
 -- whether a call judges the records of clients: all do but a discard
 abbrev pub judgesClients : CallArgs → Bool
 judgesClients (openArgs l) = true
 judgesClients (writeArgs w) = true
 judgesClients (discardArgs i) = false
 judgesClients checkpointArgs = true
-
-abbrev pub NoneOpens : State → List Call → Type 0
-NoneOpens s [] = Unit {0}
-NoneOpens s (c ∷ cs) = ((isOpening (c .args) && served (outcome (s .device) c .status)) ≡ false) × NoneOpens (step s c) cs
 
 -- ---- the guarantee
 
