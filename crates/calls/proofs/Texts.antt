@@ -46,3 +46,10 @@ lineEndBytes = 10 ∷ []
 pub line-end-text : lineEndBytes ≡ text "\n"
 unfolding text cat
 line-end-text = refl
+
+abbrev pub sheetBytes : List ℕ
+sheetBytes = 115 ∷ 104 ∷ 101 ∷ 101 ∷ 116 ∷ 61 ∷ []
+
+pub sheet-text : sheetBytes ≡ text "sheet="
+unfolding text cat
+sheet-text = refl

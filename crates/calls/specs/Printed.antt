@@ -1,5 +1,6 @@
 -- What a bench sheet prints (SPECIFICATION 16): a function of its bytes (`printed`), by the outcomes and steps of a module in a history,
--- in which one client, whose share and limit are all backup segments, makes every write. Two sheets with what they print, computed from this: crate benches. Assumes nothing.
+-- in which one client, whose share and limit are all backup segments, makes every write. Sheets with what they print, computed from
+-- this: crate benches. Assumes nothing.
 use Prim.Native.Nat.{ℕ, suc, _+_, _*_}
 use Prim.Native.String.{String}
 use mathlib.Core.Bool.{Bool, cond}
@@ -19,7 +20,7 @@ use Rattle.model.specs.History.{Device, Call, outcome, deviceStep, start}
 use Rattle.model.specs.Shares.{alone}
 use Rattle.text.specs.Text.{text}
 use Rattle.lines.specs.Line.{mostSize}
-use Rattle.parser.specs.Script.{Script, bad, good, Group, parse}
+use Rattle.parser.specs.Script.{Script, bad, good, Group, defaultBackups, parseBy}
 use Rattle.printer.specs.Decimal.{decimal}
 
 -- the trace that every call gets: its numbers are those of the most operations of an opening, which always suffice
@@ -103,6 +104,9 @@ unfoldable pub scriptText : Script → List ℕ
 scriptText (bad n) = text "sheet=" ++ decimal n ++ text "\n"
 scriptText (good l gs) = openText l ++ groupsText (openedBoard l) 1 gs
 
--- WHAT A SHEET PRINTS, by its bytes
+-- WHAT A SHEET PRINTS, by its bytes: under any rule for a line of backup segments that is left out, and under the one of today
+abbrev pub printedBy : (ℕ → ℕ) → List ℕ → List ℕ
+printedBy rule input = scriptText (parseBy rule input)
+
 abbrev pub printed : List ℕ → List ℕ
-printed input = scriptText (parse input)
+printed input = printedBy defaultBackups input

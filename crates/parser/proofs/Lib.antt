@@ -1,4 +1,5 @@
 pub mod BadLaws
+pub mod VerdictLaws
 pub mod SizeLaws
 pub mod GroupLaws
 pub mod ReadLaws

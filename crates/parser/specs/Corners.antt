@@ -98,9 +98,9 @@ exampleSheet = "mains=2\nspares=1\nframes=1\nlevel=0\nframe=0\nat=6\nbytes=a1b2c
 abbrev pub exampleGroup : Group
 exampleGroup = record { main = 0; block = 0; offset = 6; bytes = 0xa1 ∷ 0xb2 ∷ 0xc3 ∷ 0xd4 ∷ []; checkpoint = true }
 
--- two groups, and as many spares as mains
+-- two groups
 abbrev pub twoGroups : String
-twoGroups = "mains=3\nframes=2\nlevel=2\nframe=1\nat=255\nbytes=09\nsave=0\nlevel=10\nframe=345\nat=999\nbytes=\nsave=1\n"
+twoGroups = "mains=3\nspares=3\nframes=2\nlevel=2\nframe=1\nat=255\nbytes=09\nsave=0\nlevel=10\nframe=345\nat=999\nbytes=\nsave=1\n"
 
 abbrev pub firstGroup : Group
 firstGroup = record { main = 2; block = 1; offset = 255; bytes = 9 ∷ []; checkpoint = false }
@@ -108,12 +108,20 @@ firstGroup = record { main = 2; block = 1; offset = 255; bytes = 9 ∷ []; check
 abbrev pub secondGroup : Group
 secondGroup = record { main = 10; block = 345; offset = 999; bytes = []; checkpoint = true }
 
+-- each number of mains without a line of spares, with frames of which no half is what is meant, and a group behind
+pub record Halves : Type 0 where
+  pub one : parse (text "mains=1\nframes=4\n") ≡ good (layoutOf 1 1 4) []
+  pub two : parse (text "mains=2\nframes=4\n") ≡ good (layoutOf 2 1 4) []
+  pub three : parse (text "mains=3\nframes=1\n") ≡ good (layoutOf 3 2 1) []
+  pub four : parse (text "mains=4\nframes=1\nlevel=2\nframe=1\nat=255\nbytes=09\nsave=0\n") ≡ good (layoutOf 4 2 1) (firstGroup ∷ [])
+
 -- 4,096 bytes are judged, 4,097 are too long; 2,048 digits are good, 2,049 and 2,050 are not
 pub record Corners : Type 0 where
   pub sizes : allGiven sizeCorners ≡ true
   pub groups : allGiven groupCorners ≡ true
   pub example : parse (text exampleSheet) ≡ good (layoutOf 2 1 1) (exampleGroup ∷ [])
   pub two : parse (text twoGroups) ≡ good (layoutOf 3 3 2) (firstGroup ∷ secondGroup ∷ [])
+  pub halves : Halves
   pub longest : parse (replicate 4096 lineEnd) ≡ bad 1
   pub longer : parse (replicate 4097 lineEnd) ≡ bad 0
   pub digits : (isBytes (replicate 2048 48) ≡ true) × (isBytes (replicate 2049 48) ≡ false) × (isBytes (replicate 2050 48) ≡ false)

@@ -8,13 +8,13 @@ use Rattle.text.specs.Text.{linesOf}
 use Rattle.text.specs.Read.{lineStart}
 use Rattle.lines.specs.Line.{bytesKey, valueOf}
 use Rattle.lines.specs.Read.{ReadsValue}
-use Rattle.parser.specs.Script.{groupLines, lineAt, groupOf, blocksLine, sizesOf}
+use Rattle.parser.specs.Script.{groupLines, lineAt, groupOf, defaultBackups, blocksLine, sizesOf}
 use Rattle.parser.specs.declared.HeaderAt.{HeaderAt}
 use Rattle.parser.specs.declared.GroupAt.{GroupAt}
 
 -- the sizes, and where the lines of the groups start
 pub record ReadsHeader (input : List ℕ) (r : HeaderAt) : Type 0 where
-  pub layout : r .layout ≡ sizesOf (linesOf input)
+  pub layout : r .layout ≡ sizesOf defaultBackups (linesOf input)
   pub inside : r .next ≤ length input
   pub rest : linesOf (drop (r .next) input) ≡ drop (suc (blocksLine (linesOf input))) (linesOf input)
 

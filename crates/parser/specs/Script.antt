@@ -1,6 +1,6 @@
 -- The language of the bench sheet (SPECIFICATION 16): key=value lines in fixed order, which of them is the first
 -- bad or missing one, and what a good sheet says. Assumes nothing.
-use Prim.Native.Nat.{ℕ, zero, suc, _/_}
+use Prim.Native.Nat.{ℕ, zero, suc, _+_, _/_}
 use mathlib.Core.Bool.{Bool, not, cond, _&&_}
 use mathlib.Core.List.{List, [], _∷_}
 use lib.Dec.{ltb, eqb}
@@ -8,6 +8,8 @@ use lib.ListN.{length, getD, drop}
 use Rattle.model.specs.declared.Layout.{Layout}
 use Rattle.model.specs.Layout.{layoutOf}
 use Rattle.text.specs.Text.{Line, linesOf, hexBytes}
+use Rattle.text.specs.declared.Number.{Number}
+use Rattle.text.specs.declared.Number.the-variants.{None, Is}
 pub use Rattle.lines.specs.Line.{groupKey}
 use Rattle.lines.specs.Line.{mainsKey, backupsKey, blocksKey, blockKey, offsetKey, bytesKey, checkpointKey, named, valueOf, goodLine, numberIn}
 
@@ -34,6 +36,14 @@ following k = cond (eqb k checkpointKey) groupKey (suc k)
 unfoldable pub firstBad : ℕ → ℕ → List Line → ℕ
 firstBad k n [] = cond (eqb k groupKey) 0 (suc n)
 firstBad k n (l ∷ ls) = cond (goodLine (keyFor k l) l) (firstBad (following (keyFor k l)) (suc n) ls) (suc n)
+
+-- the verdict on a sheet: the number that a bad one prints, 0 if it is too long; none on a good one (`firstBad` has 0 for none)
+abbrev pub numbered : ℕ → Number
+numbered zero = None
+numbered (suc n) = Is (suc n)
+
+unfoldable pub verdict : List ℕ → Number
+verdict input = cond (ltb mostBytes (length input)) (Is 0) (numbered (firstBad mainsKey 0 (linesOf input)))
 
 -- ---- what a good sheet says
 
@@ -67,29 +77,33 @@ firstGroups (suc n) ls = groupOf ls ∷ firstGroups n (drop groupLines ls)
 unfoldable pub groupsOf : List Line → List Group
 groupsOf ls = firstGroups (length ls / groupLines) ls
 
--- the number of backup segments where the sheet has no line of them: as many as main segments
+-- the number of backup segments where the sheet has no line of them: half of the main segments, rounded up
 unfoldable pub defaultBackups : ℕ → ℕ
-defaultBackups mains = mains
+defaultBackups mains = (mains + 1) / 2
 
 -- the place of the line of blocks, which comes after the line of backups or in its place
 unfoldable pub blocksLine : List Line → ℕ
 blocksLine ls = cond (named backupsKey (lineAt ls 1)) 2 1
 
--- the three sizes
-unfoldable pub sizesOf : List Line → Layout
-sizesOf ls =
+-- the three sizes, where a line of backups that is left out means what `rule` makes of the main segments
+unfoldable pub sizesOf : (ℕ → ℕ) → List Line → Layout
+sizesOf rule ls =
     let mains : ℕ = numberIn mainsKey (lineAt ls 0) in
-    layoutOf mains (cond (named backupsKey (lineAt ls 1)) (numberIn backupsKey (lineAt ls 1)) (defaultBackups mains)) (numberIn blocksKey (lineAt ls (blocksLine ls)))
+    layoutOf mains (cond (named backupsKey (lineAt ls 1)) (numberIn backupsKey (lineAt ls 1)) (rule mains)) (numberIn blocksKey (lineAt ls (blocksLine ls)))
 
 -- a sheet: bad, with the number that it prints, or good
 pub data Script : Type 0 where
   bad : ℕ → Script
   good : Layout → List Group → Script
 
--- the lines, once the first bad one is known
-abbrev pub judged : ℕ → List Line → Script
-judged zero ls = good (sizesOf ls) (groupsOf (drop (suc (blocksLine ls)) ls))
-judged (suc n) ls = bad (suc n)
+-- the lines, once the verdict is known
+abbrev pub judged : (ℕ → ℕ) → Number → List Line → Script
+judged rule None ls = good (sizesOf rule ls) (groupsOf (drop (suc (blocksLine ls)) ls))
+judged rule (Is n) ls = bad n
 
-unfoldable pub parse : List ℕ → Script
-parse input = cond (ltb mostBytes (length input)) (bad 0) (judged (firstBad mainsKey 0 (linesOf input)) (linesOf input))
+-- A SHEET READ, under any rule for the line that may be left out, and under the one of today
+unfoldable pub parseBy : (ℕ → ℕ) → List ℕ → Script
+parseBy rule input = judged rule (verdict input) (linesOf input)
+
+abbrev pub parse : List ℕ → Script
+parse input = parseBy defaultBackups input

@@ -1,12 +1,16 @@
-// The bench sheet read (SPECIFICATION 16): the first bad line, the sizes, and one group after the other.
+// The bench sheet read (SPECIFICATION 16): the first bad line and with it the verdict, the sizes, and one group after the other.
 use model::Layout;
+use text::Number;
 ghost use mathlib.Core.Path.{_≡_};
 ghost use Prim.Native.Nat.{_≤_};
 ghost use lib.ListN.{length};
 ghost use Rattle.text.specs.Text.{linesOf};
 ghost use Rattle.lines.specs.Line.{mainsKey, checkpointKey};
-ghost use Rattle.parser.specs.Script.{keyFor, following, firstBad, defaultBackups};
+ghost use Rattle.parser.specs.Script.{keyFor, following, firstBad, verdict, defaultBackups};
 ghost use Rattle.parser.specs.Read.{ReadsHeader, ReadsGroup};
+
+// The most bytes of a sheet.
+pub const MOST_BYTES: usize = 4096;
 
 // The key that is looked for in a line where key k is next: the line of backups may be left out.
 fn key_for(k: u64, line: &[u8]) -> u64
@@ -33,7 +37,7 @@ fn key_after(k: u64) -> u64
 }
 
 // The number of the first bad or missing line, or 0 if there is none.
-pub fn first_bad(input: &[u8]) -> u64
+fn first_bad(input: &[u8]) -> u64
     ensures { λ r. ⌜ r ≡ firstBad mainsKey 0 (linesOf (now (input .entry))) ⌝ }
 {
     let mut key = lines::MAINS;
@@ -55,17 +59,31 @@ pub fn first_bad(input: &[u8]) -> u64
     count + 1
 }
 
+// The verdict on a sheet: the number that a bad one prints, none on a good one.
+pub fn verdict(input: &[u8]) -> Number
+    ensures { λ r. ⌜ r ≡ verdict (now (input .entry)) ⌝ }
+{
+    if MOST_BYTES < input.len() {
+        return Number::Is(0);
+    }
+    let bad = first_bad(input);
+    if bad == 0 {
+        return Number::None;
+    }
+    Number::Is(bad)
+}
+
 // The sizes that a sheet gives, and where its groups start.
 pub struct HeaderAt {
     pub layout: Layout,
     pub next: usize,
 }
 
-// The number of backup segments where the sheet has no line of them.
+// The number of backup segments where the sheet has no line of them: half of the main segments, rounded up.
 fn default_backups(mains: u64) -> u64
     ensures { λ r. ⌜ r ≡ defaultBackups mains ⌝ }
 {
-    mains
+    mains / 2 + mains % 2
 }
 
 // The sizes of a sheet.

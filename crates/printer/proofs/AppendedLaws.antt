@@ -1,10 +1,11 @@
 -- Laws of texts appended to a buffer.
 use Prim.Native.Nat.{ℕ, _+_, _≤_}
-use mathlib.Core.Path.{_≡_, refl, sym, ap, _∙_}
+use mathlib.Core.Path.{_≡_, refl, sym, ap, ap₂, _∙_}
 use mathlib.Core.List.{List, [], _++_, append-assoc, append-nil}
 use native.Mathlib.Omega.{arith}
-use lib.ListN.{length, take, drop, length-append}
+use lib.ListN.{length, take, drop, length-append, length-take, take-append-drop}
 use lib.Seq.{paste, take-paste, take-all, length-paste, drop-drop, drop-paste}
+use Rattle.io.specs.Counts.{Counts}
 use Rattle.printer.specs.Decimal.{decimal, Appended}
 
 -- nothing
@@ -30,6 +31,12 @@ appended-as e f = rw e at f
 -- a number between two texts, each by another name
 pub number-text : (n : ℕ) (k k′ t t′ : List ℕ) → k ≡ k′ → t ≡ t′ → k ++ decimal n ++ t ≡ k′ ++ decimal n ++ t′
 number-text n k k′ t t′ e f = rw (e, f)
+
+-- what a caller sees of a text at the start of a buffer
+pub appended-first : {a t b : List ℕ} {q : ℕ} → Appended a 0 t b q → Counts q b × ((q ≡ length t) × (b ≡ t ++ drop q a))
+appended-first {a} {t} {b} {q} f =
+    let size : q ≡ length (take q b) = f .place ∙ omega (arith, ap length (f .holds)) in
+    ((omega (arith, size, length-take q b), size), (f .place ∙ omega arith, sym (take-append-drop q b) ∙ ap₂ _++_ (f .holds) (f .rest)))
 
 -- a text pasted behind the place p
 pub appended-paste : (a t b : List ℕ) (p : ℕ) → p + length t ≤ length a → b ≡ paste a p t (length t) → Appended a p t b (p + length t)

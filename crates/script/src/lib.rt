@@ -3,26 +3,24 @@
 use calls::GroupParts;
 use calls::Ran;
 use model::Layout;
+use text::Number;
 ghost use Prim.Native.Nat.{_+_, _≤_, _<_};
 ghost use mathlib.Core.Path.{_≡_};
 ghost use mathlib.Core.Bool.{true};
 ghost use mathlib.Core.List.{_++_};
 ghost use lib.ListN.{length, drop};
 ghost use Rattle.model.specs.Layout.{wordSize, sizesOk, imageSize};
-ghost use Rattle.text.specs.Text.{linesOf};
-ghost use Rattle.parser.specs.Script.{mostBytes, good, judged, firstBad};
+ghost use Rattle.text.specs.declared.Number.the-variants.{None};
+ghost use Rattle.parser.specs.Script.{mostBytes, good, verdict, parse};
 ghost use Rattle.io.specs.Counts.{Counts};
 ghost use Rattle.calls.specs.Printed.{printed};
 ghost use Rattle.calls.specs.Ran.{callSize};
 ghost use Rattle.group.specs.GroupRan.{groupSize};
 ghost use Rattle.script.specs.SheetRan.{mostText, GoodFrom, groupsFrom, NextRan, GroupsRan, ScriptRan};
 
-// The most bytes of a sheet.
-pub const MOST_BYTES: usize = 4096;
-
 // The most bytes of its printed text: a group takes 31 bytes of the sheet at least and prints 162 at most, which is less than
 // six times as many.
-pub const MOST_TEXT: usize = 6 * MOST_BYTES;
+pub const MOST_TEXT: usize = 6 * parser::MOST_BYTES;
 
 // The bytes of the largest image of a sheet.
 const IMAGE_SIZE: usize = (Layout::METADATA_SIZE
@@ -91,10 +89,10 @@ fn run_script(input: &[u8], layout: Layout, start: usize, image: &mut [u8], out:
     run_groups(input, start, image, opened, out)
 }
 
-// A sheet without a bad line.
+// A good sheet.
 fn run_good(input: &[u8], out: &mut [u8]) -> usize
-    requires { ⌜ (length (now input) ≤ mostBytes) × (firstBad 0 0 (linesOf (now input)) ≡ 0) × (mostText ≤ length (now out)) ⌝ }
-    ensures { λ r. ⌜ ScriptRan (judged 0 (linesOf (now (input .entry)))) (now (out .entry)) (now (out .exit)) r ⌝ }
+    requires { ⌜ (verdict (now input) ≡ None) × (mostText ≤ length (now out)) ⌝ }
+    ensures { λ r. ⌜ ScriptRan (parse (now (input .entry))) (now (out .entry)) (now (out .exit)) r ⌝ }
 {
     let header = parser::header(input);
     let layout = header.layout;
@@ -108,12 +106,8 @@ pub fn run_sheet(input: &[u8], out: &mut [u8; MOST_TEXT]) -> usize
     ensures { λ r. ⌜ Counts r (now (out .exit)) ⌝ }
     ensures { λ r. ⌜ (r ≡ length (printed (now (input .entry)))) × (now (out .exit) ≡ printed (now (input .entry)) ++ drop r (now (out .entry))) ⌝ }
 {
-    if MOST_BYTES < input.len() {
-        return printer::append_number(out, 0, b"sheet=", 0, b"\n");
+    match parser::verdict(input) {
+        Number::Is(n) => printer::append_number(out, 0, b"sheet=", n, b"\n"),
+        Number::None => run_good(input, out),
     }
-    let bad = parser::first_bad(input);
-    if bad != 0 {
-        return printer::append_number(out, 0, b"sheet=", bad, b"\n");
-    }
-    run_good(input, out)
 }
