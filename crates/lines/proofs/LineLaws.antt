@@ -3,18 +3,19 @@ use Prim.Native.Nat.{ℕ, _-_, _≤_, _<_}
 use mathlib.Core.Path.{_≡_, refl, sym, ap, _∙_}
 use mathlib.Core.Logic.{_≢_}
 use mathlib.Core.Bool.{Bool, true, false, not, _&&_, true≢false}
-use mathlib.Core.List.{[], _∷_}
+use mathlib.Core.List.{List, [], _∷_}
 use native.Mathlib.Omega.{arith}
 use native.Mathlib.Decide.{decLt}
 use lib.Dec.{leb, eqb}
-use lib.ListN.{length, getD}
+use lib.ListN.{length, getD, drop, length-drop, length-take}
 use borrow.Author.Tests.{ne-eqb, leb-true, eqb-true, not-true, not-false}
+use Rattle.model.specs.Range.{cat}
 use Rattle.model.proofs.Laws.Range.{and-left, and-right}
 use Rattle.text.specs.declared.Number.{Number}
 use Rattle.text.specs.declared.Number.the-variants.{None, Is}
-use Rattle.text.specs.Text.{startsWith, Line}
+use Rattle.text.specs.Text.{text, startsWith, Line, numberOf}
 use Rattle.text.proofs.NameLaws.{starts-long, starts-at}
-use Rattle.lines.specs.Line.{mostSize, within, key, named, valueOf, goodLine, orZero}
+use Rattle.lines.specs.Line.{mostSize, within, isSize, key, named, valueOf, goodLine, orZero}
 
 -- ---- the tests
 
@@ -43,11 +44,11 @@ line-named k l v {p} h e n q g = rw (← e, not-false p n, h, ← q) g
 -- ---- what a good line has
 
 module _ (k : ℕ) (l : Line) (g : goodLine k l ≡ true) where
-  good-named : startsWith (key k .name) l ≡ true
+  pub good-named : startsWith (key k .name) l ≡ true
   unfolding goodLine named
   good-named = and-left (named k l) (eqb (getD l (length l - 1) 0) 10) (and-left (named k l && eqb (getD l (length l - 1) 0) 10) (key k .takes (valueOf k l)) g)
 
-  good-ended : getD l (length l - 1) 0 ≡ 10
+  pub good-ended : getD l (length l - 1) 0 ≡ 10
   unfolding goodLine
   good-ended =
       eqb-true (getD l (length l - 1) 0) 10
@@ -74,3 +75,16 @@ module _ (k : ℕ) (l : Line) (g : goodLine k l ≡ true) where
 pub size-bounds : (n : Number) → within 1 mostSize n ≡ true → (1 ≤ orZero n) × (orZero n ≤ mostSize)
 size-bounds None h = absurd (true≢false (sym h))
 size-bounds (Is n) h = (leb-true 1 n (and-left (leb 1 n) (leb n 4) h), leb-true n 4 (and-right (leb 1 n) (leb n 4) h))
+
+-- a size has at most three digits, so that the line of one is short
+size-short : (v : List ℕ) → isSize v ≡ true → length v ≤ 3
+unfolding numberOf
+size-short [] h = omega arith
+size-short (a ∷ []) h = omega arith
+size-short (a ∷ b ∷ []) h = omega arith
+size-short (a ∷ b ∷ c ∷ []) h = omega arith
+size-short (a ∷ b ∷ c ∷ d ∷ v) h = absurd (true≢false (sym h))
+
+pub short-line : (l : Line) → goodLine 0 l ≡ true → length l ≤ 10
+unfolding key text cat valueOf
+short-line l g = omega (arith, size-short (valueOf 0 l) (good-value 0 l g), length-take (length l - 1 - 6) (drop 6 l), length-drop 6 l)

@@ -1,9 +1,9 @@
 -- Laws of the lines of an input: the first one is a part of it, the others are the lines of the rest, and no byte is lost.
 use Prim.Native.Nat.{ℕ, suc, _+_, _-_, _≤_, _<_}
-use mathlib.Core.Path.{_≡_, refl, ap, _∙_}
+use mathlib.Core.Path.{_≡_, refl, sym, ap, _∙_}
 use mathlib.Core.Logic.{_≢_}
-use mathlib.Core.Bool.{Bool, true, false, cond}
-use mathlib.Core.List.{List, [], _∷_}
+use mathlib.Core.Bool.{Bool, true, false, cond, true≢false}
+use mathlib.Core.List.{List, [], _∷_, _++_}
 use native.Mathlib.Omega.{arith}
 use native.Mathlib.Nat.{add-sub-cancel-left}
 use lib.Dec.{eqb}
@@ -62,6 +62,39 @@ lines-some (b ∷ bs) h = go (eqb b 10) (linesOf bs)
     go true ls = refl
     go false [] = refl
     go false (l ∷ ls) = refl
+
+-- it ends where the second starts
+pub first-length : (bs : List ℕ) → length (getD (linesOf bs) 0 []) ≡ lineLength bs
+unfolding linesOf lineLength
+first-length [] = refl
+first-length (b ∷ bs) = go (eqb b 10) (linesOf bs) (first-length bs)
+  where
+    go : (t : Bool) (ls : List Line) → length (getD ls 0 []) ≡ lineLength bs
+        → length (getD (cond t ((b ∷ []) ∷ ls) (before b ls)) 0 []) ≡ cond t 1 (suc (lineLength bs))
+    go true ls e = refl
+    go false [] e = ap suc e
+    go false (l ∷ ls) e = ap suc e
+
+-- the last byte of a line with one more before it
+last-before : (b c : ℕ) (l : Line) → getD (b ∷ c ∷ l) (length (b ∷ c ∷ l) - 1) 0 ≡ getD (c ∷ l) (length (c ∷ l) - 1) 0
+last-before b c l =
+    let x : suc (suc (length l)) - 1 ≡ suc (length l) = omega arith in
+    let y : suc (length l) - 1 ≡ length l = omega arith in
+    rw (x, y) refl
+
+-- a line that ends in its byte 10 is the first, whatever stands behind it
+pub first-then : (bs rest : List ℕ) → getD (getD (linesOf bs) 0 []) (length (getD (linesOf bs) 0 []) - 1) 0 ≡ 10 → linesOf (getD (linesOf bs) 0 [] ++ rest) ≡ getD (linesOf bs) 0 [] ∷ linesOf rest
+unfolding linesOf
+first-then [] rest h = let z : ⊥ = omega (arith, h) in absurd z
+first-then (b ∷ bs) rest h = go (eqb b 10) refl (linesOf bs) (first-then bs rest) h
+  where
+    go : (t : Bool) → eqb b 10 ≡ t → (ls : List Line)
+        → (getD (getD ls 0 []) (length (getD ls 0 []) - 1) 0 ≡ 10 → linesOf (getD ls 0 [] ++ rest) ≡ getD ls 0 [] ∷ linesOf rest)
+        → (let l : Line = getD (cond t ((b ∷ []) ∷ ls) (before b ls)) 0 [] in getD l (length l - 1) 0 ≡ 10 → linesOf (l ++ rest) ≡ l ∷ linesOf rest)
+    go true e ls ih h = rw e
+    go false e [] ih h = absurd (true≢false (sym (ap (λ (n : ℕ). eqb n 10) h) ∙ e))
+    go false e ([] ∷ ls) ih h = absurd (true≢false (sym (ap (λ (n : ℕ). eqb n 10) h) ∙ e))
+    go false e ((c ∷ l) ∷ ls) ih h = rw (e, ih (sym (last-before b c l) ∙ h)) refl
 
 -- ---- the line that starts at a place
 

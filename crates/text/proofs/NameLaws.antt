@@ -3,7 +3,7 @@ use Prim.Native.Nat.{ℕ, zero, suc, _+_, _≤_, _<_}
 use mathlib.Core.Path.{_≡_, refl, sym, _∙_}
 use mathlib.Core.Logic.{_≢_}
 use mathlib.Core.Bool.{Bool, true, false, _&&_, true≢false}
-use mathlib.Core.List.{List, [], _∷_}
+use mathlib.Core.List.{List, [], _∷_, _++_}
 use native.Mathlib.Omega.{arith}
 use native.Mathlib.Numerals.{add-one}
 use lib.Dec.{eqb}
@@ -52,3 +52,12 @@ starts-at [] l i h j = let z : ⊥ = omega arith in absurd z
 starts-at (k ∷ n) [] i h j = absurd (true≢false (sym h))
 starts-at (k ∷ n) (b ∷ l) zero h j = eqb-true k b (and-left (eqb k b) (startsWith n l) h)
 starts-at (k ∷ n) (b ∷ l) (suc i) h j = starts-at n l i (and-right (eqb k b) (startsWith n l) h) (omega arith)
+
+-- and does so with more behind it
+pub starts-append : (n l rest : List ℕ) → startsWith n l ≡ true → startsWith n (l ++ rest) ≡ true
+unfolding startsWith
+starts-append [] l rest h = refl
+starts-append (k ∷ n) [] rest h = absurd (true≢false (sym h))
+starts-append (k ∷ n) (b ∷ l) rest h =
+    let e : eqb k b ≡ true = and-left (eqb k b) (startsWith n l) h in
+    rw e (starts-append n l rest (and-right (eqb k b) (startsWith n l) h))
