@@ -4,8 +4,8 @@ use native.Mathlib.Omega.{arith}
 use lib.ListN.{length}
 use lib.Seq.{length-take-le}
 use borrow.Author.Needs.{needs}
-use Rattle.sheet.proofs.read_input.Statement.{statement}
-use Rattle.sheet.proofs.read_input.Tie as tie
+use Rattle.stdin.proofs.read_input.Statement.{statement}
+use Rattle.stdin.proofs.read_input.Tie as tie
 
 abbrev Inv-loop : tie.InvT-loop
 Inv-loop buffer₀ count₀ buffer count = (count ≤ length buffer) × (length buffer ≡ length buffer₀)

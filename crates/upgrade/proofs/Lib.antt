@@ -1,0 +1,3 @@
+pub mod RewritingLaws
+pub mod AnswerLaws
+pub mod OldSheets
