@@ -1,20 +1,24 @@
--- The two sheets, computed: what they print, and the pairs, are made another way, with the image of each board computed once before the
+-- The sheets, computed: what they print, and the pairs, are made another way, with the image of each board computed once before the
 -- next call reads it.
-use Prim.Native.Nat.{ℕ, suc}
-use mathlib.Core.Path.{_≡_, refl, sym, _∙_}
+use Prim.Native.Nat.{ℕ, suc, _≤_}
+use mathlib.Core.Path.{_≡_, refl, sym, ap, _∙_}
 use mathlib.Core.Bool.{Bool, true, _&&_}
 use mathlib.Core.List.{List, [], _∷_, _++_}
+use native.Mathlib.Omega.{arith}
+use lib.ListN.{length}
 use Rattle.model.specs.Range.{cat}
 use Rattle.model.specs.Layout.{unpaired}
 use Rattle.model.specs.Container.{committedEpoch}
 use Rattle.text.specs.Text.{text, startsWith, linesOf, numberOf, hexPairs, hexBytes}
 use Rattle.lines.specs.Line.{key, named, valueOf, goodLine}
-use Rattle.parser.specs.Script.{Script, bad, good, Group, firstBad, groupOf, firstGroups, groupsOf, defaultBackups, blocksLine, sizesOf, parse}
+use Rattle.parser.specs.Script.{mostBytes, Script, bad, good, Group, firstBad, verdict, groupOf, firstGroups, groupsOf, defaultBackups, blocksLine, sizesOf, parseBy, parse}
 use Rattle.printer.specs.Decimal.{decimalIn, decimal}
-use Rattle.calls.specs.Printed.{blank, Board, answerOn, boardStep, answerText, writeOf, checkpointed, checkpointText, afterGroup, groupText, groupsText, openedBoard, openText, scriptText, printed}
+use Rattle.calls.specs.Printed.{blank, Board, answerOn, boardStep, answerText, writeOf, checkpointed, checkpointText, afterGroup, groupText, groupsText, openedBoard, openText, scriptText, printedBy, printed}
 use Rattle.model.proofs.Laws.Range.{and-left, and-right}
 use Rattle.cases.proofs.Compute.{model-rules, same, same-equal, known, known-same}
-use Rattle.benches.specs.Sheets.{example, examplePrinted, twoBenches, twoBenchesPrinted, pairsOf, groupsPairs, sheetPairs, twoBenchesPairs, Sheets}
+use Rattle.upgrade.specs.Upgrade.{olderBackups, LeavesOut, backupsLine, rewritten}
+use Rattle.upgrade.proofs.OldSheets.{old-sheets}
+use Rattle.benches.specs.Sheets.{example, examplePrinted, twoBenches, twoBenchesPrinted, pairsOf, groupsPairs, sheetPairs, twoBenchesPairs, older, olderRewritten, olderPrinted, olderPrintedNow, OlderSheet, Sheets}
 
 -- ---- the image of a board, computed before it is handed on
 
@@ -64,7 +68,7 @@ sheet-same (good l gs) k =
     let b = openedBoard l in
     known-same (b .device .image) (λ I. ranKnown (withImage b I) 1 gs (λ t ps. k (openText l ++ t) ps)) ∙ ran-same b 1 gs (λ t ps. k (openText l ++ t) ps)
 
--- ---- the two sheets
+-- ---- the sheets
 
 -- a test of both
 agrees : List ℕ → List ℕ → List ℕ → List ℕ → Bool
@@ -72,7 +76,7 @@ agrees expected pairs t ps = same t expected && same ps pairs
 
 -- every definition of the sheet
 unfoldable sheet-rules : Unit {0}
-unfolding model-rules cat text startsWith linesOf numberOf hexPairs hexBytes key named valueOf goodLine firstBad groupOf firstGroups groupsOf defaultBackups blocksLine sizesOf parse decimalIn decimal blank boardStep answerText checkpointed checkpointText openedBoard openText known ranKnown sheetKnown same agrees
+unfolding model-rules cat text startsWith linesOf numberOf hexPairs hexBytes key named valueOf goodLine firstBad verdict groupOf firstGroups groupsOf defaultBackups blocksLine sizesOf parseBy decimalIn decimal blank boardStep answerText checkpointed checkpointText openedBoard openText known ranKnown sheetKnown same agrees
 sheet-rules = tt
 
 -- what the test means
@@ -90,5 +94,37 @@ two-benches-given : (printed (text twoBenches) ≡ text twoBenchesPrinted) × (s
 unfolding sheet-rules
 two-benches-given = given (parse (text twoBenches)) (text twoBenchesPrinted) twoBenchesPairs refl
 
+-- the sheet of the older rule: under both rules, rewritten, and by `OldSheets` what it then prints
+older-then : printedBy olderBackups (text older) ≡ text olderPrinted
+unfolding sheet-rules olderBackups
+older-then = given (parseBy olderBackups (text older)) (text olderPrinted) (unpaired ∷ unpaired ∷ unpaired ∷ unpaired ∷ 0 ∷ unpaired ∷ 0 ∷ 1 ∷ []) refl .0
+
+older-now : printed (text older) ≡ text olderPrintedNow
+unfolding sheet-rules
+older-now = given (parse (text older)) (text olderPrintedNow) (unpaired ∷ unpaired ∷ 0 ∷ 0 ∷ []) refl .0
+
+older-leaves-out : LeavesOut (text older)
+unfolding sheet-rules
+older-leaves-out = record { good = refl; without = refl }
+
+older-rewritten : rewritten (text older) ≡ text olderRewritten
+unfolding sheet-rules rewritten backupsLine
+older-rewritten = refl
+
+older-size : length (text older) ≡ 221
+unfolding text cat
+older-size = refl
+
+older-sheet : OlderSheet
+older-sheet =
+    let r = old-sheets .old (text older) older-leaves-out in
+    let short : length (rewritten (text older)) ≤ mostBytes = omega (arith, r .size, older-size) in
+    record {
+      then = older-then;
+      now = older-now;
+      given = r .given short ∙ older-rewritten;
+      again = ap printed (sym older-rewritten) ∙ r .same short ∙ older-then;
+    }
+
 pub sheets : Sheets
-sheets = record { onExample = example-given .0; pairsOnExample = example-given .1; onTwoBenches = two-benches-given .0; pairsOnTwoBenches = two-benches-given .1 }
+sheets = record { onExample = example-given .0; pairsOnExample = example-given .1; onTwoBenches = two-benches-given .0; pairsOnTwoBenches = two-benches-given .1; onOlder = older-sheet }
