@@ -12,7 +12,7 @@
 use crate::arbitrary;
 use crate::book::Call;
 use crate::calls::*;
-use crate::groups::{due, laws_tried, plain};
+use crate::groups::{due, laws_tried, lines_due, plain};
 use crate::laws::{Seen, Tally, Tried};
 use crate::prng::Rng;
 use crate::report::{Found, Outcome};
@@ -154,15 +154,11 @@ step=10 write=0 orders=43 save=- orders=0 epoch=5
 fn as_written<C: Calls>(calls: &C, written: &Written, rubbish: Rubbish) -> Result<Vec<Ran>, String> {
     let Written { name, input, printed, pairs } = written;
     let (mut all_ran, mut pairs_seen) = (Vec::new(), vec![[0; 2]; pairs.len() + 1]);
-    let output = sheet::printed_on(calls, rubbish, input.as_bytes(), |group, _, ran| {
+    let output = sheet::printed_on(calls, rubbish, sheet::HALF, input.as_bytes(), |group, _, ran| {
         pairs_seen[group].copy_from_slice(&ran.dump[PAIRS..][..2]);
         all_ran.push(ran.clone());
     });
-    let output = String::from_utf8_lossy(&output).into_owned();
-    for (got, expected) in output.lines().zip(printed.lines()) {
-        due(name, got, expected)?;
-    }
-    due(name, &output[..], printed)?;
+    lines_due(name, &output, printed)?;
     for (group, expected) in (1..).zip(*pairs) {
         due(&format!("{name}, pairs after group {group}"), pairs_seen[group], *expected)?;
     }

@@ -1,6 +1,7 @@
-//! Corner sheets with the output that section 16 asks for, written by hand.
+//! Corner sheets with the output that section 16 asks for, of the sheet program
+//! and of the upgrade program, written by hand.
 //!
-//! `selftest` holds `sheet` against them, `sheets` the sheet program. The sheet
+//! `selftest` holds `sheet` against them, `sheets` the two programs. The sheet
 //! of section 17.6 (`benches`) is among them.
 
 use crate::benches;
@@ -15,8 +16,11 @@ const HEAD: &str = "mains=2\nspares=1\nframes=1\n";
 const GROUP: &str = "level=0\nframe=0\nat=6\nbytes=a1b2c3d4\nsave=1\n";
 const OPEN: &str = "open=0 orders=73\n";
 
+/// Of the sheet program.
 pub fn all() -> Vec<Corner> {
     let mut corners = whole_outputs();
+    corners.extend(one_spare_left_out());
+    corners.extend(two_spares_left_out());
     corners.extend(bad_lines());
     corners.extend(bad_values());
     corners.extend(broken_off());
@@ -24,6 +28,14 @@ pub fn all() -> Vec<Corner> {
     corners.extend(long_writes());
     let written = benches::sheet_of_17_6();
     corners.push(corner(written.input, written.printed));
+    corners
+}
+
+/// Of the upgrade program.
+pub fn upgrades() -> Vec<Corner> {
+    let mut corners = rewritten();
+    corners.extend(not_rewritten());
+    corners.extend(lengths_of_upgrades());
     corners
 }
 
@@ -41,16 +53,19 @@ fn group(level: &str, frame: &str, at: &str, bytes: &str, save: &str) -> String 
     format!("level={level}\nframe={frame}\nat={at}\nbytes={bytes}\nsave={save}\n")
 }
 
-/// Good sheets: the specification's own, refused calls, spares left out, a
-/// write that hears 9 and is served after a save.
+/// A group for each of these levels that writes the first word of its first
+/// frame, and whether a save follows it.
+fn words(levels: &[(&str, &str)]) -> String {
+    levels.iter().map(|(level, save)| group(level, "0", "0", "0102030405060708", save)).collect()
+}
+
+/// Good sheets: the specification's own, refused calls, a write that hears 9 and
+/// is served after a save.
 fn whole_outputs() -> Vec<Corner> {
-    let word = "0102030405060708";
     let step = |n: u32, rest: &str| format!("step={n} {rest}\n");
     let one = |rest: &str| format!("{OPEN}step=1 {rest}\n");
     let sheet = |groups: &str| format!("{HEAD}{groups}");
-    let four = [("0", "0"), ("1", "1"), ("0", "0"), ("1", "0")]
-        .map(|(level, save)| group(level, "0", "0", word, save))
-        .concat();
+    let four = words(&[("0", "0"), ("1", "1"), ("0", "0"), ("1", "0")]);
     let first_three = [
         step(1, "write=0 orders=1 save=- orders=0 epoch=0"),
         step(2, "write=0 orders=1 save=0 orders=22 epoch=1"),
@@ -63,9 +78,7 @@ fn whole_outputs() -> Vec<Corner> {
         step(5, "write=0 orders=43 save=- orders=0 epoch=2"),
     ]
     .concat();
-    let five = [("0", "0"), ("1", "1"), ("0", "0"), ("1", "1"), ("1", "0")]
-        .map(|(level, save)| group(level, "0", "0", word, save))
-        .concat();
+    let five = words(&[("0", "0"), ("1", "1"), ("0", "0"), ("1", "1"), ("1", "0")]);
     vec![
         corner(sheet(GROUP), one("write=0 orders=2 save=0 orders=18 epoch=1")),
         corner(HEAD, OPEN),
@@ -92,9 +105,80 @@ fn whole_outputs() -> Vec<Corner> {
             sheet(&group("1", "0", "1", &"ff".repeat(256), "0")),
             one("write=8 orders=0 save=- orders=0 epoch=0"),
         ),
-        corner(format!("mains=2\nframes=1\n{four}"), fourth("write=0 orders=43")),
+        corner(format!("mains=2\nspares=2\nframes=1\n{four}"), fourth("write=0 orders=43")),
         corner(format!("{HEAD}{four}"), fourth("write=9 orders=0")),
         corner(format!("{HEAD}{five}"), format!("{OPEN}{first_three}{saved_then_served}")),
+    ]
+}
+
+/// A sheet of one or two levels that leaves the line of spares out has one: the
+/// second level that is to be copied hears 9, however many frames there are. With
+/// two spares it is served.
+fn one_spare_left_out() -> Vec<Corner> {
+    let alone = words(&[("0", "1"), ("0", "1"), ("0", "0")]);
+    let alone_printed = "open=0 orders=37
+step=1 write=0 orders=1 save=0 orders=18 epoch=1
+step=2 write=0 orders=43 save=0 orders=18 epoch=2
+step=3 write=0 orders=41 save=- orders=0 epoch=2
+";
+    let both = words(&[("0", "0"), ("1", "1"), ("0", "0"), ("1", "0")]);
+    let both_printed = |open: &str, copied: &str, last: &str| {
+        format!(
+            "open=0 orders={open}
+step=1 write=0 orders=1 save=- orders=0 epoch=0
+step=2 write=0 orders=1 save=0 orders=22 epoch=1
+step=3 write=0 orders={copied} save=- orders=0 epoch=1
+step=4 {last} save=- orders=0 epoch=1
+"
+        )
+    };
+    vec![
+        corner(format!("mains=1\nframes=1\n{alone}"), alone_printed),
+        corner(format!("mains=2\nframes=1\n{both}"), both_printed("73", "43", "write=9 orders=0")),
+        corner(format!("mains=2\nframes=4\n{both}"), both_printed("289", "151", "write=9 orders=0")),
+        corner(
+            format!("mains=2\nspares=2\nframes=4\n{both}"),
+            both_printed("289", "151", "write=0 orders=151"),
+        ),
+    ]
+}
+
+/// A sheet of three or four levels that leaves the line of spares out has two: the
+/// third level that is to be copied hears 9. With as many spares as levels it is
+/// served. After a save all are free.
+fn two_spares_left_out() -> Vec<Corner> {
+    let three = words(&[("0", "0"), ("1", "0"), ("2", "1"), ("0", "0"), ("1", "0"), ("2", "0")]);
+    let three_printed = |open: &str, last: &str| {
+        format!(
+            "open=0 orders={open}
+step=1 write=0 orders=1 save=- orders=0 epoch=0
+step=2 write=0 orders=1 save=- orders=0 epoch=0
+step=3 write=0 orders=1 save=0 orders=26 epoch=1
+step=4 write=0 orders=43 save=- orders=0 epoch=1
+step=5 write=0 orders=43 save=- orders=0 epoch=1
+step=6 {last} save=- orders=0 epoch=1
+"
+        )
+    };
+    let written = words(&[("0", "0"), ("1", "0"), ("2", "0"), ("3", "1")]);
+    let again = words(&[("3", "0"), ("2", "0"), ("1", "0"), ("0", "1"), ("0", "0")]);
+    let four_printed = "open=0 orders=145
+step=1 write=0 orders=1 save=- orders=0 epoch=0
+step=2 write=0 orders=1 save=- orders=0 epoch=0
+step=3 write=0 orders=1 save=- orders=0 epoch=0
+step=4 write=0 orders=1 save=0 orders=30 epoch=1
+step=5 write=0 orders=43 save=- orders=0 epoch=1
+step=6 write=0 orders=43 save=- orders=0 epoch=1
+step=7 write=9 orders=0 save=- orders=0 epoch=1
+step=8 write=9 orders=0 save=0 orders=30 epoch=2
+step=9 write=0 orders=43 save=- orders=0 epoch=2
+";
+    vec![
+        corner(format!("mains=3\nframes=1\n{three}"), three_printed("109", "write=9 orders=0")),
+        corner(format!("mains=3\nspares=3\nframes=1\n{three}"), three_printed("109", "write=0 orders=43")),
+        corner(format!("mains=4\nframes=1\n{three}"), three_printed("145", "write=9 orders=0")),
+        corner(format!("mains=4\nspares=4\nframes=1\n{three}"), three_printed("145", "write=0 orders=43")),
+        corner(format!("mains=4\nframes=1\n{written}{again}"), four_printed),
     ]
 }
 
@@ -187,12 +271,16 @@ fn broken_off() -> Vec<Corner> {
     corners
 }
 
+/// Seven groups of 547 bytes that fill a frame, and one of 34 bytes, the digits of
+/// its offset and two for each of so many bytes that it writes there.
+fn eight_groups(at: &str, count: usize) -> String {
+    let full = group("0", "0", "0", &"5a".repeat(256), "0").repeat(7);
+    full + &group("0", "0", at, &"5a".repeat(count), "0")
+}
+
 /// Sheets of 4,096 and more bytes, and the most groups.
 fn lengths() -> Vec<Corner> {
-    let head = "mains=1\nspares=1\nframes=1\n";
-    let full = group("0", "0", "0", &"5a".repeat(256), "0").repeat(7);
-    let last = group("0", "0", "0", &"5a".repeat(103), "0");
-    let exact = format!("{head}{full}{last}");
+    let exact = format!("mains=1\nspares=1\nframes=1\n{}", eight_groups("0", 103));
     assert_eq!(exact.len(), 4096);
     let mut output = "open=0 orders=37\n".to_string();
     for step in 1..=8 {
@@ -283,5 +371,67 @@ fn long_writes() -> Vec<Corner> {
         one(1, "1", "0", 256, "0", &refused),
         one(1, "0", "0", 257, "0", &refused),
         one(1, "0", "0", 1024, "1", "write=8 orders=0 save=0 orders=14 epoch=1"),
+    ]
+}
+
+/// Good sheets without a line of spares.
+fn rewritten() -> Vec<Corner> {
+    let refused = group("999", "0", "0", "", "1");
+    vec![
+        corner(format!("mains=2\nframes=1\n{GROUP}"), format!("mains=2\nspares=2\nframes=1\n{GROUP}")),
+        corner("mains=1\nframes=4\n", "mains=1\nspares=1\nframes=4\n"),
+        corner("mains=2\nframes=3\n", "mains=2\nspares=2\nframes=3\n"),
+        corner("mains=3\nframes=1\n", "mains=3\nspares=3\nframes=1\n"),
+        corner(
+            format!("mains=4\nframes=2\n{refused}{GROUP}"),
+            format!("mains=4\nspares=4\nframes=2\n{refused}{GROUP}"),
+        ),
+    ]
+}
+
+/// Sheets with a line of spares, and bad ones.
+fn not_rewritten() -> Vec<Corner> {
+    let unended = &GROUP[..GROUP.len() - 1];
+    vec![
+        corner(format!("{HEAD}{GROUP}"), "spares=1\n"),
+        corner("mains=2\nspares=2\nframes=1\n", "spares=2\n"),
+        corner("mains=4\nspares=3\nframes=1\n", "spares=3\n"),
+        corner("mains=1\nspares=4\nframes=1\n", "spares=4\n"),
+        bad("", 1),
+        bad("mains=2", 1),
+        bad("mains=2\n", 2),
+        bad("mains=2\nframes=1", 2),
+        bad("mains=2\nframes=5\n", 2),
+        bad("mains=2\nspares=1", 2),
+        bad("mains=2\nspares=1\n", 3),
+        bad("mains=2\nspares=\nframes=1\n", 2),
+        bad("mains=2\nspares=5\nframes=1\n", 2),
+        bad("mains=2\n spares=2\nframes=1\n", 2),
+        bad("mains=2\nspares=2\nspares=2\nframes=1\n", 3),
+        bad("mains=2\nframes=1\nspares=2\n", 3),
+        bad("spares=2\nmains=2\nframes=1\n", 1),
+        bad("mains=2\r\nframes=1\r\n", 1),
+        bad(format!("mains=2\nframes=1\n{unended}"), 7),
+        bad(format!("mains=2\nframes=1\n{GROUP}\n"), 8),
+    ]
+}
+
+/// Sheets without a line of spares that have room for it or not: up to 4,087 bytes
+/// are rewritten.
+fn lengths_of_upgrades() -> Vec<Corner> {
+    let rest = format!("frames=1\n{}", eight_groups("0", 103));
+    let (most, with_line) = (format!("mains=2\n{rest}"), format!("mains=2\nspares=2\n{rest}"));
+    let longer = |at: &str, count: usize| format!("mains=2\nframes=1\n{}", eight_groups(at, count));
+    let (one_more, longest, too_long) = (longer("10", 103), longer("10", 107), longer("0", 108));
+    let all = [&most, &with_line, &one_more, &longest, &too_long];
+    assert_eq!(all.map(String::len), [4087, 4096, 4088, 4096, 4097]);
+    vec![
+        corner(&most, &with_line),
+        corner(&with_line, "spares=2\n"),
+        corner(&one_more, "bytes=4097\n"),
+        corner(&longest, "bytes=4105\n"),
+        bad(format!("{}x", &longest[..4095]), 42),
+        bad(&too_long, 0),
+        bad("mains=1\n".repeat(100_000), 0),
     ]
 }

@@ -24,6 +24,15 @@ pub(crate) fn due<T: PartialEq + std::fmt::Debug>(what: &str, got: T, expected: 
     }
 }
 
+/// This text is due, line by line.
+pub fn lines_due(what: &str, printed: &[u8], expected: &str) -> Result<(), String> {
+    let printed = String::from_utf8_lossy(printed);
+    for (got, expected) in printed.lines().zip(expected.lines()) {
+        due(what, got, expected)?;
+    }
+    due(what, &printed[..], expected)
+}
+
 /// A write to a level's first frame of bytes that name their place in the history.
 fn write_call(sizes: Sizes, level: u64, offset: u64, length: usize, value: u8) -> Call {
     write_to(sizes, Target { console: 0, level, frame: 0, offset }, length, value)

@@ -9,9 +9,9 @@
 //!
 //! Four programs: `selftest` checks the reference, the crash model and the
 //! explorer by themselves; `differential` compares the library with the
-//! reference, `sheets` the sheet program; `speed` measures. `cargo test` runs
-//! the first two, the second in short, and holds include/crpm.h against crate
-//! `crpm` and the reference.
+//! reference, `sheets` the sheet program and the upgrade program; `speed` measures.
+//! `cargo test` runs the first two, the second in short, and holds include/crpm.h
+//! against crate `crpm` and the reference.
 
 pub mod arbitrary;
 pub mod benches;

@@ -1,8 +1,9 @@
-//! The bench sheet: what the sheet program must print for any input bytes.
+//! The bench sheet: what the sheet program and the upgrade program must print for
+//! any input bytes.
 //!
 //! Written from section 16. A sheet runs with one console, for which every spare
 //! is kept. Checked against the corner sheets (`corners`), whose outputs are
-//! written by hand; the sheet program is checked against it.
+//! written by hand; both programs are checked against it.
 //! `benches` runs sheets over any implementation of the calls.
 
 use crate::benches::{Bench, Ran, Rubbish};
@@ -18,7 +19,10 @@ const MOST_DIGITS: usize = 2048;
 type BadLine = usize;
 
 struct Sheet {
-    sizes: Sizes,
+    levels: u64,
+    /// As its line says, if it has one.
+    spares: Option<u64>,
+    frames: u64,
     groups: Vec<Group>,
 }
 
@@ -28,9 +32,23 @@ struct Group {
     save: bool,
 }
 
+/// How many spares a sheet has that leaves their line out, by its levels and frames.
+pub type Rule = fn(levels: u64, frames: u64) -> u64;
+
+/// Half as many as levels, rounded up (section 16.1).
+pub const HALF: Rule = |levels, _| levels.div_ceil(2);
+
+/// The older rule, as many as levels (section 16.8).
+pub const OLDER: Rule = |levels, _| levels;
+
 /// The whole standard output for this standard input.
 pub fn printed(input: &[u8]) -> Vec<u8> {
-    printed_on(&Reference::good(), Rubbish::Zeros, input, |_, _, _| ())
+    printed_by(HALF, input)
+}
+
+/// The same under any rule.
+pub fn printed_by(rule: Rule, input: &[u8]) -> Vec<u8> {
+    printed_on(&Reference::good(), Rubbish::Zeros, rule, input, |_, _, _| ())
 }
 
 /// The same on a bench of these calls, whose memory held rubbish. Each call is
@@ -38,12 +56,62 @@ pub fn printed(input: &[u8]) -> Vec<u8> {
 pub fn printed_on<C: Calls>(
     calls: &C,
     rubbish: Rubbish,
+    rule: Rule,
     input: &[u8],
     show: impl FnMut(usize, &Call, &Ran),
 ) -> Vec<u8> {
     match Sheet::read(input) {
-        Ok(sheet) => sheet.run(Bench::laid_out(calls, sheet.sizes, rubbish), show).into_bytes(),
-        Err(line) => format!("sheet={line}\n").into_bytes(),
+        Ok(sheet) => {
+            let sizes = sheet.sizes(rule);
+            sheet.run(Bench::laid_out(calls, sizes, rubbish), sizes, show).into_bytes()
+        }
+        Err(line) => refused(line),
+    }
+}
+
+/// What both programs print for a bad sheet.
+fn refused(line: BadLine) -> Vec<u8> {
+    format!("sheet={line}\n").into_bytes()
+}
+
+/// How a good sheet without a line of spares gets one.
+pub struct Upgrade {
+    /// How many of its lines stand before the new one.
+    pub before: usize,
+    /// How many spares the new line says.
+    pub spares: Rule,
+    /// How many bytes the sheet may have then.
+    pub most: usize,
+}
+
+impl Upgrade {
+    /// By section 16.8: as many spares as mains, in the second line.
+    pub const GOOD: Upgrade = Upgrade { before: 1, spares: OLDER, most: MOST_BYTES };
+
+    /// The sheet with the new line; every other line stays.
+    fn rewritten(&self, sheet: &Sheet, input: &[u8]) -> Vec<u8> {
+        let line = format!("spares={}\n", (self.spares)(sheet.levels, sheet.frames));
+        let mut lines: Vec<&[u8]> = input.split_inclusive(|byte| *byte == b'\n').collect();
+        lines.insert(self.before, line.as_bytes());
+        lines.concat()
+    }
+}
+
+/// The whole standard output of the upgrade program (section 16.9) for this
+/// standard input.
+pub fn upgraded(input: &[u8]) -> Vec<u8> {
+    upgraded_by(&Upgrade::GOOD, input)
+}
+
+/// The same by any upgrade.
+pub fn upgraded_by(upgrade: &Upgrade, input: &[u8]) -> Vec<u8> {
+    match Sheet::read(input) {
+        Err(line) => refused(line),
+        Ok(Sheet { spares: Some(spares), .. }) => format!("spares={spares}\n").into_bytes(),
+        Ok(sheet) => match upgrade.rewritten(&sheet, input) {
+            long if long.len() > upgrade.most => format!("bytes={}\n", long.len()).into_bytes(),
+            rewritten => rewritten,
+        },
     }
 }
 
@@ -117,23 +185,34 @@ impl Sheet {
         let mut lines = Lines { rest: input, read: 0 };
         let levels = lines.read("mains", size)?;
         let named = lines.peek().is_some_and(|line| value_of(line, "spares").is_some());
-        let spares = if named { lines.read("spares", size)? } else { levels };
+        let spares = if named { Some(lines.read("spares", size)?) } else { None };
         let frames = lines.read("frames", size)?;
         let mut groups = Vec::new();
         while !lines.rest.is_empty() {
             groups.push(Group::read(&mut lines)?);
         }
-        Ok(Sheet { sizes: Sizes::new(levels, spares, frames), groups })
+        Ok(Sheet { levels, spares, frames, groups })
     }
 
-    fn run<C: Calls>(&self, mut bench: Bench<C>, mut show: impl FnMut(usize, &Call, &Ran)) -> String {
+    /// Its sizes, where this rule stands for a line of spares left out.
+    fn sizes(&self, rule: Rule) -> Sizes {
+        let spares = self.spares.unwrap_or_else(|| rule(self.levels, self.frames));
+        Sizes::new(self.levels, spares, self.frames)
+    }
+
+    fn run<C: Calls>(
+        &self,
+        mut bench: Bench<C>,
+        sizes: Sizes,
+        mut show: impl FnMut(usize, &Call, &Ran),
+    ) -> String {
         let mut run = |group: usize, deed: Deed| {
-            let call = plain(deed, self.sizes);
+            let call = plain(deed, sizes);
             let ran = bench.run(&call, 0);
             show(group, &call, &ran);
             ran
         };
-        let Ran { answer: opened, .. } = run(0, Deed::Open(self.sizes));
+        let Ran { answer: opened, .. } = run(0, Deed::Open(sizes));
         let mut text = format!("open={} orders={}\n", opened.number, opened.orders);
         for (i, group) in (1..).zip(&self.groups) {
             let mut ran = run(i, Deed::Write(group.target, group.bytes.clone()));

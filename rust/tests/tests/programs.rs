@@ -42,7 +42,7 @@ fn usage() {
         let help = run(program, &["--help"]);
         let text = printed(&help);
         assert!(text.starts_with("usage: ") && help.status.code() == Some(0), "{program}: {text}");
-        for wrong in [&["--unknown"][..], &["one", "two"]] {
+        for wrong in [&["--unknown"][..], &["one", "two", "three"]] {
             let output = run(program, wrong);
             let said = String::from_utf8_lossy(&output.stderr);
             assert_eq!(output.status.code(), Some(2), "{program} {wrong:?}");
@@ -54,15 +54,17 @@ fn usage() {
 /// `true` prints nothing, which is no sheet's output.
 #[test]
 fn a_difference_is_status_1() {
-    let output = run(SHEETS, &["/bin/true"]);
+    let output = run(SHEETS, &["/bin/true", "/bin/true"]);
     let text = printed(&output);
     assert_eq!(output.status.code(), Some(1), "{text}");
-    assert!(text.ends_with(", failures 2\n"), "{text}");
+    assert!(text.ends_with(", failures 4\n"), "{text}");
 }
 
 #[test]
 fn no_sheet_program_is_status_2() {
-    assert_eq!(run(SHEETS, &["/no/program"]).status.code(), Some(2));
+    for programs in [&["/no/program"][..], &["/bin/true", "/no/program"]] {
+        assert_eq!(run(SHEETS, programs).status.code(), Some(2), "{programs:?}");
+    }
 }
 
 /// Without the library the crate does not build, and says what to do.

@@ -6,7 +6,8 @@
 //! writes, of two consoles and of discards and over random histories, with the laws
 //! of sections 11.5, 10.9, 3.4, 10.10, 15.7 and 10.12 counted in all of them; sheets
 //! and random histories on two benches; each fault must be caught by what it breaks,
-//! and those that keep demand 3 must keep it; the corner sheets print as they should.
+//! and those that keep demand 3 must keep it; the corner sheets print as they should,
+//! and wrong rules for spares left out and wrong upgrades of sheets do not.
 
 use crpm_tests::calls::Sizes;
 use crpm_tests::compared::Compared;
@@ -17,7 +18,8 @@ use crpm_tests::long::{after_cuts, long_writes, longest_writes};
 use crpm_tests::reference::{Fault, Reference};
 use crpm_tests::report::{arguments, Found, Outcome, Suite};
 use crpm_tests::restart::{restored_levels, restored_levels_without_laws};
-use crpm_tests::{arbitrary, benches, consoles, corners, discards, sheet};
+use crpm_tests::sheet::{self, Rule, Upgrade};
+use crpm_tests::{arbitrary, benches, consoles, corners, corners::Corner, discards};
 use std::process::ExitCode;
 
 const USAGE: &str = "usage: selftest
@@ -44,7 +46,7 @@ fn main() -> ExitCode {
     faults(&mut suite);
     suite.add("faults among any contents", || differ(&good));
     suite.add("forms of the benchmark", || forms_agree(&good));
-    suite.add("corner sheets", corner_sheets);
+    sheets(&mut suite);
     suite.run("selftest")
 }
 
@@ -121,6 +123,20 @@ fn faults(suite: &mut Suite) {
     suite.add("fault OverdrawnShares on two benches", || {
         heard(on_two_benches(Fault::OverdrawnShares), "due of 14 and 15: Some(15)")
     });
+}
+
+/// The corner sheets, and what they show of wrong rules and upgrades.
+fn sheets(suite: &mut Suite) {
+    suite.add("corner sheets", || all_print(&corners::all(), sheet::printed));
+    for (name, rule, breaks) in WRONG_RULES {
+        let wrong = move || all_print(&corners::all(), |input| sheet::printed_by(rule, input));
+        suite.add(format!("spares left out: {name}"), move || heard(wrong(), breaks));
+    }
+    suite.add("upgrade corners", || all_print(&corners::upgrades(), sheet::upgraded));
+    for (name, upgrade, breaks) in WRONG_UPGRADES {
+        let wrong = move || all_print(&corners::upgrades(), |input| sheet::upgraded_by(&upgrade, input));
+        suite.add(format!("upgrade: {name}"), move || heard(wrong(), breaks));
+    }
 }
 
 const ONE_FRAME: &[Sizes] = &[SMALL, TWO];
@@ -244,6 +260,54 @@ const FAULTS_OF_CONSOLES: [(Fault, &str); 10] = [
     (Fault::RunAfterSpan, "a call lent [0/1/0 0/1/2] (refusal 13 due: true) answers 8"),
 ];
 
+/// Wrong rules for a line of spares left out, and what the corner sheets show of
+/// each.
+const WRONG_RULES: [(&str, Rule, &str); 5] = [
+    (
+        "half of the levels, rounded down",
+        |levels, _| levels / 2,
+        "\"open=1 orders=0\", due \"open=0 orders=37\"",
+    ),
+    (
+        "as many as levels",
+        sheet::OLDER,
+        "\"step=4 write=0 orders=43 save=- orders=0 epoch=1\", \
+         due \"step=4 write=9 orders=0 save=- orders=0 epoch=1\"",
+    ),
+    (
+        "one fewer than levels, one at least",
+        |levels, _| (levels - 1).max(1),
+        "\"step=6 write=0 orders=43 save=- orders=0 epoch=1\", \
+         due \"step=6 write=9 orders=0 save=- orders=0 epoch=1\"",
+    ),
+    (
+        "one",
+        |_, _| 1,
+        "\"step=5 write=9 orders=0 save=- orders=0 epoch=1\", \
+         due \"step=5 write=0 orders=43 save=- orders=0 epoch=1\"",
+    ),
+    (
+        "half of the frames",
+        |_, frames| frames.div_ceil(2),
+        "\"step=4 write=0 orders=151 save=- orders=0 epoch=1\", \
+         due \"step=4 write=9 orders=0 save=- orders=0 epoch=1\"",
+    ),
+];
+
+/// Wrong upgrades, and what their corners show of each.
+const WRONG_UPGRADES: [(&str, Upgrade, &str); 6] = [
+    ("the line put first", Upgrade { before: 0, ..Upgrade::GOOD }, "\"spares=2\", due \"mains=2\""),
+    ("the line put third", Upgrade { before: 2, ..Upgrade::GOOD }, "\"frames=1\", due \"spares=2\""),
+    (
+        "half as many spares",
+        Upgrade { spares: sheet::HALF, ..Upgrade::GOOD },
+        "\"spares=1\", due \"spares=2\"",
+    ),
+    ("any length", Upgrade { most: usize::MAX, ..Upgrade::GOOD }, "\"mains=2\", due \"bytes=4097\""),
+    ("a byte more", Upgrade { most: 4097, ..Upgrade::GOOD }, "\"mains=2\", due \"bytes=4097\""),
+    ("a byte fewer", Upgrade { most: 4095, ..Upgrade::GOOD }, "\"bytes=4096\", due \"mains=2\""),
+];
+
 const EVERY_CUT: Plan = Plan { images: Images::Few { cap: 256, samples: 32 }, every_cut_up_to: usize::MAX };
 /// Every image of the cuts near a fence and at the ends of a call.
 const FEW_CUTS: Plan = Plan { images: Images::All { cap: 1 << 20 }, every_cut_up_to: 0 };
@@ -364,14 +428,10 @@ fn forms_agree(good: &Reference) -> Outcome {
     Ok(Found::new(format!("{calls} calls as the reference"), &[("calls compared", calls)]))
 }
 
-fn corner_sheets() -> Outcome {
-    let corners = corners::all();
-    for corner in &corners {
-        let printed = sheet::printed(&corner.input);
-        if printed != corner.output.as_bytes() {
-            let printed = String::from_utf8_lossy(&printed).into_owned();
-            return Err(format!("{}: {printed:?}, due {:?}", corner.name, corner.output));
-        }
+/// All print as they should.
+fn all_print(corners: &[Corner], printed: impl Fn(&[u8]) -> Vec<u8>) -> Outcome {
+    for Corner { name, input, output } in corners {
+        groups::lines_due(name, &printed(input), output)?;
     }
     let sheets = corners.len();
     Ok(Found::new(format!("{sheets} sheets print as they should"), &[("sheets", sheets as u64)]))
