@@ -4,6 +4,9 @@ use mathlib.Core.Path.{_≡_, refl}
 use mathlib.Core.List.{List, [], _∷_, _++_}
 use Rattle.model.specs.Range.{cat}
 use Rattle.text.specs.Text.{text}
+use Rattle.parser.specs.Script.{bad}
+use Rattle.printer.specs.Decimal.{decimal}
+use Rattle.calls.specs.Printed.{scriptText}
 
 abbrev pub ordersBytes : List ℕ
 ordersBytes = 32 ∷ 111 ∷ 114 ∷ 100 ∷ 101 ∷ 114 ∷ 115 ∷ 61 ∷ []
@@ -50,6 +53,7 @@ line-end-text = refl
 abbrev pub sheetBytes : List ℕ
 sheetBytes = 115 ∷ 104 ∷ 101 ∷ 101 ∷ 116 ∷ 61 ∷ []
 
-pub sheet-text : sheetBytes ≡ text "sheet="
-unfolding text cat
-sheet-text = refl
+-- all that a bad sheet prints
+pub bad-text : (n : ℕ) → sheetBytes ++ decimal n ++ lineEndBytes ≡ scriptText (bad n)
+unfolding scriptText text cat
+bad-text n = refl

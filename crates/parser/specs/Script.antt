@@ -81,15 +81,18 @@ groupsOf ls = firstGroups (length ls / groupLines) ls
 unfoldable pub defaultBackups : ℕ → ℕ
 defaultBackups mains = (mains + 1) / 2
 
--- the place of the line of blocks, which comes after the line of backups or in its place
+-- whether there is a line of backups, which is the second; and the place of the line of blocks, which comes after it or in its place
+abbrev pub hasBackups : List Line → Bool
+hasBackups ls = named backupsKey (lineAt ls 1)
+
 unfoldable pub blocksLine : List Line → ℕ
-blocksLine ls = cond (named backupsKey (lineAt ls 1)) 2 1
+blocksLine ls = cond (hasBackups ls) 2 1
 
 -- the three sizes, where a line of backups that is left out means what `rule` makes of the main segments
 unfoldable pub sizesOf : (ℕ → ℕ) → List Line → Layout
 sizesOf rule ls =
     let mains : ℕ = numberIn mainsKey (lineAt ls 0) in
-    layoutOf mains (cond (named backupsKey (lineAt ls 1)) (numberIn backupsKey (lineAt ls 1)) (rule mains)) (numberIn blocksKey (lineAt ls (blocksLine ls)))
+    layoutOf mains (cond (hasBackups ls) (numberIn backupsKey (lineAt ls 1)) (rule mains)) (numberIn blocksKey (lineAt ls (blocksLine ls)))
 
 -- a sheet: bad, with the number that it prints, or good
 pub data Script : Type 0 where

@@ -10,13 +10,12 @@ use Rattle.model.specs.Range.{cat}
 use Rattle.text.specs.Text.{text, linesOf}
 use Rattle.text.specs.declared.Number.the-variants.{None, Is}
 use Rattle.lines.specs.Line.{named, numberIn}
-use Rattle.parser.specs.Script.{mostBytes, lineAt, verdict}
+use Rattle.parser.specs.Script.{mostBytes, lineAt, verdict, hasBackups, bad}
 use Rattle.parser.proofs.ReadLaws.{Ends, past-line, line-part}
 use Rattle.printer.specs.Decimal.{decimal}
-use Rattle.printer.proofs.AppendedLaws.{number-text}
 use Rattle.calls.specs.Printed.{scriptText}
-use Rattle.calls.proofs.Texts.{lineEndBytes, line-end-text, sheetBytes, sheet-text}
-use Rattle.upgrade.specs.Upgrade.{hasBackups, LeavesOut, rewritten, goodText, upgradeText}
+use Rattle.calls.proofs.Texts.{lineEndBytes}
+use Rattle.upgrade.specs.Upgrade.{LeavesOut, rewritten, goodText, upgradeText}
 use Rattle.upgrade.proofs.RewritingLaws.{sparesBytes, backups-text, rewritten-size}
 
 -- the bytes that the code has are a text
@@ -31,7 +30,7 @@ module _ (input : List ℕ) (s t : ℕ) (es : Ends input 0 s) (et : Ends input s
   second : take (t - s) (drop s input) ≡ lineAt (linesOf input) 1
   second = line-part input (linesOf input) 1 s t (past-line input (linesOf input) 0 0 s refl es) et
 
-  has : p ≡ hasBackups input
+  has : p ≡ hasBackups (linesOf input)
   has = ep ∙ ap (named 1) second
 
   -- it has the line
@@ -63,6 +62,6 @@ module _ (input : List ℕ) where
   unfolding upgradeText
   answer-good e = rw e refl
 
-  pub answer-bad : (n : ℕ) → verdict input ≡ Is n → sheetBytes ++ decimal n ++ lineEndBytes ≡ upgradeText input
-  unfolding upgradeText scriptText
-  answer-bad n e = rw e (number-text n sheetBytes (text "sheet=") lineEndBytes (text "\n") sheet-text line-end-text)
+  pub answer-bad : (n : ℕ) → verdict input ≡ Is n → scriptText (bad n) ≡ upgradeText input
+  unfolding upgradeText
+  answer-bad n e = rw e refl

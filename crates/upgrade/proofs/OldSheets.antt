@@ -13,11 +13,11 @@ use Rattle.text.specs.Text.{text, Line, linesOf}
 use Rattle.text.specs.declared.Number.{Number}
 use Rattle.text.specs.declared.Number.the-variants.{None, Is}
 use Rattle.lines.specs.Line.{named, numberIn}
-use Rattle.parser.specs.Script.{mostBytes, lineAt, verdict, good, Group, groupsOf, defaultBackups, blocksLine, sizesOf, judged, parseBy, parse}
+use Rattle.parser.specs.Script.{mostBytes, lineAt, verdict, good, Group, groupsOf, defaultBackups, blocksLine, sizesOf, judged, parseBy, parse, hasBackups}
 use Rattle.parser.proofs.VerdictLaws.{verdict-long, verdict-good}
 use Rattle.printer.specs.Decimal.{decimalIn, decimal}
 use Rattle.calls.specs.Printed.{scriptText, printedBy}
-use Rattle.upgrade.specs.Upgrade.{olderBackups, hasBackups, LeavesOut, firstLine, mainsOf, backupsLine, rewritten, goodText, upgradeText}
+use Rattle.upgrade.specs.Upgrade.{olderBackups, LeavesOut, firstLine, mainsOf, backupsLine, rewritten, goodText, upgradeText}
 use Rattle.upgrade.specs.OldSheets.{Rewritten, OldSheets}
 use Rattle.upgrade.proofs.RewritingLaws.{line, rewritten-lines, rewritten-size, rewritten-mains, rewritten-good, rewritten-has}
 
@@ -69,9 +69,9 @@ module _ (input : List ℕ) (h : LeavesOut input) where
 
 others : (input : List ℕ) → (LeavesOut input → ⊥) → (rule rule′ : ℕ → ℕ) → parseBy rule input ≡ parseBy rule′ input
 unfolding parseBy sizesOf
-others input h rule rule′ = go (verdict input) refl (hasBackups input) refl
+others input h rule rule′ = go (verdict input) refl (hasBackups (linesOf input)) refl
   where
-    go : (v : Number) → verdict input ≡ v → (b : Bool) → hasBackups input ≡ b → judged rule v (linesOf input) ≡ judged rule′ v (linesOf input)
+    go : (v : Number) → verdict input ≡ v → (b : Bool) → hasBackups (linesOf input) ≡ b → judged rule v (linesOf input) ≡ judged rule′ v (linesOf input)
     go (Is n) e b f = refl
     go None e true f = rw f refl
     go None e false f = absurd (h (record { good = e; without = f }))

@@ -13,12 +13,12 @@ use Rattle.text.proofs.NameLaws.{starts-append}
 use Rattle.text.proofs.LineLaws.{first-length, first-then, next-rest, next-part}
 use Rattle.lines.specs.Line.{key, named, valueOf, goodLine, numberIn}
 use Rattle.lines.proofs.LineLaws.{good-named, good-ended, good-value, size-bounds, short-line}
-use Rattle.parser.specs.Script.{lineAt, keyFor, following, firstBad}
+use Rattle.parser.specs.Script.{lineAt, keyFor, following, firstBad, hasBackups}
 use Rattle.parser.proofs.BadLaws.{step, end-at}
 use Rattle.parser.proofs.VerdictLaws.{good-sheet}
 use Rattle.printer.specs.Decimal.{decimalIn, decimal}
 use Rattle.calls.proofs.Texts.{lineEndBytes}
-use Rattle.upgrade.specs.Upgrade.{LeavesOut, hasBackups, firstLine, mainsOf, backupsLine, rewritten}
+use Rattle.upgrade.specs.Upgrade.{LeavesOut, firstLine, mainsOf, backupsLine, rewritten}
 
 -- ---- the first line of an input
 
@@ -75,11 +75,11 @@ good-first [] h = absurd (omega (arith, end-at 0 0 h))
 good-first (a ∷ ls) h = step 0 0 a ls h .0
 
 -- the line of backup segments put in where it is left out
-with-backups : (a s : Line) (ls : List Line) → goodLine 1 s ≡ true → named 1 s ≡ true → named 1 (lineAt ls 0) ≡ false
+backups-put-in : (a s : Line) (ls : List Line) → goodLine 1 s ≡ true → named 1 s ≡ true → named 1 (lineAt ls 0) ≡ false
     → firstBad 0 0 (a ∷ ls) ≡ 0 → firstBad 0 0 (a ∷ s ∷ ls) ≡ 0
 unfolding firstBad
-with-backups a s [] gs ns w h = absurd (omega (arith, end-at 1 1 (step 0 0 a [] h .1)))
-with-backups a s (b ∷ ls) gs ns w h =
+backups-put-in a s [] gs ns w h = absurd (omega (arith, end-at 1 1 (step 0 0 a [] h .1)))
+backups-put-in a s (b ∷ ls) gs ns w h =
     let x = step 0 0 a (b ∷ ls) h in
     let y = step 1 1 b ls (x .1) in
     let g : goodLine 2 b ≡ true = rw w at (y .0) in
@@ -160,7 +160,7 @@ module _ (input : List ℕ) (h : LeavesOut input) where
 
   pub rewritten-good : firstBad 0 0 (linesOf (rewritten input)) ≡ 0
   rewritten-good =
-      rw rewritten-lines (with-backups (firstLine input) (backupsLine (mainsOf input)) (drop 1 ls) (line .good) (line .names) second none)
+      rw rewritten-lines (backups-put-in (firstLine input) (backupsLine (mainsOf input)) (drop 1 ls) (line .good) (line .names) second none)
     where
       second : named 1 (lineAt (drop 1 ls) 0) ≡ false
       second = ap (named 1) (getD-drop 1 ls 0 []) ∙ h .without
@@ -168,5 +168,5 @@ module _ (input : List ℕ) (h : LeavesOut input) where
       none : firstBad 0 0 (firstLine input ∷ drop 1 ls) ≡ 0
       none = ap (firstBad 0 0) (sym (first-and-rest ls none-bad)) ∙ none-bad
 
-  pub rewritten-has : hasBackups (rewritten input) ≡ true
+  pub rewritten-has : hasBackups (linesOf (rewritten input)) ≡ true
   rewritten-has = rw rewritten-lines (line .names)

@@ -2,15 +2,15 @@
 -- rewritten, and what the program that does it prints. That they then print what they printed: OldSheets.antt. Assumes nothing.
 use Prim.Native.Nat.{ℕ}
 use mathlib.Core.Path.{_≡_}
-use mathlib.Core.Bool.{Bool, false, cond}
+use mathlib.Core.Bool.{false, cond}
 use mathlib.Core.List.{List, _++_}
 use lib.Dec.{ltb}
 use lib.ListN.{length, drop}
 use Rattle.text.specs.Text.{text, Line, linesOf}
 use Rattle.text.specs.declared.Number.{Number}
 use Rattle.text.specs.declared.Number.the-variants.{None, Is}
-use Rattle.lines.specs.Line.{mainsKey, backupsKey, named, numberIn}
-use Rattle.parser.specs.Script.{mostBytes, lineAt, verdict, bad}
+use Rattle.lines.specs.Line.{mainsKey, backupsKey, numberIn}
+use Rattle.parser.specs.Script.{mostBytes, lineAt, verdict, hasBackups, bad}
 use Rattle.printer.specs.Decimal.{decimal}
 use Rattle.calls.specs.Printed.{scriptText}
 
@@ -18,14 +18,10 @@ use Rattle.calls.specs.Printed.{scriptText}
 unfoldable pub olderBackups : ℕ → ℕ
 olderBackups mains = mains
 
--- whether a sheet has the line, which is its second
-abbrev pub hasBackups : List ℕ → Bool
-hasBackups input = named backupsKey (lineAt (linesOf input) 1)
-
--- a good sheet that leaves it out
+-- a good sheet that leaves the line out
 pub record LeavesOut (input : List ℕ) : Type 0 where
   pub good : verdict input ≡ None
-  pub without : hasBackups input ≡ false
+  pub without : hasBackups (linesOf input) ≡ false
 
 -- ---- the rewriting
 
@@ -49,7 +45,7 @@ rewritten input = firstLine input ++ backupsLine (mainsOf input) ++ drop (length
 -- for a good sheet: the line that it has; how many bytes it would have, if these are too many; the rewritten sheet
 unfoldable pub goodText : List ℕ → List ℕ
 goodText input =
-    cond (hasBackups input) (backupsLine (numberIn backupsKey (lineAt (linesOf input) 1)))
+    cond (hasBackups (linesOf input)) (backupsLine (numberIn backupsKey (lineAt (linesOf input) 1)))
     (cond (ltb mostBytes (length (rewritten input))) (text "bytes=" ++ decimal (length (rewritten input)) ++ text "\n") (rewritten input))
 
 -- by the verdict: for a bad sheet what the sheet program prints

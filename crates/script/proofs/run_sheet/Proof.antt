@@ -3,9 +3,9 @@ use mathlib.Core.List.{_++_}
 use native.Mathlib.Omega.{arith}
 use borrow.Author.Needs.{needs}
 use Rattle.printer.specs.Decimal.{decimal, Appended}
-use Rattle.printer.proofs.AppendedLaws.{appended-first, appended-as, number-text}
-use Rattle.calls.proofs.Texts.{lineEndBytes, line-end-text, sheetBytes, sheet-text}
-use Rattle.script.proofs.SheetLaws.{refused-ran}
+use Rattle.printer.proofs.AppendedLaws.{appended-first, appended-as}
+use Rattle.calls.proofs.Texts.{lineEndBytes, sheetBytes, bad-text}
+use Rattle.script.proofs.SheetLaws.{prints-bad}
 use Rattle.script.proofs.run_sheet.Statement.{statement}
 use Rattle.script.proofs.run_sheet.Tie as tie
 
@@ -36,7 +36,7 @@ returns c =
     let v = c .before .before .before .before .before .before .before .verdict in
     let a = c .before .before .before .before .before .before .before .before .before .args in
     let line : Appended (a .out .now) 0 (sheetBytes ++ decimal (n .0 .0) ++ lineEndBytes) _ (c .append-number .result) = c .append-number .ensures .0 in
-    appended-first (refused-ran (a .input .now) (n .0 .0) _ _ _ (sym (v .ensures) ∙ n .1) (appended-as (number-text (n .0 .0) _ _ _ _ sheet-text line-end-text) line))
+    appended-first (appended-as (bad-text (n .0 .0) ∙ prints-bad (a .input .now) (n .0 .0) (sym (v .ensures) ∙ n .1)) line)
 
 returns-2 : tie.Need-returns-2
 returns-2 c = appended-first (c .run-good .ensures)

@@ -3,7 +3,7 @@ use mathlib.Core.List.{_++_}
 use native.Mathlib.Omega.{arith}
 use Rattle.printer.specs.Decimal.{decimal, Appended}
 use Rattle.printer.proofs.AppendedLaws.{appended-first, appended-as}
-use Rattle.calls.proofs.Texts.{lineEndBytes, sheetBytes}
+use Rattle.calls.proofs.Texts.{lineEndBytes, sheetBytes, bad-text}
 use Rattle.upgrade.proofs.AnswerLaws.{answer-good, answer-bad}
 use borrow.Author.Needs.{needs}
 use Rattle.upgrade.proofs.upgrade_sheet.Statement.{statement}
@@ -35,7 +35,7 @@ returns c =
     let n = c .before .before .before .before .before .n .given in
     let i = c .before .before .before .before .before .before .before .before .before .args .input .now in
     let line : Appended _ 0 (sheetBytes ++ decimal (n .0 .0) ++ lineEndBytes) _ (c .append-number .result) = c .append-number .ensures .0 in
-    appended-first (appended-as (answer-bad i (n .0 .0) (sym (c .before .before .before .before .before .before .before .verdict .ensures) ∙ n .1)) line)
+    appended-first (appended-as (bad-text (n .0 .0) ∙ answer-bad i (n .0 .0) (sym (c .before .before .before .before .before .before .before .verdict .ensures) ∙ n .1)) line)
 
 returns-2 : tie.Need-returns-2
 returns-2 c =
