@@ -14,10 +14,9 @@ use Rattle.model.specs.Words.{Image, Bytes}
 use Rattle.model.specs.Layout.{blockSize}
 use Rattle.model.specs.Open.{openOutcome}
 use Rattle.model.specs.Write.{WriteArgs}
-use Rattle.model.specs.Crash.{CrashImage}
 use Rattle.model.specs.Reference.{Page, pageAt, pageBlock}
 use Rattle.model.specs.History.{Call, callWrite, Device, State, playedOps, Permitted, AllPermitted}
-use Rattle.model.specs.CrashSafety.{ReadsBlock, between, during, Window, MayShow, Enough, CutOpenings, again}
+use Rattle.model.specs.CrashSafety.{ReadsBlock, between, during, Window, MayShow, Enough, CutOpenings, again, Module}
 
 -- ---- the pages that may be shown
 
@@ -53,10 +52,10 @@ module _ (l : Layout) (I : Image) (i b : ℕ) where
 -- ---- openings that are cut
 
 -- what stands may be opened, this opening cut, and so any number of openings of what it leaves
-pub one-more-opening : (d : Device) (H J : Image) (t : Lent) (p : ℕ) → Enough (d .session .layout) (d .image) t
-    → CrashImage (d .image) (playedOps (d .image) (openOutcome (d .session .layout) (d .image) t .ops) (t .trace) p) H
-    → CutOpenings CrashImage (d .session .layout) H J → CutOpenings CrashImage (d .session .layout) (d .image) J
-one-more-opening d H J t p long cut rest = let c = again t p long cut rest in c
+pub one-more-opening : (M : Module) (d : Device) (H J : Image) (t : Lent) (p : ℕ) → Enough (d .session .layout) (M .domain) (d .image) t
+    → M .leaves (d .image) (playedOps (d .image) (openOutcome (d .session .layout) (M .domain) (d .image) t .ops) (t .trace) p) H
+    → CutOpenings M (d .session .layout) H J → CutOpenings M (d .session .layout) (d .image) J
+one-more-opening M d H J t p long cut rest = let c = again t p long cut rest in c
 
 -- ---- the calls of a history
 

@@ -8,6 +8,7 @@ use mathlib.Core.Bool.{true, false}
 use mathlib.Core.List.{List, [], _∷_, _++_}
 use native.Mathlib.Omega.{arith}
 use lib.ListN.{length, take, drop, getD, replicate, length-append, List·getD-append}
+use Rattle.model.specs.Clients.{noClient}
 use Rattle.model.specs.declared.Layout.{Layout}
 use Rattle.model.specs.declared.Plan.the-variants.{OwnBackup, NewBackup, NoneFree}
 use Rattle.model.specs.Range.{cat, allB, anyB, orNext, firstB}
@@ -15,9 +16,9 @@ use Rattle.model.specs.Words.{Image, littleEndian, wordOf, wordAt, bytes
 use Rattle.model.specs.Layout.{lineSize, unpaired, ssMain, layoutOf, inRange, sizesOk, imageSize, stateLine, epochAt}
 use Rattle.model.specs.Status.{firstError}
 use Rattle.model.specs.Container.{committedEpoch, activeLine, inactiveLine, isPaired, validMetadata, isFree, anyFree, newBackup, byState, headerOk}
-use Rattle.model.specs.Session.{bit, setBit, setBits, dirtyWord, dirtySegment, freshSession, zeroSession, withDirty, withCheckpoint}
-use Rattle.model.specs.Ops.{store, clwb, sfence, encode, replay, stores, clwbs, putBlock, persistCopy, copySegment, storeByte}
-use Rattle.model.specs.Outcome.{Lent, outcomeOf}
+use Rattle.model.specs.Session.{bit, setBit, setBits, dirtyWord, dirtySegment, freshSession, zeroSession, withDirty, withCheckpoint, adr, eadr}
+use Rattle.model.specs.Ops.{store, clwb, sfence, encode, replay, stores, clwbs, putBlock, persistCopy, copySegment, storeByte, forDomain}
+use Rattle.model.specs.Outcome.{Lent, outcomeOf, lent}
 use Rattle.model.specs.Replay.{wellFormed, allWellFormed, replayCount, replayStatus}
 use Rattle.model.specs.Format.{container, formatted}
 use Rattle.model.specs.Open.{recoveryAction, actionOps, openStatus, openOutcome}
@@ -107,9 +108,15 @@ state-after-copy I = refl
 -- a checkpoint with no dirty block, after its first fence and the 8 stores of states: written back, a fence, the epoch
 -- stored and written back, a fence; so the epoch does not arrive before the states
 pub epoch-after-states : (I : Image)
-    → drop 9 (checkpointOps (freshSession small) I) ≡ clwb (inactiveLine I) ∷ sfence ∷ store epochAt (suc (committedEpoch I)) ∷ clwb epochAt ∷ sfence ∷ []
+    → drop 9 (checkpointOps (freshSession small adr) I) ≡ clwb (inactiveLine I) ∷ sfence ∷ store epochAt (suc (committedEpoch I)) ∷ clwb epochAt ∷ sfence ∷ []
 unfolding checkpointOps flushDirty statesOps epochOps stores cat freshSession bit
 epoch-after-states I = refl
+
+-- the trace of kind 1 has stores and fences, and no write-back; that of kind 0 has all three
+pub no-flush-kept : (forDomain eadr (store 8 1 ∷ clwb 0 ∷ sfence ∷ []) ≡ store 8 1 ∷ sfence ∷ [])
+    × (forDomain adr (store 8 1 ∷ clwb 0 ∷ sfence ∷ []) ≡ store 8 1 ∷ clwb 0 ∷ sfence ∷ [])
+unfolding forDomain
+no-flush-kept = (refl, refl)
 
 -- ---- opening
 
@@ -118,28 +125,33 @@ pub backup-renewed : (I : Image) → take 1 (actionOps small I 0 0 (recoveryActi
 unfolding actionOps recoveryAction byState copySegment persistCopy putBlock stores cat
 backup-renewed I = refl
 
--- refused, it answers a session of zeros
-pub refused-zeros : (I : Image) (t : Lent) → openOutcome (layoutOf 65 1 1) I t .session ≡ zeroSession
+-- refused, it answers a session of zeros, the kind of module among them
+pub refused-zeros : (I : Image) (t : Lent) → openOutcome (layoutOf 65 1 1) eadr I t .session ≡ zeroSession
 unfolding openOutcome openStatus outcomeOf firstError sizesOk inRange freshSession zeroSession
 refused-zeros I t = refl
 
 -- which the next call is given
-pub zeros-count : (d : Device) (t : Lent) → deviceStep d (callOpen (layoutOf 65 1 1) t) .session ≡ zeroSession
+pub zeros-count : (d : Device) (t : Lent) → deviceStep d (callOpen (layoutOf 65 1 1) eadr t) .session ≡ zeroSession
 unfolding deviceStep openOutcome openStatus outcomeOf firstError sizesOk inRange freshSession zeroSession
 zeros-count d t = refl
 
 -- in the reference model it drops what was written and not checkpointed
-pub edits-dropped : (l k : Layout) (w : WriteArgs) (m : Model)
-    → modelStep l (openArgs k) true (modelStep l (writeArgs w) true m) ≡ record { working = m .checkpoint; checkpoint = m .checkpoint }
+pub edits-dropped : (l k : Layout) (d : ℕ) (w : WriteArgs) (m : Model)
+    → modelStep l (openArgs k d) true (modelStep l (writeArgs w) true m) ≡ record { working = m .checkpoint; checkpoint = m .checkpoint }
 unfolding modelStep
-edits-dropped l k w m = refl
+edits-dropped l k d w m = refl
 
 -- ---- checkpoint and write
 
 -- a block that was written is dirty also after the checkpoint, so that the next write copies it: 36 operations
-pub mark-copied : (I : Image) → length (copyDirty small I (dirtyWord (withCheckpoint (withDirty (freshSession small) 0 0 1 0)) 0) 0 0) ≡ 36
+pub mark-copied : (I : Image) → length (copyDirty small I (dirtyWord (withCheckpoint (withDirty (freshSession small adr) 0 0 1 0)) 0) 0 0) ≡ 36
 unfolding withCheckpoint withDirty freshSession setBits setBit copyDirty persistCopy putBlock stores clwbs cat bit
 mark-copied I = refl
+
+-- a write and a checkpoint leave a session of the same kind of module
+pub kind-carried : (withDirty (freshSession small eadr) 0 0 1 0 .domain ≡ eadr) × (withCheckpoint (freshSession small eadr) .domain ≡ eadr)
+unfolding withCheckpoint withDirty freshSession
+kind-carried = (refl, refl)
 
 -- three main segments: the first in state 2, the others in state 1; by the inactive line all are in state 1. So the backup segment of the
 -- first holds a checkpoint, though it would be free by the inactive line
@@ -149,8 +161,8 @@ taken backups pairs =
     (replicate (256 * (3 + backups)) 0)
 
 -- with no other backup segment a write to the third main segment finds none free, and with that of the second it takes that one
-pub none-free : (copyPlan (freshSession (layoutOf 3 1 1)) (taken 1 (0 ∷ unpaired ∷ [])) 2 ≡ NoneFree)
-    × (copyPlan (freshSession (layoutOf 3 2 1)) (taken 2 (0 ∷ 1 ∷ [])) 2 ≡ NewBackup 1)
+pub none-free : (copyPlan (freshSession (layoutOf 3 1 1) adr) (taken 1 (0 ∷ unpaired ∷ [])) 2 ≡ NoneFree)
+    × (copyPlan (freshSession (layoutOf 3 2 1) adr) (taken 2 (0 ∷ 1 ∷ [])) 2 ≡ NewBackup 1)
 unfolding copyPlan needsCopy dirtySegment freshSession bit isPaired anyFree isFree newBackup anyB firstB orNext container bytesOf stateLine wordOf littleEndian
 none-free = (refl, refl)
 
@@ -196,3 +208,8 @@ six-and-seven = (refl, refl)
 pub lower-first : readStatus small (formatted small) 1 1 ≡ 6
 unfolding readStatus firstError sizesOk inRange imageSize headerOk validMetadata allB isPaired anyB formatted container bytesOf stateLine wordOf littleEndian
 lower-first = refl
+
+-- an opening judges the kind of module before the records of clients, of which nine are too many
+pub kind-first : openStatus small 2 (formatted small) (lent (replicate 9 noClient) []) ≡ 5
+unfolding openStatus firstError sizesOk inRange imageSize headerOk validMetadata allB isPaired anyB formatted container bytesOf stateLine wordOf littleEndian
+kind-first = refl

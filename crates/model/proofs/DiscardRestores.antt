@@ -7,6 +7,7 @@ use native.Mathlib.Omega.{arith}
 use borrow.Author.Tests.{eq-eqb}
 use lib.ListN.{length, getD}
 use lib.Seq.{take-length}
+use Rattle.model.proofs.Laws.Domain.{domain-replay}
 use Rattle.model.specs.declared.Layout.{Layout}
 use Rattle.model.specs.declared.Session.{Session}
 use Rattle.model.specs.Words.{Image, byteAt}
@@ -80,12 +81,12 @@ module _ (s : State) (st : Stands s) (i : ℕ) (k : Lent) (h : outcome (s .devic
   after-image =
       let O : Ops = outcome d (callDiscard i k) .ops in
       replayed-image (d .image) O (k .trace) (length O) (whole-lines s st) (call-ok d (callDiscard i k))
-      ∙ ap (λ (X : Ops). replay X (d .image)) (take-length O ∙ rw (eq-eqb _ _ h) refl)
+      ∙ ap (λ (X : Ops). replay X (d .image)) (take-length O ∙ rw (eq-eqb _ _ h) refl) ∙ domain-replay (d .session .domain) (discardOps (d .session) (d .image) i) (d .image)
 
   -- it stores into the segment alone
   outside-clear : (n : ℕ) → Outside l i n → Clear n (discardOps (d .session) (d .image) i)
   outside-clear n o = subst₂ (λ (x : Session) (J : Image). Clear n (discardOps x J i)) (sym known) (sym (st .image))
-      (discard-clear (d .played) (d .durable) (st .session) _ _ (st .bytes) (inv-at s st (st .session .layout) (st .sized)) i
+      (discard-clear (d .adrPlayed) (d .durable) (st .session) _ _ (st .bytes) (inv-at s st (st .session .layout) (st .sized)) i
       (subst (λ (x : Layout). i < x .mains) (sym (st .sized)) inside) n (subst (λ (x : Layout). Outside x i n) (sym (st .sized)) o))
 
   others-same : (n : ℕ) → Outside l i n → byteAt (after .device .image) n ≡ byteAt (d .image) n
@@ -103,4 +104,4 @@ module _ (s : State) (st : Stands s) (i : ℕ) (k : Lent) (h : outcome (s .devic
   }
 
 pub discard-restores : DiscardRestores
-discard-restores l I t b h cs permitted i k ok = restores _ (history-stands l I t b h cs permitted) i k ok
+discard-restores l n I t b h cs permitted i k ok = restores _ (history-stands l n I t b h cs permitted) i k ok

@@ -8,6 +8,7 @@ use native.Mathlib.Omega.{arith}
 use native.Mathlib.Decide.{decLe}
 use lib.ListN.{length, take}
 use lib.Seq.{ext-getD, take-length, take-append-le}
+use Rattle.model.specs.Session.{adr}
 use Rattle.model.specs.Outcome.{Lent, lent}
 use Rattle.model.specs.declared.Layout.{Layout}
 use Rattle.model.specs.Words.{Image, Bytes, byteAt}
@@ -19,20 +20,21 @@ use Rattle.model.specs.Open.{recoveryOps, openStatus, openOutcome}
 use Rattle.model.specs.Crash.{Stage, CrashImage}
 use Rattle.model.specs.Reference.{Page}
 use Rattle.model.specs.History.{Call, State, deviceStep, step, run, playedOps, openedImage, start}
-use Rattle.model.specs.CrashSafety.{Recovers, playedAt, MayShow, none, again}
+use Rattle.model.specs.CrashSafety.{Recovers, playedAt, MayShow, none, again, adrModule}
 use Rattle.model.specs.FlushDurable.{flushAll, FlushDurable, FlushCut, imageAt, RestartSafety, Formats, formatStores, FormatByStores, FormatDurable, FormatSettles, FormatStarts, FormatSafety}
 use Rattle.model.proofs.Laws.Words.{byte-of-word}
 use Rattle.model.proofs.Laws.Layout.{image-lines}
 use Rattle.model.proofs.Laws.Format.{formatted-length, formatted-checkpoint, formatted-starts, format-served, format-gives}
-use Rattle.model.proofs.Laws.Crash.Floor.{durable-all}
+use Rattle.model.proofs.Laws.Crash.Flushes.{flushes-wait, only-clwbs}
 use Rattle.model.proofs.Laws.Crash.Images.{newest, crash-settled}
-use Rattle.model.proofs.Argument.Persist.{each-append, each-take, length-replay, replay-clear, replay-append}
-use Rattle.model.proofs.Argument.Settled.{Settled, Settles, durable-front, replay-past, settles-fence}
+use Rattle.model.proofs.Argument.Persist.{each-append, length-replay, replay-clear, replay-append}
+use Rattle.model.proofs.Argument.Settled.{Settled, Settles, settles-fence}
 use Rattle.model.proofs.Argument.Runs.{Puts, puts-stores, clwbs-none, flushed-clwbs}
 use Rattle.model.proofs.Argument.Recovery.{recovery-keeps}
 use Rattle.model.proofs.Argument.OpenCall.{accepted}
 use Rattle.model.proofs.Argument.Openings.{open-served, opened-is}
-use Rattle.model.proofs.CrashSafety.{crash-safety}
+use Rattle.model.proofs.Laws.Domain.{domain-adr}
+use Rattle.model.proofs.Domains.{adr-within, both-kinds}
 use Rattle.model.proofs.Sisters.{opening-settles, opening-safety}
 
 -- ---- the stores of a format
@@ -41,7 +43,7 @@ format-puts : (l : Layout) → SizesOk l → Puts (formatStores l) 0 (8 * (image
 unfolding formatStores
 format-puts l h =
     puts-stores (imageSize l / 8) 0 _ (byteAt (formatted l))
-    (λ k b x y. byte-of-word (byteAt (formatted l)) (8 * k) b (formatted-starts l h (lent [] []) .0) y ∙ ap (byteAt (formatted l)) (omega arith))
+    (λ k b x y. byte-of-word (byteAt (formatted l)) (8 * k) b (formatted-starts l h adr (lent [] []) .0) y ∙ ap (byteAt (formatted l)) (omega arith))
 
 pub format-by-stores : FormatByStores
 format-by-stores l I h =
@@ -78,27 +80,7 @@ flush-durable I W whole = (
 )
 
 pub flush-cut : FlushCut
-flush-cut I W n H c = record { long = c .long; lines = λ ℓ. stage (c .lines ℓ) }
-  where
-    stage : {ℓ : ℕ} → Stage ℓ I (W ++ clwbs n 0) H → Stage ℓ I W H
-    stage {ℓ} s = go (decLe (s .k) (length W))
-      where
-        go : Dec (s .k ≤ length W) → Stage ℓ I W H
-        go (yes h) = record {
-          k = s .k;
-          within = h;
-          durable = durable-front ℓ W (clwbs n 0) (s .k) (s .durable);
-          agree = λ i e. s .agree i e ∙ ap (λ (X : Ops). byteAt (replay X I) i) (take-append-le (s .k) W (clwbs n 0) h);
-        }
-        go (no h) = record {
-          k = length W;
-          within = omega arith;
-          durable = durable-all ℓ W;
-          agree = λ i e. s .agree i e
-              ∙ ap (λ (J : Image). byteAt J i) (replay-past (s .k) W (clwbs n 0) I (omega arith))
-              ∙ replay-clear (take (s .k - length W) (clwbs n 0)) (replay W I) i (each-take _ (s .k - length W) (clwbs n 0) (clwbs-none _ n 0))
-              ∙ ap (λ (X : Ops). byteAt (replay X I) i) (sym (take-length W));
-        }
+flush-cut I W n H c = flushes-wait I W (clwbs n 0) (only-clwbs n 0) H .0 c
 
 -- ---- a program that starts again
 
@@ -107,25 +89,25 @@ unfolding run step deviceStep
 run-durable s [] = refl
 run-durable s (c ∷ cs) = run-durable (step s c) cs
 
-start-whole : (l : Layout) (I : Image) (t : Lent) → openStatus l I t ≡ 0 → (cs : List Call) → length (run (start l I t) cs .device .durable) % lineSize ≡ 0
+start-whole : (l : Layout) (d : ℕ) (I : Image) (t : Lent) → openStatus l d I t ≡ 0 → (cs : List Call) → length (run (start l d I t) cs .device .durable) % lineSize ≡ 0
 unfolding start
-start-whole l I t h cs =
+start-whole l n I t h cs =
     let O = recoveryOps l I (activeLine I) in
-    let e : length (run (start l I t) cs .device .durable) ≡ length (openedImage l I t) = ap (λ (J : Image). length J) (run-durable (start l I t) cs) in
-    let d : length (openedImage l I t) ≡ length (replay O I) = ap (λ (J : Image). length J) (opened-is l I t h) in
-    omega (arith, e, d, length-replay O I, accepted l I t h .long, image-lines l)
+    let e : length (run (start l n I t) cs .device .durable) ≡ length (openedImage l n I t) = ap (λ (J : Image). length J) (run-durable (start l n I t) cs) in
+    let d : length (openedImage l n I t) ≡ length (replay O I) = ap (λ (J : Image). length J) (opened-is l n I t h) in
+    omega (arith, e, d, length-replay O I, accepted l n I t h .long, image-lines l)
 
 pub restart-safety : RestartSafety
-restart-safety l I t b h cs permitted m at t₁ ne₁ p H c H′ openings t′ ne =
-    let s : State = run (start l I t) cs in
+restart-safety l I t b h cs permitted own m at t₁ ne₁ p H c H′ openings t′ ne =
+    let s : State = run (start l adr I t) cs in
     let W : Ops = playedAt (s .device) m in
     let J : Image = imageAt (s .device) m in
-    let f = flush-durable (s .device .durable) W (start-whole l I t h cs) in
-    let E : Ops = playedOps J (openOutcome (s .device .layout) J t₁ .ops) (t₁ .trace) p in
+    let f = flush-durable (s .device .durable) W (start-whole l adr I t h cs) in
+    let E : Ops = playedOps J (openOutcome (s .device .layout) adr J t₁ .ops) (t₁ .trace) p in
     let g : CrashImage J E H = f .1 E H .0 (subst (λ (F : Ops). CrashImage (s .device .durable) (W ++ F ++ E) H) (flush-same J (s .device .durable) (length-replay W (s .device .durable))) c) in
     -- a crash may leave J, so an opening of J shows a page that is permitted, and what stands is bytes
-    let y = crash-safety l I t b h cs permitted m at J (f .0) J none t₁ ne₁ in
-    let o = opening-safety (s .device .layout) J t₁ (y .3) (y .2 .accepted) H′ (again t₁ p ne₁ g openings) t′ ne in
+    let y = both-kinds .adrSafe l I t b h cs permitted own m at J (f .0) J none t₁ ne₁ in
+    let o = opening-safety adrModule adr-within (s .device .layout) J t₁ (y .3) (y .2 .accepted) H′ (again t₁ p ne₁ g openings) t′ ne in
     (subst (MayShow s m) (sym (y .2 .begins)) (y .1), o .0, o .1)
 
 -- ---- a format that is flushed
@@ -147,19 +129,19 @@ module _ (l : Layout) (I : Image) (W : Ops) (f : Formats l I W) where
   flushed-settled ℓ h = flush-settles I ℓ whole h W
 
   -- a served opening, played whole
-  module _ (t : Lent) (h : openStatus l (formatted l) t ≡ 0) where
+  module _ (t : Lent) (h : openStatus l adr (formatted l) t ≡ 0) where
     abbrev O : Ops
     O = recoveryOps l (formatted l) (activeLine (formatted l))
 
-    opened-replay : replay (W ++ flushAll I ++ O) I ≡ openedImage l (formatted l) t
-    opened-replay = replay-append (W ++ flushAll I) O I ∙ ap (replay O) flushed-replay ∙ sym (opened-is l (formatted l) t h)
+    opened-replay : replay (W ++ flushAll I ++ O) I ≡ openedImage l adr (formatted l) t
+    opened-replay = replay-append (W ++ flushAll I) O I ∙ ap (replay O) flushed-replay ∙ sym (opened-is l adr (formatted l) t h)
 
     opened-settled : (ℓ : ℕ) → lineSize * ℓ < length I → Settled ℓ (W ++ flushAll I ++ O)
     opened-settled ℓ x = recovery-keeps l (activeLine (formatted l)) (formatted l) ℓ (W ++ flushAll I) (flushed-settled ℓ x)
 
-    opened-crash : (E : Ops) (H : Image) → CrashImage I (W ++ flushAll I ++ openOutcome l (formatted l) t .ops ++ E) H ↔ CrashImage (openedImage l (formatted l) t) E H
+    opened-crash : (E : Ops) (H : Image) → CrashImage I (W ++ flushAll I ++ openOutcome l adr (formatted l) t .ops ++ E) H ↔ CrashImage (openedImage l adr (formatted l) t) E H
     opened-crash E H =
-        subst₂ (λ (X : Ops) (K : Image). CrashImage I (W ++ flushAll I ++ X ++ E) H ↔ CrashImage K E H) (sym (open-served l (formatted l) t h .ops)) opened-replay
+        subst₂ (λ (X : Ops) (K : Image). CrashImage I (W ++ flushAll I ++ X ++ E) H ↔ CrashImage K E H) (sym (open-served l adr (formatted l) t h .ops ∙ domain-adr O)) opened-replay
         (crash-settled I H (W ++ flushAll I ++ O) E opened-settled)
 
 pub format-durable : FormatDurable
@@ -169,19 +151,19 @@ format-durable l I W f E H =
 
 pub format-settles : FormatSettles
 format-settles l I W f t h H =
-    let d = format-durable l I W f (openOutcome l (formatted l) t .ops) H in
-    let o = opening-settles l (formatted l) t (formatted-starts l (sizes l I W f) t .0) h in
-    (λ c. o .1 H (d .0 c), λ e. d .1 (subst (CrashImage (formatted l) (openOutcome l (formatted l) t .ops)) (sym e) (o .0)))
+    let d = format-durable l I W f (openOutcome l adr (formatted l) t .ops) H in
+    let o = opening-settles adrModule adr-within l (formatted l) t (formatted-starts l (sizes l I W f) adr t .0) h in
+    (λ c. o .1 H (d .0 c), λ e. d .1 (subst (CrashImage (formatted l) (openOutcome l adr (formatted l) t .ops)) (sym e) (subst (λ (X : Ops). CrashImage (formatted l) X (openedImage l adr (formatted l) t)) (sym (open-served l adr (formatted l) t h .ops ∙ domain-adr _)) (o .0))))
 
 pub format-starts : FormatStarts
 unfolding start
 format-starts l I W f t h cs m H =
-    let s : State = run (start l (formatted l) t) cs in
-    subst (λ (K : Image). CrashImage I (W ++ flushAll I ++ openOutcome l (formatted l) t .ops ++ playedAt (s .device) m) H ↔ CrashImage K (playedAt (s .device) m) H)
-    (sym (run-durable (start l (formatted l) t) cs)) (opened-crash l I W f t h (playedAt (s .device) m) H)
+    let s : State = run (start l adr (formatted l) t) cs in
+    subst (λ (K : Image). CrashImage I (W ++ flushAll I ++ openOutcome l adr (formatted l) t .ops ++ playedAt (s .device) m) H ↔ CrashImage K (playedAt (s .device) m) H)
+    (sym (run-durable (start l adr (formatted l) t) cs)) (opened-crash l I W f t h (playedAt (s .device) m) H)
 
 pub format-safety : FormatSafety
 format-safety l I W f t h p H c H′ openings t′ ne =
-    let d = format-durable l I W f (playedOps (formatted l) (openOutcome l (formatted l) t .ops) (t .trace) p) H in
-    subst (λ (Q : Page). Recovers l H′ t′ Q × Bytes H′) (formatted-checkpoint l (sizes l I W f))
-    (opening-safety l (formatted l) t (formatted-starts l (sizes l I W f) t .0) h H′ (again t p ((λ e. omega arith), (λ e. omega arith)) (d .0 c) openings) t′ ne)
+    let d = format-durable l I W f (playedOps (formatted l) (openOutcome l adr (formatted l) t .ops) (t .trace) p) H in
+    subst (λ (Q : Page). Recovers l adr H′ t′ Q × Bytes H′) (formatted-checkpoint l (sizes l I W f))
+    (opening-safety adrModule adr-within l (formatted l) t (formatted-starts l (sizes l I W f) adr t .0) h H′ (again t p ((λ e. omega arith), (λ e. omega arith)) (d .0 c) openings) t′ ne)

@@ -58,7 +58,7 @@ module _ (s : State) (st : Stands s) where
   no-nine h w t e = omega (arith, h, nine-full w t e)
 
 pub nine-only-full : NineOnlyFull
-nine-only-full l I t b h cs permitted = nine-full _ (history-stands l I t b h cs permitted)
+nine-only-full l dom I t b h cs permitted = nine-full _ (history-stands l dom I t b h cs permitted)
 
 -- ---- main segments in state 2 after a call
 
@@ -66,7 +66,7 @@ nine-only-full l I t b h cs permitted = nine-full _ (history-stands l I t b h cs
 copied-served : (l : Layout) (s : Session) (I : Image) (a : CallArgs) (st : ℕ → ℕ) → isCheckpoint a ≡ false
     → ((w : WriteArgs) → a ≡ writeArgs w → w .main < l .mains)
     → ((i : ℕ) → i < l .mains → st i ≡ servedState s I a i) → mainsInBackup l st ≡ mainsInBackup l (activeState I) + oneIf (isCopying s I a)
-copied-served l s I (openArgs k) st e inside h = omega (arith, in-backup-same l (activeState I) st h)
+copied-served l s I (openArgs k dom) st e inside h = omega (arith, in-backup-same l (activeState I) st h)
 copied-served l s I (writeArgs w) st e inside h = go (needsCopy s I (w .main)) refl h
   where
     go : (b : Bool) → needsCopy s I (w .main) ≡ b → ((i : ℕ) → i < l .mains → st i ≡ cond (b && eqb i (w .main)) 2 (activeState I i))
@@ -148,7 +148,7 @@ module _ (s : State) (st : Stands s) (t : Lent) (h : outcome (s .device) (callCh
   )
 
 pub checkpoint-frees : CheckpointFrees
-checkpoint-frees l I t b h cs permitted u served = frees _ (history-stands l I t b h cs permitted) u served
+checkpoint-frees l dom I t b h cs permitted u served = frees _ (history-stands l dom I t b h cs permitted) u served
 
 -- ---- counted along a history
 
@@ -167,12 +167,12 @@ module _ (P : Device → ℕ → Type 0) (holds : (s : State) → Stands s → (
 
   since-opening : SinceOpening P
   unfolding start
-  since-opening l I t b h cs permitted none =
-      from-state (start l I t) (start-stands l I t b h) cs permitted none _ (omega (arith, in-backup-same l (activeState I) _ (opened-states l I t b h)))
+  since-opening l dom I t b h cs permitted none =
+      from-state (start l dom I t) (start-stands l dom I t b h) cs permitted none _ (omega (arith, in-backup-same l (activeState I) _ (opened-states l dom I t b h)))
 
   since-checkpoint : SinceCheckpoint P
-  since-checkpoint l I t b h cs permitted u served ds rest none =
-      let st = history-stands l I t b h cs permitted in
+  since-checkpoint l dom I t b h cs permitted u served ds rest none =
+      let st = history-stands l dom I t b h cs permitted in
       from-state _ (stands-after _ st u served) ds rest none _ (omega (arith, none-in-backup _ st u served))
 
 pub copies-counted : CopiesCounted

@@ -12,6 +12,7 @@ pub mod Container
 pub mod Clients
 pub mod Session
 pub mod Ops
+pub mod Domain
 pub mod Outcome
 -- the calls
 pub mod Replay
@@ -26,6 +27,7 @@ pub mod Checkpoint
 pub mod Same
 -- how many operations a call has, and traces that suffice
 pub mod Counts
+pub mod Traces
 pub mod TraceLength
 -- what no call reads; flushes in main segments that are not dirty; what a crash may leave; what demand 3 does not leave open
 pub mod Unread

@@ -5,6 +5,8 @@ pub mod Allowed
 pub mod Laws
 pub mod Argument
 pub mod CrashSafety
+pub mod Domains
+pub mod Beside
 pub mod Sisters
 pub mod FlushDurable
 pub mod DiscardRestores

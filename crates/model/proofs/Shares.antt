@@ -82,9 +82,9 @@ within-charged R k b below within j h = go (ℕ-discrete j k)
 
 -- the records that a served call leaves
 module _ (d : Device) (k : Lent) where
-  open-left : (l : Layout) → openStatus l (d .image) k ≡ 0 → openOutcome l (d .image) k .clients ≡ cleared (k .clients)
+  open-left : (l : Layout) (dom : ℕ) → openStatus l dom (d .image) k ≡ 0 → openOutcome l dom (d .image) k .clients ≡ cleared (k .clients)
   unfolding openOutcome outcomeOf
-  open-left l h = rw (eq-eqb _ _ h)
+  open-left l dom h = rw (eq-eqb _ _ h)
 
   checkpoint-left : checkpointStatus (d .session) (d .image) k ≡ 0 → checkpointOutcome (d .session) (d .image) k .clients ≡ cleared (k .clients)
   unfolding checkpointOutcome outcomeOf
@@ -111,7 +111,7 @@ quotas-kept d c = go (c .args)
   where
     go : (a : CallArgs) → judgesClients a ≡ true → answers (d .session) (d .image) a (c .lends) .status ≡ 0
         → WithinQuotas (answers (d .session) (d .image) a (c .lends) .clients)
-    go (openArgs l) j h = subst WithinQuotas (sym (open-left d (c .lends) l h)) (within-cleared (c .lends .clients))
+    go (openArgs l dom) j h = subst WithinQuotas (sym (open-left d (c .lends) l dom h)) (within-cleared (c .lends .clients))
     go (writeArgs w) j h = within-write d (c .lends) w h
     go (discardArgs i) j h = absurd (false≢true j)
     go checkpointArgs j h = subst WithinQuotas (sym (checkpoint-left d (c .lends) h)) (within-cleared (c .lends .clients))
@@ -129,7 +129,7 @@ unjudged-clients : (d : Device) (c : Call) → judgesClients (c .args) ≡ false
 unjudged-clients d c = go (c .args)
   where
     go : (a : CallArgs) → judgesClients a ≡ false → answers (d .session) (d .image) a (c .lends) .clients ≡ c .lends .clients
-    go (openArgs l) j = absurd (true≢false j)
+    go (openArgs l dom) j = absurd (true≢false j)
     go (writeArgs w) j = absurd (true≢false j)
     go (discardArgs i) j = discard-left d (c .lends) i
     go checkpointArgs j = absurd (true≢false j)
@@ -140,7 +140,7 @@ unfolding openOutcome writeOutcome checkpointOutcome outcomeOf
 refused-clients d c = go (c .args)
   where
     go : (a : CallArgs) → answers (d .session) (d .image) a (c .lends) .status ≢ 0 → answers (d .session) (d .image) a (c .lends) .clients ≡ c .lends .clients
-    go (openArgs l) h = rw (ne-eqb _ _ h)
+    go (openArgs l dom) h = rw (ne-eqb _ _ h)
     go (writeArgs w) h = rw (ne-eqb _ _ h)
     go (discardArgs i) h = discard-left d (c .lends) i
     go checkpointArgs h = rw (ne-eqb _ _ h)
@@ -181,7 +181,7 @@ same-clients d c = go (c .args)
     by-status false s = same
 
     go : (a : CallArgs) → SameClients R₁ (answers (d .session) (d .image) a (c .lends) .clients)
-    go (openArgs l) = by-status (served (openStatus l (d .image) (c .lends))) (same-cleared R₁)
+    go (openArgs l dom) = by-status (served (openStatus l dom (d .image) (c .lends))) (same-cleared R₁)
     go (writeArgs w) =
         by-status (served (writeStatus (d .session) (d .image) w (c .lends))) (by-status (needsCopy (d .session) (d .image) (w .main)) (same-charged R₁ (w .client)))
     go (discardArgs i) = subst (SameClients R₁) (sym (discard-left d (c .lends) i)) same
@@ -336,8 +336,8 @@ module _ (s : State) (st : Stands s) where
           → Covered (step s c₁ .device) (outcome d₀ c₁ .clients)
       go a p none (no n) =
           let c₁ : Call = record { args = a; lends = c .lends } in covered-same c₁ cov (refused-clients d₀ c₁ n) (refused-same c₁ p n)
-      go (openArgs l) p none (yes z) =
-          let refused : served (outcome d₀ (callOpen l (c .lends)) .status) ≡ false = none in
+      go (openArgs l dom) p none (yes z) =
+          let refused : served (outcome d₀ (callOpen l dom (c .lends)) .status) ≡ false = none in
           absurd (true≢false (sym (eq-eqb _ _ z) ∙ refused))
       go (writeArgs w) p none (yes z) = covered-write w (c .lends) p cov z
       go (discardArgs i) p none (yes z) = covered-same (callDiscard i (c .lends)) cov (discard-left d₀ (c .lends) i) (discard-same i (c .lends))
@@ -354,13 +354,13 @@ covered-run s R (c ∷ cs) st cov permitted one none =
 
 pub shares-kept : SharesKept
 shares-kept = record {
-  shares = λ l I t b h bs before k z cs permitted one none.
-      let st = history-stands l I t b h bs before in
+  shares = λ l dom I t b h bs before k z cs permitted one none.
+      let st = history-stands l dom I t b h bs before in
       covered-run _ _ cs (stands-after _ st k z) (covered-checkpoint _ st k z) permitted one none;
   agreed = same-clients;
   quotas = quotas-kept;
   unjudged = unjudged-clients;
-  quotasEver = λ l I k h cs one. within-run (start l I k) (cleared (k .clients)) cs (within-cleared (k .clients)) one;
+  quotasEver = λ l dom I k h cs one. within-run (start l dom I k) (cleared (k .clients)) cs (within-cleared (k .clients)) one;
 }
 
 -- ---- one client alone
@@ -427,7 +427,7 @@ module _ (s : State) (st : Stands s) where
       go a p f (no z) =
           let c₁ : Call = record { args = a; lends = c .lends } in
           alone-left c₁ n (refused-clients d₁ c₁ z ∙ is) (omega (arith, few, refused-same s st c₁ p z))
-      go (openArgs l) p f (yes z) = alone-left (callOpen l (c .lends)) 0 (open-left d₁ (c .lends) l z ∙ none) (omega arith)
+      go (openArgs l dom) p f (yes z) = alone-left (callOpen l dom (c .lends)) 0 (open-left d₁ (c .lends) l dom z ∙ none) (omega arith)
       go (writeArgs w) p f (yes z) = alone-write w (c .lends) p f (n, is, few) z
       go (discardArgs i) p f (yes z) = alone-left (callDiscard i (c .lends)) n (discard-left d₁ (c .lends) i ∙ is) (omega (arith, few, discard-same s st i (c .lends)))
       go checkpointArgs p f (yes z) = alone-left (callCheckpoint (c .lends)) 0 (checkpoint-left d₁ (c .lends) z ∙ none) (omega arith)
@@ -438,16 +438,16 @@ module _ (s : State) (st : Stands s) where
     good : (l : Layout) → l ≡ d₁ .layout → clientsBad l (k .clients) ≡ false
     good l e = rw (e, is) (alone-ok (d₁ .layout) n (omega (arith, few, in-use-most)))
 
-    open-unhindered : (l : Layout) → NoShareRefuses d₁ (callOpen l k)
+    open-unhindered : (l : Layout) (dom : ℕ) → NoShareRefuses d₁ (callOpen l dom k)
     unfolding openOutcome openStatus outcomeOf
-    open-unhindered l = (
-      λ h. false≢true (sym (good l (sized h)) ∙ given-condition 13 (openErrors l (d₁ .image) k) (omega arith) h),
-      λ h. false≢true (given-condition 14 (openErrors l (d₁ .image) k) (omega arith) h),
-      λ h. false≢true (given-condition 15 (openErrors l (d₁ .image) k) (omega arith) h),
+    open-unhindered l dom = (
+      λ h. false≢true (sym (good l (sized h)) ∙ given-condition 13 (openErrors l dom (d₁ .image) k) (omega arith) h),
+      λ h. false≢true (given-condition 14 (openErrors l dom (d₁ .image) k) (omega arith) h),
+      λ h. false≢true (given-condition 15 (openErrors l dom (d₁ .image) k) (omega arith) h),
     )
       where
-        sized : firstError (openErrors l (d₁ .image) k) ≡ 13 → l ≡ d₁ .layout
-        sized h = header-fixed s st l k (header-ok l (d₁ .image) .0 (not-false _ (given-earlier 13 (openErrors l (d₁ .image) k) (omega arith) h 3)))
+        sized : firstError (openErrors l dom (d₁ .image) k) ≡ 13 → l ≡ d₁ .layout
+        sized h = header-fixed s st l dom k (header-ok l (d₁ .image) .0 (not-false _ (given-earlier 13 (openErrors l dom (d₁ .image) k) (omega arith) h 3)))
 
     discard-unhindered : (i : ℕ) → NoShareRefuses d₁ (callDiscard i k)
     unfolding discardOutcome discardStatus outcomeOf
@@ -524,7 +524,7 @@ module _ (s : State) (st : Stands s) where
   unhindered c first (n, is, few) = go (c .args) first
     where
       go : (a : CallArgs) → ByFirst a → NoShareRefuses d₁ (record { args = a; lends = c .lends })
-      go (openArgs l) f = open-unhindered (c .lends) n is few l
+      go (openArgs l dom) f = open-unhindered (c .lends) n is few l dom
       go (writeArgs w) f = write-unhindered (c .lends) n is few w f
       go (discardArgs i) f = discard-unhindered (c .lends) n is few i
       go checkpointArgs f = checkpoint-unhindered (c .lends) n is few
@@ -538,7 +538,7 @@ alone-run s R (c ∷ cs) st is permitted first one =
     (alone-step s st c (permitted .0) (first .0) (subst (Alone (s .device)) (sym (one .0)) is)) (permitted .1) (first .1) (one .1)
 
 pub alone-unhindered : AloneUnhindered
-alone-unhindered l I k n is b h cs permitted first one c p f lends =
-    let started : Alone (start l I k .device) (cleared (k .clients)) = unfold start in (0, ap cleared is ∙ alone-cleared l n, omega arith) in
-    let r = alone-run (start l I k) (cleared (k .clients)) cs (start-stands l I k b h) started permitted first one in
-    unhindered (run (start l I k) cs) (r .0) c f (subst (Alone (run (start l I k) cs .device)) (sym lends) (r .1))
+alone-unhindered l dom I k n is b h cs permitted first one c p f lends =
+    let started : Alone (start l dom I k .device) (cleared (k .clients)) = unfold start in (0, ap cleared is ∙ alone-cleared l n, omega arith) in
+    let r = alone-run (start l dom I k) (cleared (k .clients)) cs (start-stands l dom I k b h) started permitted first one in
+    unhindered (run (start l dom I k) cs) (r .0) c f (subst (Alone (run (start l dom I k) cs .device)) (sym lends) (r .1))

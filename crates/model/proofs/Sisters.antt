@@ -6,24 +6,27 @@ use mathlib.Core.Logic.{_≢_, _⊎_, inl, inr, ⊎-elim}
 use mathlib.Core.Bool.{Bool, true, false, cond}
 use mathlib.Core.List.{List, [], _∷_, _++_}
 use native.Mathlib.Omega.{arith}
-use lib.ListN.{length}
+use lib.ListN.{length, take}
+use lib.Seq.{take-length}
+use Rattle.model.proofs.Laws.Domain.{whole-part}
 use Rattle.model.specs.declared.Layout.{Layout}
 use Rattle.model.specs.declared.Session.{Session}
 use Rattle.model.specs.Words.{Image}
 use Rattle.model.specs.Status.{Errors, firstError, served}
 use Rattle.model.specs.Container.{committedEpoch, activeState, backupToMain, activeLine, freeBackups, checkpointBytes, containerErrors, mainErrors}
-use Rattle.model.specs.Session.{freshSession, zeroSession, withCheckpoint, contextErrors}
-use Rattle.model.specs.Ops.{Ops, Trace, traceErrors, traceShort, replay}
+use Rattle.model.specs.Session.{freshSession, zeroSession, withCheckpoint, contextErrors, domainErrors}
+use Rattle.model.specs.Ops.{Ops, Trace, traceErrors, traceShort, replay, forDomain, firstPart}
 use Rattle.model.specs.Clients.{Clients, clientsErrors, shareErrors, cleared}
 use Rattle.model.specs.Outcome.{Lent, lent, Outcome, outcomeOf}
 use Rattle.model.specs.Replay.{replayOutcome, replayedOps}
-use Rattle.model.specs.Open.{recoveryOps, openStatus, openOutcome}
+use Rattle.model.specs.Range.{cat}
+use Rattle.model.specs.Open.{recoverSegment, recoveryOps, openStatus, openOutcome}
 use Rattle.model.specs.Write.{copyPlan, copies, writeOps, writeSession, writeClients, backupErrors, earlyErrors, writeStatus, writeOutcome}
 use Rattle.model.specs.Discard.{discardOps, discardStatus, discardOutcome}
 use Rattle.model.specs.Checkpoint.{checkpointOps, lentErrors, epochErrors, checkpointStatus, checkpointOutcome}
 use Rattle.model.specs.Reference.{CallArgs, openArgs, writeArgs, discardArgs, checkpointArgs, modelStep}
 use Rattle.model.specs.Crash.{CrashImage}
-use Rattle.model.specs.History.{Call, Device, State, answers, outcome, reported, playedOps, replayedImage, deviceStep, step, run, openedImage, start, AllPermitted}
+use Rattle.model.specs.History.{Call, Device, State, answers, outcome, reported, playedOps, replayedImage, deviceStep, step, run, openedImage, start, AllPermitted, ruleOps}
 use Rattle.model.specs.CrashSafety.{Reads}
 use Rattle.model.specs.EpochCounts.{checkpoints, EpochCounts}
 use Rattle.model.specs.Sisters.{ReadsFollowModel, SameCall, SameCalls, SameBoard, OpeningSettles, OpeningSafety}
@@ -35,7 +38,7 @@ use Rattle.model.proofs.Argument.Recovery.Opening.{open-clear}
 use Rattle.model.proofs.Argument.Pages.{contentsOf, reads}
 use Rattle.model.proofs.Argument.View.{low-epoch}
 use Rattle.model.proofs.Argument.Stands.{Stands}
-use Rattle.model.proofs.Argument.Openings.{open-served, opened-is, openings-keep, recovers, starting, starting-whole, start-stands}
+use Rattle.model.proofs.Argument.Openings.{open-served, opened-is, openings-keep, recovers, starting, starting-whole, start-stands, domain-known, open-played}
 use Rattle.model.proofs.CrashSafety.{argument, history-stands}
 
 -- where a history stands, the two reads give the two pages
@@ -45,7 +48,7 @@ stands-read s st =
     (reads (s .device .layout) _ (s .model .checkpoint) (s .model .working) (st .wholeCheckpoint) (st .wholeWorking) (st .inv .recovers) (st .inv .working))
 
 pub reads-follow-model : ReadsFollowModel
-reads-follow-model l I t b h cs permitted = stands-read (run (start l I t) cs) (history-stands l I t b h cs permitted)
+reads-follow-model l d I t b h cs permitted = stands-read (run (start l d I t) cs) (history-stands l d I t b h cs permitted)
 
 -- ---- same board, same tape
 
@@ -70,25 +73,25 @@ swapped f e x g = ap f e ∙ g (subst (λ (R : Clients). f R ≢ 11) e x)
 module _ (s : Session) (I : Image) (t u : Lent) where
   long-same : (a : CallArgs) → t .clients ≡ u .clients → length (t .trace) ≡ length (u .trace) → answers s I a t ≡ answers s I a u
   unfolding openOutcome openStatus writeOutcome writeStatus discardOutcome discardStatus checkpointOutcome checkpointStatus traceShort
-  long-same (openArgs l) c e = rw (c, e)
+  long-same (openArgs l d) c e = rw (c, e)
   long-same (writeArgs w) c e = rw (c, e)
   long-same (discardArgs i) c e = rw (c, e)
   long-same checkpointArgs c e = rw (c, e)
 
   enough-same : (a : CallArgs) → t .clients ≡ u .clients → answers s I a t .status ≢ 11 → answers s I a u .status ≢ 11 → answers s I a t ≡ answers s I a u
   unfolding openOutcome openStatus writeOutcome writeStatus discardOutcome discardStatus checkpointOutcome checkpointStatus outcomeOf
-  enough-same (openArgs l) c x y =
-      ap₂ (λ (R : Clients) (e : ℕ). outcomeOf e zeroSession (freshSession l) R (cleared R) (recoveryOps l I (activeLine I))) c
-      (swapped (λ R. firstError (containerErrors l I ++ clientsErrors l R ++ traceErrors (recoveryOps l I (activeLine I)) (t .trace))) c x
-      (λ x′. short-last (containerErrors l I ++ clientsErrors l (u .clients)) _ _ x′ y))
+  enough-same (openArgs l d) c x y =
+      ap₂ (λ (R : Clients) (e : ℕ). outcomeOf e zeroSession (freshSession l d) R (cleared R) d (recoveryOps l I (activeLine I))) c
+      (swapped (λ R. firstError (containerErrors l I ++ domainErrors d ++ clientsErrors l R ++ traceErrors (forDomain d (recoveryOps l I (activeLine I))) (t .trace))) c x
+      (λ x′. short-last (containerErrors l I ++ domainErrors d ++ clientsErrors l (u .clients)) _ _ x′ y))
   enough-same (writeArgs w) c x y =
-      ap₂ (λ (R : Clients) (e : ℕ). outcomeOf e s (writeSession s I w) R (writeClients s I w R) (writeOps s I w)) c
+      ap₂ (λ (R : Clients) (e : ℕ). outcomeOf e s (writeSession s I w) R (writeClients s I w R) (s .domain) (writeOps s I w)) c
       (swapped (λ R. writeStatus s I w (lent R (t .trace))) c x
       (λ x′. short-last (earlyErrors s I (u .clients) w ++ backupErrors (copyPlan s I (w .main)) ++ shareErrors (copies (copyPlan s I (w .main))) (u .clients) (w .client) (freeBackups (s .layout) (activeState I) (backupToMain I))) _ _ x′ y))
   enough-same (discardArgs i) c x y =
-      ap₂ (λ (R : Clients) (e : ℕ). outcomeOf e s s R R (discardOps s I i)) c (short-last (contextErrors s I ++ mainErrors (s .layout) i) _ _ x y)
+      ap₂ (λ (R : Clients) (e : ℕ). outcomeOf e s s R R (s .domain) (discardOps s I i)) c (short-last (contextErrors s I ++ mainErrors (s .layout) i) _ _ x y)
   enough-same checkpointArgs c x y =
-      ap₂ (λ (R : Clients) (e : ℕ). outcomeOf e s (withCheckpoint s) R (cleared R) (checkpointOps s I)) c
+      ap₂ (λ (R : Clients) (e : ℕ). outcomeOf e s (withCheckpoint s) R (cleared R) (s .domain) (checkpointOps s I)) c
       (swapped (λ R. checkpointStatus s I (lent R (t .trace))) c x
       (λ x′. short-last (lentErrors s I (u .clients) ++ epochErrors I) _ _ x′ y))
 
@@ -122,7 +125,14 @@ step-same s b c same =
     let image = ap (λ (x : Outcome). replayedImage (d .image) (x .ops) (b .lends .trace) (length (x .ops))) o
     ∙ image-same (d .image) (outcome d c .ops) (b .lends .trace) (c .lends .trace) (length (outcome d c .ops)) in
     λ i. record {
-      device = record { layout = d .layout; durable = d .durable; played = d .played ++ played i; image = image i; session = o i .session };
+      device = record {
+        layout = d .layout;
+        durable = d .durable;
+        played = d .played ++ played i;
+        adrPlayed = d .adrPlayed ++ cond (served (o i .status)) (ruleOps (d .session) (d .image) (same .0 i)) [];
+        image = image i;
+        session = o i .session;
+      };
       model = modelStep (d .layout) (same .0 i) (served (o i .status)) (s .model);
     }
 
@@ -133,38 +143,46 @@ run-same s [] (c ∷ cs) same = absurd same
 run-same s (b ∷ bs) [] same = absurd same
 run-same s (b ∷ bs) (c ∷ cs) same = run-same (step s b) bs cs (same .1) ∙ ap (λ (x : State). run x cs) (step-same s b c (same .0))
 
-opened-same : (l : Layout) (I : Image) (t u : Lent) → t .clients ≡ u .clients → (length (t .trace) ≡ length (u .trace)) ⊎ ((openStatus l I t ≢ 11) × (openStatus l I u ≢ 11)) → openOutcome l I t ≡ openOutcome l I u
+opened-same : (l : Layout) (d : ℕ) (I : Image) (t u : Lent) → t .clients ≡ u .clients → (length (t .trace) ≡ length (u .trace)) ⊎ ((openStatus l d I t ≢ 11) × (openStatus l d I u ≢ 11)) → openOutcome l d I t ≡ openOutcome l d I u
 unfolding openOutcome outcomeOf
-opened-same l I t u r h = answers-same zeroSession I t u (openArgs l) r h
+opened-same l d I t u r h = answers-same zeroSession I t u (openArgs l d) r h
 
-start-same : (l : Layout) (I : Image) (t u : Lent) → openOutcome l I t ≡ openOutcome l I u → start l I t ≡ start l I u
+start-same : (l : Layout) (d : ℕ) (I : Image) (t u : Lent) → openOutcome l d I t ≡ openOutcome l d I u → start l d I t ≡ start l d I u
 unfolding start openedImage
-start-same l I t u e = rw (e, image-same I (openOutcome l I u .ops) (t .trace) (u .trace) (length (openOutcome l I u .ops))) refl
+start-same l d I t u e = rw (e, image-same I (openOutcome l d I u .ops) (t .trace) (u .trace) (length (openOutcome l d I u .ops))) refl
 
 pub same-board : SameBoard
 same-board = record {
   calls = λ d b c same.
       let o = outcomes-same d b c same in
       (o, ap (λ (x : Outcome). reported (x .ops) (b .lends .trace)) o ∙ reported-same (outcome d c .ops) (b .lends .trace) (c .lends .trace));
-  histories = λ l I t u r h bs cs same. run-same (start l I t) bs cs same ∙ ap (λ (s : State). run s cs) (start-same l I t u (opened-same l I t u r h));
+  histories = λ l d I t u r h bs cs same. run-same (start l d I t) bs cs same ∙ ap (λ (s : State). run s cs) (start-same l d I t u (opened-same l d I t u r h));
 }
 
 -- ---- openings
 
 pub opening-settles : OpeningSettles
-opening-settles l I t b h =
+unfolding recoveryOps
+opening-settles M within l I t b h =
+    let d : ℕ = M .domain in
     let O = recoveryOps l I (activeLine I) in
-    let e : openOutcome l I t .ops ≡ O = open-served l I t h .ops in
-    let d : openedImage l I t ≡ replay O I = opened-is l I t h in (
-      subst₂ (λ (X : Ops) (H : Image). CrashImage I X H) (sym e) (sym d) (newest I O),
-      λ H c. settled-only I H O (λ ℓ. recovery-keeps l (activeLine I) I ℓ [] (settled-off ℓ [] (λ i e. tt))) (subst (λ (X : Ops). CrashImage I X H) e c) ∙ sym d,
+    let n : ℕ = length (openOutcome l d I t .ops) in
+    let e : openedImage l d I t ≡ replay O I = opened-is l d I t h in
+    let all : openOutcome l d I t .ops ≡ playedOps I (openOutcome l d I t .ops) (t .trace) n =
+    sym (take-length _) ∙ ap (take n) (open-served l d I t h .ops) ∙ sym (open-played l d I t h n) in
+    let part : firstPart d n O ≡ O = whole-part d (cat (l .mains) (recoverSegment l I (activeLine I))) n (ap length (open-served l d I t h .ops)) in (
+      subst (CrashImage I O) (sym e) (newest I O),
+      λ H c. settled-only I H O (λ ℓ. recovery-keeps l (activeLine I) I ℓ [] (settled-off ℓ [] (λ i e. tt)))
+          (subst (λ (X : Ops). CrashImage I X H) part (within .opening l I t b h n H (subst (λ (X : Ops). M .leaves I X H) all c))) ∙ sym e,
     )
 
 pub opening-safety : OpeningSafety
-opening-safety l I t b h H openings t′ ne =
+opening-safety M within l I t b h H openings t′ ne =
+    let d : ℕ = M .domain in
     let P = checkpointBytes l I (activeLine I) in
-    let r = openings-keep (contentsOf l P) (starting l I t b h) openings in
-    (recovers l H t′ P (starting-whole l I t b h) r ne, r .fit .bytes)
+    let known = domain-known l d I t h in
+    let r = openings-keep M within known (contentsOf l P) (starting l d I t b h) openings in
+    (recovers l d H t′ P known (starting-whole l d I t b h) r ne, r .fit .bytes)
 
 -- every call raises the epoch by the checkpoints that it is
 run-epoch : (s : State) (cs : List Call) → Stands s → AllPermitted cs → committedEpoch (run s cs .device .image) ≡ committedEpoch (s .device .image) + checkpoints s cs
@@ -176,8 +194,8 @@ run-epoch s (c ∷ cs) st permitted =
 
 pub epoch-counts : EpochCounts
 unfolding start replay
-epoch-counts l I t b h cs permitted =
+epoch-counts l d I t b h cs permitted =
     let O = recoveryOps l I (activeLine I) in
-    run-epoch (start l I t) cs (start-stands l I t b h) permitted
-    ∙ ap (λ (n : ℕ). n + checkpoints (start l I t) cs)
-    (ap (λ (J : Image). committedEpoch J) (opened-is l I t h) ∙ low-epoch I [] O (λ k q. open-clear l I _ (starting l I t b h) k (meta (omega arith))))
+    run-epoch (start l d I t) cs (start-stands l d I t b h) permitted
+    ∙ ap (λ (n : ℕ). n + checkpoints (start l d I t) cs)
+    (ap (λ (J : Image). committedEpoch J) (opened-is l d I t h) ∙ low-epoch I [] O (λ k q. open-clear l I _ (starting l d I t b h) k (meta (omega arith))))

@@ -41,18 +41,18 @@ use Rattle.model.proofs.Argument.Openings.{opened-is, starting}
 use Rattle.model.proofs.CrashSafety.{argument, history-stands}
 
 -- the opening that a history starts with keeps the states
-pub opened-states : (l : Layout) (I : Image) (t : Lent) → Bytes I → openStatus l I t ≡ 0
-    → (i : ℕ) → i < l .mains → activeState (openedImage l I t) i ≡ activeState I i
+pub opened-states : (l : Layout) (dom : ℕ) (I : Image) (t : Lent) → Bytes I → openStatus l dom I t ≡ 0
+    → (i : ℕ) → i < l .mains → activeState (openedImage l dom I t) i ≡ activeState I i
 unfolding replay
-opened-states l I t b h i m =
-    let r = starting l I t b h in
-    ap (λ (J : Image). activeState J i) (opened-is l I t h)
+opened-states l dom I t b h i m =
+    let r = starting l dom I t b h in
+    ap (λ (J : Image). activeState J i) (opened-is l dom I t h)
     ∙ low-states I [] (recoveryOps l I (activeLine I)) (λ k q. open-clear l I _ r k (meta (omega arith))) i (omega (arith, r .fit .sizes .0))
 
 pub states-follow : StatesFollow
 states-follow = record {
   opening = opened-states;
-  calls = λ l I t b h cs permitted c p i m. argument _ (history-stands l I t b h cs permitted) c p .states i m;
+  calls = λ l dom I t b h cs permitted c p i m. argument _ (history-stands l dom I t b h cs permitted) c p .states i m;
 }
 
 -- ---- the pairs
@@ -60,11 +60,11 @@ states-follow = record {
 pub pairs-follow : PairsFollow
 unfolding replay
 pairs-follow = record {
-  opening = λ l I t b h j m.
-      let r = starting l I t b h in
-      ap (λ (J : Image). backupToMain J j) (opened-is l I t h)
+  opening = λ l dom I t b h j m.
+      let r = starting l dom I t b h in
+      ap (λ (J : Image). backupToMain J j) (opened-is l dom I t h)
       ∙ low-pairs I [] (recoveryOps l I (activeLine I)) (λ k p q. open-clear l I _ r k (meta (omega arith))) j m;
-  calls = λ l I t b h cs permitted c p j m. argument _ (history-stands l I t b h cs permitted) c p .pairs j m;
+  calls = λ l dom I t b h cs permitted c p j m. argument _ (history-stands l dom I t b h cs permitted) c p .pairs j m;
 }
 
 module _ (s : State) (st : Stands s) (w : WriteArgs) (t : Lent) (small : Bytes (w .bytes)) (h : outcome (s .device) (callWrite w t) .status ≡ 0)
@@ -106,13 +106,13 @@ module _ (s : State) (st : Stands s) (w : WriteArgs) (t : Lent) (small : Bytes (
       go (no q) = q (sym (valid .once j k (new .1) b main (sym (rw (ne-eqb k j q) at after))))
 
 pub taken-unpaired : TakenUnpaired
-taken-unpaired l I t b h cs permitted w u small ok needs = taken-unpaired-here _ (history-stands l I t b h cs permitted) w u small ok needs
+taken-unpaired l dom I t b h cs permitted w u small ok needs = taken-unpaired-here _ (history-stands l dom I t b h cs permitted) w u small ok needs
 
 -- ---- empty stays empty
 
 -- a served call that does not write main segment i leaves it in state 0
 empty-served : (s : Session) (I : Image) (a : CallArgs) (i : ℕ) → activeState I i ≡ 0 → dirtySegment s i ≡ false → isWriteTo i a ≡ false → servedState s I a i ≡ 0
-empty-served s I (openArgs l) i e d n = e
+empty-served s I (openArgs l dom) i e d n = e
 empty-served s I (writeArgs w) i e d n = rw (ne-eqb i (w .main) (λ q. eqb-false _ _ n (sym q)), and-false (needsCopy s I (w .main))) e
 empty-served s I (discardArgs u) i e d n = e
 empty-served s I checkpointArgs i e d n = ap₂ nextState e d ∙ next-clean
@@ -121,11 +121,11 @@ empty-served s I checkpointArgs i e d n = ap₂ nextState e d ∙ next-clean
 not-dirtied : (s : Session) (I : Image) (a : CallArgs) (t : Lent) (i : ℕ) → dirtySegment s i ≡ false
     → (isWriteTo i a && served (answers s I a t .status)) ≡ false → dirtySegment (answers s I a t .session) i ≡ false
 unfolding openOutcome writeOutcome discardOutcome checkpointOutcome outcomeOf
-not-dirtied s I (openArgs l) t i d n = go (served (openStatus l I t))
+not-dirtied s I (openArgs l dom) t i d n = go (served (openStatus l dom I t))
   where
-    go : (b : Bool) → dirtySegment (cond b (freshSession l) zeroSession) i ≡ false
-    go true = fresh-segment l i
-    go false = unfold zeroSession in (fresh-segment (layoutOf 0 0 0) i)
+    go : (b : Bool) → dirtySegment (cond b (freshSession l dom) zeroSession) i ≡ false
+    go true = fresh-segment l dom i
+    go false = unfold zeroSession in (fresh-segment (layoutOf 0 0 0) 0 i)
 not-dirtied s I (writeArgs w) t i d n = go (served (writeStatus s I w t)) n
   where
     go : (b : Bool) → (eqb (w .main) i && b) ≡ false → dirtySegment (cond b (writeSession s I w) s) i ≡ false
@@ -172,7 +172,7 @@ read-empty l I i b e = go (served (readStatus l I i b))
     go false = refl
 
 pub empty-stays : EmptyStays
-empty-stays l I t b h cs permitted i m e ds rest none =
-    let s = run (start l I t) cs in
-    let r = run-empty s ds i (history-stands l I t b h cs permitted) rest m e none in
+empty-stays l dom I t b h cs permitted i m e ds rest none =
+    let s = run (start l dom I t) cs in
+    let r = run-empty s ds i (history-stands l dom I t b h cs permitted) rest m e none in
     (r, λ k. read-empty (s .device .layout) (run s ds .device .image) i k (r .state))

@@ -12,7 +12,7 @@ use Rattle.model.specs.Layout.{wordSize, blockSize, blockLines, lineWord
 use Rattle.model.specs.Status.{Errors, firstError}
 use Rattle.model.specs.Container.{activeState, committedEpoch, inactiveLine, byState}
 use Rattle.model.specs.Session.{isDirty, withCheckpoint, contextErrors}
-use Rattle.model.specs.Ops.{store, clwb, sfence, Ops, traceErrors, stores, clwbs, eachDirty}
+use Rattle.model.specs.Ops.{store, clwb, sfence, Ops, traceErrors, forDomain, stores, clwbs, eachDirty}
 use Rattle.model.specs.Clients.{Clients, clientsErrors, cleared}
 use Rattle.model.specs.Outcome.{Lent, Outcome, outcomeOf}
 
@@ -52,7 +52,7 @@ abbrev pub lentErrors : Session → Image → Clients → Errors
 lentErrors s I R = contextErrors s I ++ clientsErrors (s .layout) R
 
 abbrev pub checkpointErrors : Session → Image → Lent → Errors
-checkpointErrors s I k = lentErrors s I (k .clients) ++ epochErrors I ++ traceErrors (checkpointOps s I) (k .trace)
+checkpointErrors s I k = lentErrors s I (k .clients) ++ epochErrors I ++ traceErrors (forDomain (s .domain) (checkpointOps s I)) (k .trace)
 
 unfoldable pub checkpointStatus : Session → Image → Lent → ℕ
 checkpointStatus s I k = firstError (checkpointErrors s I k)
@@ -60,4 +60,4 @@ checkpointStatus s I k = firstError (checkpointErrors s I k)
 -- served, it sets what the clients have taken to 0
 unfoldable pub checkpointOutcome : Session → Image → Lent → Outcome
 checkpointOutcome s I k =
-    outcomeOf (checkpointStatus s I k) s (withCheckpoint s) (k .clients) (cleared (k .clients)) (checkpointOps s I)
+    outcomeOf (checkpointStatus s I k) s (withCheckpoint s) (k .clients) (cleared (k .clients)) (s .domain) (checkpointOps s I)

@@ -1,4 +1,5 @@
--- What a crash may leave (SPECIFICATION 7; the trade: a cut, what then stands). The whole crash model is this file.
+-- What a crash may leave (SPECIFICATION 7; the trade: a cut, what then stands). The whole crash model is this file: `CrashImage` for a
+-- module of kind 0 (ADR), `Held` for one of kind 1 (eADR).
 --
 -- I was durable (the trade: held), and O is every operation played since, across calls. Each line, on its own, holds its
 -- bytes after some first part of O, and not less than every store before a clwb of that line that a later sfence of O
@@ -34,3 +35,7 @@ pub record Stage (ℓ : ℕ) (I : Image) (O : Ops) (H : Image) : Type 0 where
 pub record CrashImage (I : Image) (O : Ops) (H : Image) : Type 0 where
   pub long : length H ≡ length I
   pub lines : (ℓ : ℕ) → Stage ℓ I O H
+
+-- a module of kind 1: every store played is durable, so a crash leaves one image, the one that was played (SPECIFICATION 7.6)
+abbrev pub Held : Image → Ops → Image → Type 0
+Held I O H = H ≡ replay O I

@@ -1,5 +1,5 @@
--- DEMAND 3, as one statement over a whole history (`CrashSafety`), and what it is made of. Proved in proofs/CrashSafety.antt.
--- Assumes what specs/Crash.antt does of the hardware.
+-- DEMAND 3, as one statement over a whole history, for any module (`CrashSafety`), its two instances, kind 0 and kind 1, and what it is
+-- made of. Proved in proofs/CrashSafety.antt. Assumes what specs/Crash.antt does of the hardware.
 use Prim.Native.Nat.{ℕ, _<_}
 use mathlib.Core.Path.{_≡_}
 use mathlib.Core.Logic.{_≢_, _⊎_}
@@ -9,13 +9,14 @@ use Rattle.model.specs.declared.Layout.{Layout}
 use Rattle.model.specs.Words.{Image, Bytes}
 use Rattle.model.specs.Layout.{blockSize, epochAt, ssInitial}
 use Rattle.model.specs.Container.{activeState, activeLine, checkpointBytes}
-use Rattle.model.specs.Ops.{Ops, store}
+use Rattle.model.specs.Session.{adr, eadr}
+use Rattle.model.specs.Ops.{Ops, store, firstPart}
 use Rattle.model.specs.Outcome.{Lent}
-use Rattle.model.specs.Open.{openStatus, openOutcome}
+use Rattle.model.specs.Open.{recoveryOps, openStatus, openOutcome}
 use Rattle.model.specs.Reads.{readStatus, workingBlock, checkpointBlock}
-use Rattle.model.specs.Crash.{CrashImage}
+use Rattle.model.specs.Crash.{CrashImage, Held}
 use Rattle.model.specs.Reference.{Page, pageBlock, checkpointArgs}
-use Rattle.model.specs.History.{Call, Device, State, outcome, playedOps, calledOps, run, openedImage, start, Permitted, AllPermitted}
+use Rattle.model.specs.History.{Call, Device, State, outcome, playedOps, calledOps, adrCalledOps, run, openedImage, start, Permitted, AllPermitted, OwnDomain, AllOwnDomain}
 
 -- ---- what the reads show
 
@@ -33,9 +34,9 @@ Reads l I W P = (i b : ℕ) → i < l .mains → b < l .blocks → ReadsBlock l 
 
 -- opening is served and, replayed whole, leaves an image of which both reads give the page Q; Q is also the page that a
 -- history which starts at this opening begins with (SPECIFICATION 8.8: an opening shows a page)
-pub record Recovers (l : Layout) (H : Image) (k : Lent) (Q : Page) : Type 0 where
-  pub accepted : openStatus l H k ≡ 0
-  pub shows : Reads l (openedImage l H k) Q Q
+pub record Recovers (l : Layout) (d : ℕ) (H : Image) (k : Lent) (Q : Page) : Type 0 where
+  pub accepted : openStatus l d H k ≡ 0
+  pub shows : Reads l (openedImage l d H k) Q Q
   pub begins : checkpointBytes l H (activeLine H) ≡ Q
 
 -- ---- the moment of the crash
@@ -46,15 +47,21 @@ pub data Moment : Type 0 where
   between : Moment
   during : Call → ℕ → Moment
 
--- the call is one that a history may have
-abbrev pub PermittedAt : Device → Moment → Type 0
-PermittedAt d between = Unit {0}
-PermittedAt d (during c p) = Permitted c × (p < length (outcome d c .ops))
+-- the call is one that a history on a module of this kind may have
+abbrev pub PermittedAt : ℕ → Device → Moment → Type 0
+PermittedAt own d between = Unit {0}
+PermittedAt own d (during c p) = Permitted c × OwnDomain own d c × (p < length (outcome d c .ops))
 
 -- the operations played since all was durable
 abbrev pub playedAt : Device → Moment → Ops
 playedAt d between = d .played
 playedAt d (during c p) = d .played ++ calledOps d c p
+
+-- the same with the flushes put in, as the traces of kind 0 have them for the same calls: of the call that is cut, the shortest first
+-- part that holds what was played of it
+abbrev pub adrPlayedAt : Device → Moment → Ops
+adrPlayedAt d between = d .adrPlayed
+adrPlayedAt d (during c p) = d .adrPlayed ++ adrCalledOps d c p
 
 -- a store to the epoch is among the operations
 abbrev pub EpochStored : Ops → Type 0
@@ -70,49 +77,83 @@ abbrev pub MayShow : State → Moment → Page → Type 0
 MayShow s between Q = Q ≡ s .model .checkpoint
 MayShow s (during c p) Q = (Q ≡ s .model .checkpoint) ⊎ (Window (s .device) c p × (Q ≡ s .model .working))
 
--- P holds of the state of every history: it starts at any image that an opening serves, with any sizes, records of clients and trace, and
--- has any list of calls from there, of all clients, refused ones included, with any arguments, records and traces
+-- P holds of the state of every history: it starts at any image that an opening serves, with any sizes, kind, records of clients and
+-- trace, and has any list of calls from there, of all clients, refused ones included, with any arguments, records and traces
 abbrev pub InEveryHistory : (State → Type 0) → Type 0
 InEveryHistory P =
-    (l : Layout) (I : Image) (k : Lent) → Bytes I → openStatus l I k ≡ 0
-    → (cs : List Call) → AllPermitted cs → P (run (start l I k) cs)
+    (l : Layout) (d : ℕ) (I : Image) (k : Lent) → Bytes I → openStatus l d I k ≡ 0
+    → (cs : List Call) → AllPermitted cs → P (run (start l d I k) cs)
 
--- ---- demand 3, for a relation R between what was durable, the operations played since and what a crash may leave
+-- and of every history in which each served opening is given the kind d
+abbrev pub InEveryHistoryOf : ℕ → (State → Type 0) → Type 0
+InEveryHistoryOf d P =
+    (l : Layout) (I : Image) (k : Lent) → Bytes I → openStatus l d I k ≡ 0
+    → (cs : List Call) → AllPermitted cs → AllOwnDomain d (start l d I k) cs → P (run (start l d I k) cs)
 
-abbrev pub CrashModel : Type 1
-CrashModel = Image → Ops → Image → Type 0
+-- ---- the module, which demand 3 has as a parameter
+
+-- its kind, as its openings are given it, and what a crash may leave of it, by what was durable and the operations played since
+pub record Module : Type 1 where
+  pub domain : ℕ
+  pub leaves : Image → Ops → Image → Type 0
 
 -- an opening is lent a trace that 11 does not refuse, and records that 13 does not refuse
-abbrev pub Enough : Layout → Image → Lent → Type 0
-Enough l H k = (openStatus l H k ≢ 11) × (openStatus l H k ≢ 13)
+abbrev pub Enough : Layout → ℕ → Image → Lent → Type 0
+Enough l d H k = (openStatus l d H k ≢ 11) × (openStatus l d H k ≢ 13)
 
--- H becomes H′ through openings with the sizes l, each of them given what stands, any records and any trace that are not refused, and
--- cut after any number of its operations
-pub data CutOpenings (R : CrashModel) (l : Layout) : Image → Image → Type 0 where
-  none : {H : Image} → CutOpenings R l H H
-  again : {H H′ H″ : Image} (k : Lent) (p : ℕ) → Enough l H k → R H (playedOps H (openOutcome l H k .ops) (k .trace) p) H′
-      → CutOpenings R l H′ H″ → CutOpenings R l H H″
+-- H becomes H′ through openings with the sizes l, each of them given what stands, the module's kind, any records and any trace that are
+-- not refused, and cut after any number of its operations
+pub data CutOpenings (M : Module) (l : Layout) : Image → Image → Type 0 where
+  none : {H : Image} → CutOpenings M l H H
+  again : {H H′ H″ : Image} (k : Lent) (p : ℕ) → Enough l (M .domain) H k
+      → M .leaves H (playedOps H (openOutcome l (M .domain) H k .ops) (k .trace) p) H′
+      → CutOpenings M l H′ H″ → CutOpenings M l H H″
 
-abbrev pub CrashSafetyFor : CrashModel → Type 0
-CrashSafetyFor R = InEveryHistory (λ s.
+-- what a crash may leave of the module is among what one of kind 0 allows for the same stores and fences with the flushes put in, as the
+-- traces of kind 0 have them for the same calls: at any moment of a history, and in an opening of any image, after any number p of the
+-- operations that the module's own trace has
+pub record WithinAdr (M : Module) : Type 0 where
+  pub history : InEveryHistoryOf (M .domain) (λ s.
+      (m : Moment) → PermittedAt (M .domain) (s .device) m
+      → (H : Image) → M .leaves (s .device .durable) (playedAt (s .device) m) H → CrashImage (s .device .durable) (adrPlayedAt (s .device) m) H)
+  pub opening : (l : Layout) (I : Image) (k : Lent) → Bytes I → openStatus l (M .domain) I k ≡ 0 → (p : ℕ)
+      → (H : Image) → M .leaves I (playedOps I (openOutcome l (M .domain) I k .ops) (k .trace) p) H
+      → CrashImage I (firstPart (M .domain) p (recoveryOps l I (activeLine I))) H
+
+-- ---- demand 3
+
+abbrev pub CrashSafetyFor : Module → Type 0
+CrashSafetyFor M = InEveryHistoryOf (M .domain) (λ s.
     -- any moment: at rest, or after any number of operations of one more call
-    (m : Moment) → PermittedAt (s .device) m
+    (m : Moment) → PermittedAt (M .domain) (s .device) m
     -- any image that a crash may leave there
-    → (H : Image) → R (s .device .durable) (playedAt (s .device) m) H
+    → (H : Image) → M .leaves (s .device .durable) (playedAt (s .device) m) H
     -- any number of openings that are cut themselves
-    → (H′ : Image) → CutOpenings R (s .device .layout) H H′
+    → (H′ : Image) → CutOpenings M (s .device .layout) H H′
     -- any trace for the last opening that is long enough, and any records that 13 does not refuse
-    → (k : Lent) → Enough (s .device .layout) H′ k
+    → (k : Lent) → Enough (s .device .layout) (M .domain) H′ k
     -- it is served, and shows one of the permitted pages, whole; what stands are bytes, so that another life can start there
-    → (Q : Page) × MayShow s m Q × Recovers (s .device .layout) H′ k Q × Bytes H′)
+    → (Q : Page) × MayShow s m Q × Recovers (s .device .layout) (M .domain) H′ k Q × Bytes H′)
 
--- DEMAND 3 (SPECIFICATION 15.3). In the customer's words: "Opening with the same sizes and a long enough tape accepts what then
--- stands, also after any number of such openings that were themselves cut in the same way, and the first that finishes shows
--- every byte of the last finished save. Only a cut from a save's epoch store up to its last fence may show that save's bytes
--- instead, and then all of them."
-abbrev pub CrashSafety : Type 0
-CrashSafety = CrashSafetyFor CrashImage
+-- DEMAND 3 (SPECIFICATION 15.3), for any module whose cuts are among those of kind 0. In the customer's words: "Opening with the same
+-- sizes and a long enough tape accepts what then stands, also after any number of such openings that were themselves cut in the same
+-- way, and the first that finishes shows every byte of the last finished save. Only a cut from a save's epoch store up to its last
+-- fence may show that save's bytes instead, and then all of them."
+abbrev pub CrashSafety : Type 1
+CrashSafety = (M : Module) → WithinAdr M → CrashSafetyFor M
 
--- the same for a module whose crash images are among these
-abbrev pub CrashSafetyWithin : Type 1
-CrashSafetyWithin = (R : CrashModel) → ((I : Image) (O : Ops) (H : Image) → R I O H → CrashImage I O H) → CrashSafetyFor R
+-- ---- its instances
+
+-- kind 0 itself, whose crash images are those of specs/Crash.antt, and kind 1, where every store played is held
+abbrev pub adrModule : Module
+adrModule = record { domain = adr; leaves = CrashImage }
+
+abbrev pub eadrModule : Module
+eadrModule = record { domain = eadr; leaves = Held }
+
+-- both are modules of which demand 3 speaks
+pub record BothKinds : Type 0 where
+  pub adrWithin : WithinAdr adrModule
+  pub eadrWithin : WithinAdr eadrModule
+  pub adrSafe : CrashSafetyFor adrModule
+  pub eadrSafe : CrashSafetyFor eadrModule

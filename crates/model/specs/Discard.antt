@@ -12,7 +12,7 @@ use Rattle.model.specs.Layout.{wordSize, blockSize, mainAt}
 use Rattle.model.specs.Status.{Errors, firstError}
 use Rattle.model.specs.Container.{activeLine, checkpointLocated, mainErrors}
 use Rattle.model.specs.Session.{dirtySegment, dirtyWord, contextErrors}
-use Rattle.model.specs.Ops.{Ops, putBlock, eachDirty, traceErrors}
+use Rattle.model.specs.Ops.{Ops, forDomain, putBlock, eachDirty, traceErrors}
 use Rattle.model.specs.Outcome.{Lent, Outcome, outcomeOf}
 
 -- word k of block b of what stands there: as it is in the image, or 0 where nothing stands
@@ -34,7 +34,7 @@ discardOps s I i =
 
 -- 1 to 5, 6 and 11
 abbrev pub discardErrors : Session → Image → ℕ → Lent → Errors
-discardErrors s I i k = contextErrors s I ++ mainErrors (s .layout) i ++ traceErrors (discardOps s I i) (k .trace)
+discardErrors s I i k = contextErrors s I ++ mainErrors (s .layout) i ++ traceErrors (forDomain (s .domain) (discardOps s I i)) (k .trace)
 
 unfoldable pub discardStatus : Session → Image → ℕ → Lent → ℕ
 discardStatus s I i k = firstError (discardErrors s I i k)
@@ -42,4 +42,4 @@ discardStatus s I i k = firstError (discardErrors s I i k)
 -- the session stays, served or not: the segment and its blocks stay dirty, for the next checkpoint must write them back; and so do the
 -- records of clients, which it neither judges nor charges
 unfoldable pub discardOutcome : Session → Image → ℕ → Lent → Outcome
-discardOutcome s I i k = outcomeOf (discardStatus s I i k) s s (k .clients) (k .clients) (discardOps s I i)
+discardOutcome s I i k = outcomeOf (discardStatus s I i k) s s (k .clients) (k .clients) (s .domain) (discardOps s I i)

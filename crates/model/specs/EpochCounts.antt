@@ -15,7 +15,7 @@ use Rattle.model.specs.History.{Call, State, outcome, step, run, start, 
 
 -- whether a call is a checkpoint
 abbrev pub isCheckpoint : CallArgs → Bool
-isCheckpoint (openArgs l) = false
+isCheckpoint (openArgs l d) = false
 isCheckpoint (writeArgs w) = false
 isCheckpoint (discardArgs i) = false
 isCheckpoint checkpointArgs = true
@@ -28,5 +28,5 @@ checkpoints s (c ∷ cs) = oneIf (isCheckpoint (c .args) && served (outcome (s .
 -- the epoch is the start's epoch and one more for each served checkpoint; nothing else changes it
 abbrev pub EpochCounts : Type 0
 EpochCounts =
-    (l : Layout) (I : Image) (k : Lent) → Bytes I → openStatus l I k ≡ 0 → (cs : List Call) → AllPermitted cs
-    → committedEpoch (run (start l I k) cs .device .image) ≡ committedEpoch I + checkpoints (start l I k) cs
+    (l : Layout) (d : ℕ) (I : Image) (k : Lent) → Bytes I → openStatus l d I k ≡ 0 → (cs : List Call) → AllPermitted cs
+    → committedEpoch (run (start l d I k) cs .device .image) ≡ committedEpoch I + checkpoints (start l d I k) cs

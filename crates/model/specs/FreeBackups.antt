@@ -74,7 +74,7 @@ NineOnlyFull = InEveryHistory (λ s.
 
 -- a call is a copying write: it must copy its main segment first
 abbrev pub isCopying : Session → Image → CallArgs → Bool
-isCopying s I (openArgs l) = false
+isCopying s I (openArgs l d) = false
 isCopying s I (writeArgs w) = needsCopy s I (w .main)
 isCopying s I (discardArgs i) = false
 isCopying s I checkpointArgs = false
@@ -90,9 +90,9 @@ copyingWrites s (c ∷ cs) =
 -- checkpoint of any history, n being the copying writes served since
 abbrev pub SinceOpening : (Device → ℕ → Type 0) → Type 0
 SinceOpening P =
-    (l : Layout) (I : Image) (k : Lent) → Bytes I → openStatus l I k ≡ 0
-    → (cs : List Call) → AllPermitted cs → checkpoints (start l I k) cs ≡ 0
-    → P (run (start l I k) cs .device) (mainsInBackup l (activeState I) + copyingWrites (start l I k) cs)
+    (l : Layout) (d : ℕ) (I : Image) (k : Lent) → Bytes I → openStatus l d I k ≡ 0
+    → (cs : List Call) → AllPermitted cs → checkpoints (start l d I k) cs ≡ 0
+    → P (run (start l d I k) cs .device) (mainsInBackup l (activeState I) + copyingWrites (start l d I k) cs)
 
 abbrev pub SinceCheckpoint : (Device → ℕ → Type 0) → Type 0
 SinceCheckpoint P = InEveryHistory (λ s.

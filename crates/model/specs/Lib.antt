@@ -19,6 +19,8 @@ pub mod Discard
 pub mod Checkpoint
 pub mod Reads
 pub mod Same
+-- what is counted: write-backs, main segments that an opening treats, dirty blocks
+pub mod Counts
 -- demand 1: refusals
 pub mod Refusals
 -- demands 2 and 3: the reference model, histories, what a crash may leave, the statements
@@ -27,6 +29,7 @@ pub mod History
 pub mod Crash
 pub mod CrashSafety
 pub mod Sisters
+pub mod Domains
 pub mod FlushDurable
 -- further statements: what no call reads, which backup segment a write takes, what it meets, what a discard restores, the epoch, segment states and pairs, free
 -- backup segments, what a share guarantees, main segments that are not dirty, lengths of a trace, the crash relation taken apart
@@ -41,5 +44,3 @@ pub mod Shares
 pub mod CleanSegments
 pub mod TraceLength
 pub mod CrashExact
--- a helper's: counts, in which nothing that a reader must believe is said
-pub mod Counts

@@ -10,8 +10,8 @@ use Rattle.model.specs.Words.{Image}
 use Rattle.model.specs.Layout.{mainAt, backupAt}
 use Rattle.model.specs.Status.{Errors, firstError}
 use Rattle.model.specs.Container.{activeLine, segState, backupToMain, isPaired, pairedBackup, byState, containerErrors}
-use Rattle.model.specs.Session.{freshSession, zeroSession}
-use Rattle.model.specs.Ops.{sfence, Ops, traceErrors, copySegment, zeroSegment}
+use Rattle.model.specs.Session.{freshSession, zeroSession, domainErrors}
+use Rattle.model.specs.Ops.{sfence, Ops, traceErrors, forDomain, copySegment, zeroSegment}
 use Rattle.model.specs.Clients.{clientsErrors, cleared}
 use Rattle.model.specs.Outcome.{Lent, Outcome, outcomeOf}
 
@@ -36,13 +36,15 @@ recoverSegment l I line i =
 unfoldable pub recoveryOps : Layout → Image → ℕ → Ops
 recoveryOps l I line = cat (l .mains) (recoverSegment l I line) ++ sfence ∷ []
 
-abbrev pub openErrors : Layout → Image → Lent → Errors
-openErrors l I k = containerErrors l I ++ clientsErrors l (k .clients) ++ traceErrors (recoveryOps l I (activeLine I)) (k .trace)
+-- it is given the sizes and the kind d of module: 1 to 4, 5, 13 and 11
+abbrev pub openErrors : Layout → ℕ → Image → Lent → Errors
+openErrors l d I k =
+    containerErrors l I ++ domainErrors d ++ clientsErrors l (k .clients) ++ traceErrors (forDomain d (recoveryOps l I (activeLine I))) (k .trace)
 
-unfoldable pub openStatus : Layout → Image → Lent → ℕ
-openStatus l I k = firstError (openErrors l I k)
+unfoldable pub openStatus : Layout → ℕ → Image → Lent → ℕ
+openStatus l d I k = firstError (openErrors l d I k)
 
 -- served, it sets what the clients have taken to 0
-unfoldable pub openOutcome : Layout → Image → Lent → Outcome
-openOutcome l I k =
-    outcomeOf (openStatus l I k) zeroSession (freshSession l) (k .clients) (cleared (k .clients)) (recoveryOps l I (activeLine I))
+unfoldable pub openOutcome : Layout → ℕ → Image → Lent → Outcome
+openOutcome l d I k =
+    outcomeOf (openStatus l d I k) zeroSession (freshSession l d) (k .clients) (cleared (k .clients)) d (recoveryOps l I (activeLine I))

@@ -1,5 +1,5 @@
 -- Persist operations and the trace that holds them (SPECIFICATION 6; the trade: orders and tape). Assumes nothing.
-use Prim.Native.Nat.{ℕ, _+_, _*_, _/_}
+use Prim.Native.Nat.{ℕ, zero, suc, _+_, _*_, _/_}
 use mathlib.Core.Bool.{Bool, true, cond}
 use mathlib.Core.List.{List, [], _∷_, _++_}
 use lib.Dec.{ltb, eqb}
@@ -9,7 +9,7 @@ use Rattle.model.specs.Status.{Errors}
 use Rattle.model.specs.Range.{cat}
 use Rattle.model.specs.Words.{Image, byteAt, wordOf, wordAt, storeWord, overlay}
 use Rattle.model.specs.Layout.{wordSize, lineSize, blockSize, blockWords, blockLines}
-use Rattle.model.specs.Session.{isDirty}
+use Rattle.model.specs.Session.{adr, isDirty}
 
 -- store a word at a place; write the line of a place back; wait for what was written back (the trade: store, flush, fence); a
 -- place is the number of a byte of the image
@@ -69,6 +69,25 @@ traceShort O t = ltb (length t) (opNumbers * length O)
 
 abbrev pub traceErrors : Ops → Trace → Errors
 traceErrors O t = (11, traceShort O t) ∷ []
+
+-- ---- what the trace has for a kind of module (SPECIFICATION 6.10)
+
+-- whether the trace for a kind has an operation: kind 0's has them all, kind 1's has no write-back
+abbrev pub writes : ℕ → Op → Bool
+writes d (store p w) = true
+writes d (clwb p) = eqb d adr
+writes d sfence = true
+
+-- those of the operations that it has, in their order
+unfoldable pub forDomain : ℕ → Ops → Ops
+forDomain d [] = []
+forDomain d (o ∷ O) = cond (writes d o) (o ∷ forDomain d O) (forDomain d O)
+
+-- the shortest first part of the operations that holds the first p of those
+unfoldable pub firstPart : ℕ → ℕ → Ops → Ops
+firstPart d p [] = []
+firstPart d zero (o ∷ O) = []
+firstPart d (suc p) (o ∷ O) = o ∷ firstPart d (cond (writes d o) p (suc p)) O
 
 -- ---- what an operation does to an image
 

@@ -7,7 +7,7 @@ use lib.ListN.{length}
 use Rattle.model.specs.declared.Session.{Session}
 use Rattle.model.specs.declared.Answer.{Answer}
 use Rattle.model.specs.Status.{codeOf, served}
-use Rattle.model.specs.Ops.{Ops, Trace, written}
+use Rattle.model.specs.Ops.{Ops, Trace, written, forDomain}
 use Rattle.model.specs.Clients.{Clients}
 
 -- what a call is lent besides the image: the records of all clients, and the trace
@@ -27,10 +27,10 @@ pub record Outcome : Type 0 where
   pub ops : Ops
 
 -- the outcome of a call with this status: refused, it answers the session `kept`, leaves the records R and writes nothing; served, it
--- answers the session `next`, leaves the records R′ and writes the operations
-unfoldable pub outcomeOf : ℕ → Session → Session → Clients → Clients → Ops → Outcome
-outcomeOf e kept next R R′ O =
-    record { status = e; session = cond (served e) next kept; clients = cond (served e) R′ R; ops = cond (served e) O [] }
+-- answers the session `next`, leaves the records R′ and writes those of the operations O that the trace has for the kind d of module
+unfoldable pub outcomeOf : ℕ → Session → Session → Clients → Clients → ℕ → Ops → Outcome
+outcomeOf e kept next R R′ d O =
+    record { status = e; session = cond (served e) next kept; clients = cond (served e) R′ R; ops = cond (served e) (forDomain d O) [] }
 
 -- an answer of the code, and the trace and the records that it leaves, give an outcome: the number of its status, its session, its
 -- number of operations, these on the trace t, and its records

@@ -18,9 +18,9 @@ pub record Model : Type 0 where
   pub working : Page
   pub checkpoint : Page
 
--- the arguments of a call; of a discard, its main segment
+-- the arguments of a call: of an opening, the sizes and the kind of module; of a discard, its main segment
 pub data CallArgs : Type 0 where
-  openArgs : Layout → CallArgs
+  openArgs : Layout → ℕ → CallArgs
   writeArgs : WriteArgs → CallArgs
   discardArgs : ℕ → CallArgs
   checkpointArgs : CallArgs
@@ -38,8 +38,8 @@ pageSegment l P i = take (segmentSize l) (drop (pageAt l i 0) P)
 
 -- what a call does to the model: a discard counts as a write of the main segment's bytes of the checkpoint
 unfoldable pub modelStep : Layout → CallArgs → Bool → Model → Model
-modelStep l (openArgs k) true m = record { working = m .checkpoint; checkpoint = m .checkpoint }
-modelStep l (openArgs k) false m = m
+modelStep l (openArgs k d) true m = record { working = m .checkpoint; checkpoint = m .checkpoint }
+modelStep l (openArgs k d) false m = m
 modelStep l (writeArgs w) true m =
     record { working = sets (m .working) (pageAt l (w .main) (w .block) + w .offset) (w .bytes); checkpoint = m .checkpoint }
 modelStep l (writeArgs w) false m = m

@@ -55,7 +55,7 @@ numbers (e ∷ es) = e .0 ∷ numbers es
 -- the numbers of each call's list; a comparison judges the first image wholly before the second
 pub record Knows : Type 0 where
   pub format : (l : Layout) (I : Image) → numbers (sizeErrors l I) ≡ 1 ∷ 2 ∷ []
-  pub opening : (l : Layout) (I : Image) (k : Lent) → numbers (openErrors l I k) ≡ 1 ∷ 2 ∷ 3 ∷ 4 ∷ 13 ∷ 11 ∷ []
+  pub opening : (l : Layout) (d : ℕ) (I : Image) (k : Lent) → numbers (openErrors l d I k) ≡ 1 ∷ 2 ∷ 3 ∷ 4 ∷ 5 ∷ 13 ∷ 11 ∷ []
   pub write : (s : Session) (I : Image) (w : WriteArgs) (k : Lent)
       → numbers (writeErrors s I w k) ≡ 1 ∷ 2 ∷ 3 ∷ 4 ∷ 5 ∷ 13 ∷ 6 ∷ 7 ∷ 8 ∷ 9 ∷ 14 ∷ 15 ∷ 11 ∷ []
   pub discard : (s : Session) (I : Image) (i : ℕ) (k : Lent) → numbers (discardErrors s I i k) ≡ 1 ∷ 2 ∷ 3 ∷ 4 ∷ 5 ∷ 6 ∷ 11 ∷ []

@@ -1,6 +1,6 @@
 -- The volatile session (SPECIFICATION 5; the trade: the card): which main segments and blocks are dirty, and when it is valid.
 -- Assumes nothing.
-use Prim.Native.Nat.{ℕ, zero, suc, _+_, _^_, _/_, _%_, _<_}
+use Prim.Native.Nat.{ℕ, zero, suc, _+_, _^_, _/_, _%_, _≤_, _<_}
 use mathlib.Core.Path.{_≡_}
 use mathlib.Core.Logic.{_≢_}
 use mathlib.Core.Bool.{Bool, true, not, cond, _&&_}
@@ -15,6 +15,21 @@ use Rattle.model.specs.Words.{Image}
 use Rattle.model.specs.Status.{Errors}
 use Rattle.model.specs.Container.{activeState, containerErrors}
 use Rattle.model.specs.Layout.{most, ssMain, layoutOf}
+
+-- ---- the kind of module (SPECIFICATION 5.8; the ported paper: its persistence domain)
+
+-- kind 0, ADR: the cache may lose what was not written back; kind 1, eADR: the cache keeps every store
+abbrev pub adr : ℕ
+adr = 0
+
+abbrev pub eadr : ℕ
+eadr = 1
+
+-- there is no such kind
+abbrev pub noDomain : ℕ → Bool
+noDomain d = ltb eadr d
+
+-- ---- what is dirty
 
 -- bit f of a number, 0 or 1
 unfoldable pub bit : ℕ → ℕ → ℕ
@@ -44,29 +59,35 @@ dirtySegment s i = isDirty (s .«dirty_segments») i
 unfoldable pub dirtyBlock : Session → ℕ → ℕ → Bool
 dirtyBlock s i b = isDirty (dirtyWord s i) b
 
--- a session of a layout with no bit set
-unfoldable pub freshSession : Layout → Session
-freshSession l = record { layout = l; «dirty_segments» = 0; «dirty_blocks» = replicate most 0 }
+-- a session of a layout on a kind of module, with no bit set
+unfoldable pub freshSession : Layout → ℕ → Session
+freshSession l d = record { layout = l; «dirty_segments» = 0; «dirty_blocks» = replicate most 0; domain = d }
 
 -- the session of zeros, which a refused opening answers
 unfoldable pub zeroSession : Session
-zeroSession = freshSession (layoutOf 0 0 0)
+zeroSession = freshSession (layoutOf 0 0 0) adr
 
 -- the session after a write to the n blocks from block b on of main segment i whose word of dirty blocks was m
 unfoldable pub withDirty : Session → ℕ → ℕ → ℕ → ℕ → Session
 withDirty s i b n m =
-    record { layout = s .layout; «dirty_segments» = setBit (s .«dirty_segments») i; «dirty_blocks» = set (s .«dirty_blocks») i (setBits m b n) }
+    record {
+      layout = s .layout;
+      «dirty_segments» = setBit (s .«dirty_segments») i;
+      «dirty_blocks» = set (s .«dirty_blocks») i (setBits m b n);
+      domain = s .domain;
+    }
 
 -- the session after a checkpoint: dirty blocks stay, dirty segments are cleared
 unfoldable pub withCheckpoint : Session → Session
-withCheckpoint s = record { layout = s .layout; «dirty_segments» = 0; «dirty_blocks» = s .«dirty_blocks» }
+withCheckpoint s = record { layout = s .layout; «dirty_segments» = 0; «dirty_blocks» = s .«dirty_blocks»; domain = s .domain }
 
--- a valid session (SPECIFICATION 5.2; the trade: a true card): no bit is set beyond the sizes, and no dirty segment is in
--- state 1
+-- a valid session (SPECIFICATION 5.2; the trade: a true card): no bit is set beyond the sizes, no dirty segment is in state 1, and
+-- the kind of module is 0 or 1
 pub record SessionValid (s : Session) (st : ℕ → ℕ) : Type 0 where
   pub segments : (i : ℕ) → dirtySegment s i ≡ true → i < s .layout .mains
   pub blocks : (i b : ℕ) → dirtyBlock s i b ≡ true → (i < s .layout .mains) × (b < s .layout .blocks)
   pub moved : (i : ℕ) → dirtySegment s i ≡ true → st i ≢ ssMain
+  pub domain : s .domain ≤ eadr
 
 -- the same as a test
 unfoldable pub validSession : Session → (ℕ → ℕ) → Bool
@@ -74,11 +95,16 @@ validSession s st =
     ltb (s .«dirty_segments») (2 ^ s .layout .mains)
     && allB most (λ i. ltb (dirtyWord s i) (cond (ltb i (s .layout .mains)) (2 ^ s .layout .blocks) 1))
     && allB (s .layout .mains) (λ i. not (dirtySegment s i && eqb (st i) ssMain))
+    && not (noDomain (s .domain))
 
 -- ---- refusal 5, and with 1 to 4 what every call that is given an image and a session knows first
 
 abbrev pub sessionErrors : Session → Image → Errors
 sessionErrors s I = (5, not (validSession s (activeState I))) ∷ []
+
+-- of an opening, which is given the kind of module alone
+abbrev pub domainErrors : ℕ → Errors
+domainErrors d = (5, noDomain d) ∷ []
 
 abbrev pub contextErrors : Session → Image → Errors
 contextErrors s I = containerErrors (s .layout) I ++ sessionErrors s I

@@ -34,7 +34,7 @@ clientsLeft s R (c ∷ cs) = clientsLeft (step s c) (outcome (s .device) c .clie
 
 -- whether a call is an opening, and the openings that a list of calls serves
 abbrev pub isOpening : CallArgs → Bool
-isOpening (openArgs l) = true
+isOpening (openArgs l d) = true
 isOpening (writeArgs w) = false
 isOpening (discardArgs i) = false
 isOpening checkpointArgs = false
@@ -45,7 +45,7 @@ NoneOpens s (c ∷ cs) = ((isOpening (c .args) && served (outcome (s .device) c 
 
 -- whether a call judges the records of clients: all do but a discard
 abbrev pub judgesClients : CallArgs → Bool
-judgesClients (openArgs l) = true
+judgesClients (openArgs l d) = true
 judgesClients (writeArgs w) = true
 judgesClients (discardArgs i) = false
 judgesClients checkpointArgs = true
@@ -89,8 +89,8 @@ pub record SharesKept : Type 0 where
   pub quotas : (d : Device) (c : Call) → judgesClients (c .args) ≡ true → outcome d c .status ≡ 0 → WithinQuotas (outcome d c .clients)
   pub unjudged : (d : Device) (c : Call) → judgesClients (c .args) ≡ false → outcome d c .clients ≡ c .lends .clients
   -- with one run, which the opening of the history was lent: never
-  pub quotasEver : (l : Layout) (I : Image) (k : Lent) → openStatus l I k ≡ 0
-      → (cs : List Call) → OneRun (start l I k) (cleared (k .clients)) cs → WithinQuotas (clientsLeft (start l I k) (cleared (k .clients)) cs)
+  pub quotasEver : (l : Layout) (d : ℕ) (I : Image) (k : Lent) → openStatus l d I k ≡ 0
+      → (cs : List Call) → OneRun (start l d I k) (cleared (k .clients)) cs → WithinQuotas (clientsLeft (start l d I k) (cleared (k .clients)) cs)
 
 -- ---- one client alone
 
@@ -100,7 +100,7 @@ alone l used = clientOf (l .backups) (l .backups) used ∷ []
 
 -- every write is that client's
 abbrev pub ByFirst : CallArgs → Type 0
-ByFirst (openArgs l) = Unit {0}
+ByFirst (openArgs l d) = Unit {0}
 ByFirst (writeArgs w) = w .client ≡ 0
 ByFirst (discardArgs i) = Unit {0}
 ByFirst checkpointArgs = Unit {0}
@@ -116,7 +116,7 @@ NoShareRefuses d c = let n : ℕ = outcome d c .status in (n ≢ 13) × (n ≢ 1
 -- in every history of it, in which all calls share one run, 13, 14 and 15 do not come: 9 comes first
 abbrev pub AloneUnhindered : Type 0
 AloneUnhindered =
-    (l : Layout) (I : Image) (k : Lent) (n : ℕ) → k .clients ≡ alone l n → Bytes I → openStatus l I k ≡ 0
-    → (cs : List Call) → AllPermitted cs → AllByFirst cs → OneRun (start l I k) (cleared (k .clients)) cs
-    → (c : Call) → Permitted c → ByFirst (c .args) → c .lends .clients ≡ clientsLeft (start l I k) (cleared (k .clients)) cs
-    → NoShareRefuses (run (start l I k) cs .device) c
+    (l : Layout) (d : ℕ) (I : Image) (k : Lent) (n : ℕ) → k .clients ≡ alone l n → Bytes I → openStatus l d I k ≡ 0
+    → (cs : List Call) → AllPermitted cs → AllByFirst cs → OneRun (start l d I k) (cleared (k .clients)) cs
+    → (c : Call) → Permitted c → ByFirst (c .args) → c .lends .clients ≡ clientsLeft (start l d I k) (cleared (k .clients)) cs
+    → NoShareRefuses (run (start l d I k) cs .device) c

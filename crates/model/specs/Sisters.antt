@@ -13,10 +13,10 @@ use Rattle.model.specs.Layout.{lineSize}
 use Rattle.model.specs.Container.{activeLine, checkpointBytes}
 use Rattle.model.specs.Outcome.{Lent}
 use Rattle.model.specs.Replay.{replayOutcome}
-use Rattle.model.specs.Open.{openStatus, openOutcome}
+use Rattle.model.specs.Open.{recoveryOps, openStatus, openOutcome}
 use Rattle.model.specs.Crash.{CrashImage}
 use Rattle.model.specs.History.{Call, Device, State, outcome, reported, calledOps, step, run, openedImage, start}
-use Rattle.model.specs.CrashSafety.{Reads, Recovers, InEveryHistory, Enough, CutOpenings}
+use Rattle.model.specs.CrashSafety.{Reads, Recovers, InEveryHistory, Module, Enough, CutOpenings, WithinAdr}
 
 -- demand 2: after every call of a history the two reads give the two pages of the reference model
 abbrev pub ReadsFollowModel : Type 0
@@ -42,9 +42,9 @@ pub record SameBoard : Type 0 where
       → (outcome d b ≡ outcome d c) × (reported (outcome d b .ops) (b .lends .trace) ≡ reported (outcome d c .ops) (c .lends .trace))
   -- two histories that start with the same opening of the same image, and have the same calls, stand at the same place after them: image,
   -- session, all operations played, and model
-  pub histories : (l : Layout) (I : Image) (k m : Lent)
-      → k .clients ≡ m .clients → (length (k .trace) ≡ length (m .trace)) ⊎ ((openStatus l I k ≢ 11) × (openStatus l I m ≢ 11))
-      → (bs cs : List Call) → SameCalls (start l I k) bs cs → run (start l I k) bs ≡ run (start l I m) cs
+  pub histories : (l : Layout) (d : ℕ) (I : Image) (k m : Lent)
+      → k .clients ≡ m .clients → (length (k .trace) ≡ length (m .trace)) ⊎ ((openStatus l d I k ≢ 11) × (openStatus l d I m ≢ 11))
+      → (bs cs : List Call) → SameCalls (start l d I k) bs cs → run (start l d I k) bs ≡ run (start l d I m) cs
 
 -- every operation that a call writes is well formed, whatever the image and the session: replay serves the reported part
 -- and plays all of it, or the first p where it is stopped there; so it is for openings before, in and after a history
@@ -54,15 +54,17 @@ ReplayServesAll =
     → (replayOutcome (d .image) (reported (outcome d c .ops) (c .lends .trace)) p .status ≡ 0)
     × (calledOps d c p ≡ take p (outcome d c .ops))
 
--- of an image that was durable, a finished opening leaves one crash image only, so that what a history starts with is durable
-abbrev pub OpeningSettles : Type 0
+-- of an image that was durable, a finished opening leaves one crash image only, so that what a history starts with is durable: on every
+-- module whose crash images are among those of kind 0 it is the opened one, which one of kind 0 may leave
+abbrev pub OpeningSettles : Type 1
 OpeningSettles =
-    (l : Layout) (I : Image) (k : Lent) → Bytes I → openStatus l I k ≡ 0
-    → CrashImage I (openOutcome l I k .ops) (openedImage l I k)
-    × ((H : Image) → CrashImage I (openOutcome l I k .ops) H → H ≡ openedImage l I k)
+    (M : Module) → WithinAdr M → (l : Layout) (I : Image) (k : Lent) → Bytes I → openStatus l (M .domain) I k ≡ 0
+    → CrashImage I (recoveryOps l I (activeLine I)) (openedImage l (M .domain) I k)
+    × ((H : Image) → M .leaves I (openOutcome l (M .domain) I k .ops) H → H ≡ openedImage l (M .domain) I k)
 
 -- openings alone: any image that is accepted, cut in any number of openings, shows its checkpoint
-abbrev pub OpeningSafety : Type 0
+abbrev pub OpeningSafety : Type 1
 OpeningSafety =
-    (l : Layout) (I : Image) (k : Lent) → Bytes I → openStatus l I k ≡ 0 → (H : Image) → CutOpenings CrashImage l I H
-    → (m : Lent) → Enough l H m → Recovers l H m (checkpointBytes l I (activeLine I)) × Bytes H
+    (M : Module) → WithinAdr M → (l : Layout) (I : Image) (k : Lent) → Bytes I → openStatus l (M .domain) I k ≡ 0
+    → (H : Image) → CutOpenings M l I H
+    → (m : Lent) → Enough l (M .domain) H m → Recovers l (M .domain) H m (checkpointBytes l I (activeLine I)) × Bytes H

@@ -27,7 +27,7 @@ use Rattle.model.specs.NewBackup.{TakenNew}
 -- the state of main segment i after a served call: an opening and a discard keep it, a write turns that of the segment which it copies to 2,
 -- a checkpoint makes the next states
 abbrev pub servedState : Session → Image → CallArgs → ℕ → ℕ
-servedState s I (openArgs l) i = activeState I i
+servedState s I (openArgs l d) i = activeState I i
 servedState s I (writeArgs w) i = cond (needsCopy s I (w .main) && eqb i (w .main)) ssBackup (activeState I i)
 servedState s I (discardArgs n) i = activeState I i
 servedState s I checkpointArgs i = nextState (activeState I i) (dirtySegment s i)
@@ -38,8 +38,8 @@ stateAfter d c i = cond (served (outcome d c .status)) (servedState (d .session)
 
 -- the states of a history are these: the opening that it starts with keeps them, and each call makes them
 pub record StatesFollow : Type 0 where
-  pub opening : (l : Layout) (I : Image) (k : Lent) → Bytes I → openStatus l I k ≡ 0
-      → (i : ℕ) → i < l .mains → activeState (openedImage l I k) i ≡ activeState I i
+  pub opening : (l : Layout) (d : ℕ) (I : Image) (k : Lent) → Bytes I → openStatus l d I k ≡ 0
+      → (i : ℕ) → i < l .mains → activeState (openedImage l d I k) i ≡ activeState I i
   pub calls : InEveryHistory (λ s.
       (c : Call) → Permitted c → (i : ℕ) → i < s .device .layout .mains → activeState (step s c .device .image) i ≡ stateAfter (s .device) c i)
 
@@ -48,7 +48,7 @@ pub record StatesFollow : Type 0 where
 -- the pair of backup segment j after a served call: a write that needs a new backup segment gives it its main segment, and nothing else
 -- changes a pair
 abbrev pub servedPair : Session → Image → CallArgs → ℕ → ℕ
-servedPair s I (openArgs l) j = backupToMain I j
+servedPair s I (openArgs l d) j = backupToMain I j
 servedPair s I (writeArgs w) j =
     cond (needsBackup s I (w .main) && eqb j (newBackup (s .layout) (activeState I) (backupToMain I))) (w .main) (backupToMain I j)
 servedPair s I (discardArgs n) j = backupToMain I j
@@ -60,8 +60,8 @@ pairAfter d c j = cond (served (outcome d c .status)) (servedPair (d .session) (
 
 -- the pairs of a history are these
 pub record PairsFollow : Type 0 where
-  pub opening : (l : Layout) (I : Image) (k : Lent) → Bytes I → openStatus l I k ≡ 0
-      → (j : ℕ) → j < most → backupToMain (openedImage l I k) j ≡ backupToMain I j
+  pub opening : (l : Layout) (d : ℕ) (I : Image) (k : Lent) → Bytes I → openStatus l d I k ≡ 0
+      → (j : ℕ) → j < most → backupToMain (openedImage l d I k) j ≡ backupToMain I j
   pub calls : InEveryHistory (λ s.
       (c : Call) → Permitted c → (j : ℕ) → j < most → backupToMain (step s c .device .image) j ≡ pairAfter (s .device) c j)
 
@@ -79,7 +79,7 @@ TakenUnpaired = InEveryHistory (λ s.
 
 -- a call is a write to main segment i
 abbrev pub isWriteTo : ℕ → CallArgs → Bool
-isWriteTo i (openArgs l) = false
+isWriteTo i (openArgs l d) = false
 isWriteTo i (writeArgs w) = eqb (w .main) i
 isWriteTo i (discardArgs n) = false
 isWriteTo i checkpointArgs = false

@@ -1,5 +1,5 @@
 -- Lengths of a trace that always suffice: with that many numbers no opening, write, discard or checkpoint of these sizes is
--- refused with 11, whatever the image and the session. Proved in proofs/Laws/TraceLength.antt. Assumes nothing.
+-- refused with 11, whatever the image, the session and the kind of module. Proved in proofs/Laws/TraceLength.antt. Assumes nothing.
 use Prim.Native.Nat.{ℕ, _+_, _*_, _≤_}
 use mathlib.Core.Logic.{_≢_}
 use lib.ListN.{length}
@@ -41,7 +41,7 @@ abbrev pub mostCheckpointOps : Layout → ℕ
 mostCheckpointOps l = blockLines * l .blocks * l .mains + (fenceOps + lineOps + fenceOps + wordOps + fenceOps)
 
 abbrev pub TraceSuffices : Type 0
-TraceSuffices = (l : Layout) (I : Image) (k : Lent) → opNumbers * mostOpenOps l ≤ length (k .trace) → openStatus l I k ≢ 11
+TraceSuffices = (l : Layout) (d : ℕ) (I : Image) (k : Lent) → opNumbers * mostOpenOps l ≤ length (k .trace) → openStatus l d I k ≢ 11
 
 abbrev pub WriteTraceSuffices : Type 0
 WriteTraceSuffices =

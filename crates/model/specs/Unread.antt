@@ -29,7 +29,7 @@ pub record AgreeNamed (I J : Image) : Type 0 where
 
 -- what every call answers on two such images
 pub record SameAnswers (I J : Image) : Type 0 where
-  pub opening : (l : Layout) (k : Lent) → openOutcome l I k ≡ openOutcome l J k
+  pub opening : (l : Layout) (d : ℕ) (k : Lent) → openOutcome l d I k ≡ openOutcome l d J k
   pub write : (s : Session) (w : WriteArgs) (k : Lent) → writeOutcome s I w k ≡ writeOutcome s J w k
   pub discard : (s : Session) (i : ℕ) (k : Lent) → discardOutcome s I i k ≡ discardOutcome s J i k
   pub checkpoint : (s : Session) (k : Lent) → checkpointOutcome s I k ≡ checkpointOutcome s J k

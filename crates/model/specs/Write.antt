@@ -13,7 +13,7 @@ use Rattle.model.specs.Layout.{wordSize, blockSize, pairsAt, ssMain, ssB
 use Rattle.model.specs.Status.{Errors, firstError}
 use Rattle.model.specs.Container.{activeState, activeLine, backupToMain, isPaired, pairedBackup, anyFree, freeBackups, newBackup, mainErrors, blockErrors}
 use Rattle.model.specs.Session.{dirtySegment, dirtyWord, withDirty, contextErrors}
-use Rattle.model.specs.Ops.{clwb, sfence, Ops, Trace, traceErrors, stores, persistCopy, copySegment, eachDirty, wordPlace, storeByte}
+use Rattle.model.specs.Ops.{clwb, sfence, Ops, Trace, traceErrors, forDomain, stores, persistCopy, copySegment, eachDirty, wordPlace, storeByte}
 use Rattle.model.specs.Clients.{Clients, charged, clientErrors, shareErrors}
 use Rattle.model.specs.Outcome.{Lent, Outcome, outcomeOf}
 
@@ -144,11 +144,11 @@ abbrev pub writeErrors : Session → Image → WriteArgs → Lent → Errors
 writeErrors s I w k =
     earlyErrors s I (k .clients) w
     ++ lateErrors (copyPlan s I (w .main)) (k .clients) (w .client) (freeBackups (s .layout) (activeState I) (backupToMain I))
-    (writeOps s I w) (k .trace)
+    (forDomain (s .domain) (writeOps s I w)) (k .trace)
 
 unfoldable pub writeStatus : Session → Image → WriteArgs → Lent → ℕ
 writeStatus s I w k = firstError (writeErrors s I w k)
 
 unfoldable pub writeOutcome : Session → Image → WriteArgs → Lent → Outcome
 writeOutcome s I w k =
-    outcomeOf (writeStatus s I w k) s (writeSession s I w) (k .clients) (writeClients s I w (k .clients)) (writeOps s I w)
+    outcomeOf (writeStatus s I w k) s (writeSession s I w) (k .clients) (writeClients s I w (k .clients)) (s .domain) (writeOps s I w)

@@ -77,17 +77,26 @@ pub struct Session {
     pub dirty_segments: u64,
     // For each main segment one word, with one bit for each dirty block (the trade: marked).
     pub dirty_blocks: [u64; Layout::MOST_LEN],
+    // The kind of module, as the opening was given it: ADR or EADR.
+    pub domain: u64,
 }
 
 impl Session {
-    // A session of a layout in which nothing is dirty.
-    pub fn fresh(layout: Layout) -> Session
-        ensures { λ r. ⌜ r ≡ freshSession layout ⌝ }
+    // The kinds of module (the ported paper: persistence domains): the cache may lose what was not written back, or it keeps every
+    // store, and then no write-back is written.
+    pub const ADR: u64 = 0;
+
+    pub const EADR: u64 = 1;
+
+    // A session of a layout on a kind of module in which nothing is dirty.
+    pub fn fresh(layout: Layout, domain: u64) -> Session
+        ensures { λ r. ⌜ r ≡ freshSession layout domain ⌝ }
     {
         Session {
             layout: layout,
             dirty_segments: 0,
             dirty_blocks: [0; Layout::MOST_LEN],
+            domain: domain,
         }
     }
 }

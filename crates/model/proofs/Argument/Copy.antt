@@ -35,7 +35,7 @@ use Rattle.model.proofs.Argument.Copy.Crash.{line, i64, main-clear, bac
 -- ---- the session with no dirty block in main segment i
 
 abbrev pub unmarked : Session → ℕ → Session
-unmarked s i = record { layout = s .layout; «dirty_segments» = s .«dirty_segments»; «dirty_blocks» = set (s .«dirty_blocks») i 0 }
+unmarked s i = record { layout = s .layout; «dirty_segments» = s .«dirty_segments»; «dirty_blocks» = set (s .«dirty_blocks») i 0; domain = s .domain }
 
 -- a block that is not dirty then was not dirty before, or is of main segment i
 unmarked-block : (s : Session) (i u f : ℕ) → dirtyBlock (unmarked s i) u f ≡ false → (u ≡ i) ⊎ (dirtyBlock s u f ≡ false)

@@ -6,6 +6,8 @@ use mathlib.Core.Bool.{Bool, true}
 use native.Mathlib.Omega.{arith}
 use lib.ListN.{length, getD, drop, length-drop}
 use lib.Seq.{sets, length-sets, length-take-le, getD-take, getD-drop}
+use Rattle.model.proofs.Laws.Domain.{adr-served}
+use Rattle.model.specs.Ops.{forDomain}
 use Rattle.model.specs.declared.Layout.{Layout}
 use Rattle.model.specs.declared.Session.{Session}
 use Rattle.model.specs.Words.{Image}
@@ -83,16 +85,16 @@ module _ (s : State) (st : Stands s) (i : ℕ) (t : Lent) where
   page-others h u x b = laid-other l i h (omega (arith, st .inv .recovers .fit .sizes .2)) (s .model .working) (s .model .checkpoint) (st .wholeWorking) (st .wholeCheckpoint) u x
 
   -- what a served discard appends
-  appends : discardStatus (d .session) (d .image) i t ≡ 0 → Answered (outcome d c) true (d .session) (discardOps (d .session) (d .image) i) → Appends s c
+  appends : discardStatus (d .session) (d .image) i t ≡ 0 → Answered (outcome d c) true (d .session) (forDomain (d .session .domain) (discardOps (d .session) (d .image) i)) → Appends s c
   appends h a =
       let e : d .session ≡ σ = session-known s st (λ x. discardStatus x (d .image) i t) (zero-discard (d .image) i t) (λ x. omega arith) in
-      let inv : Invariant (σ .layout) (d .played) I σ (checkpointOf s) (workingOf s) = inv-at s st (σ .layout) (st .sized) in
+      let inv : Invariant (σ .layout) (d .adrPlayed) I σ (checkpointOf s) (workingOf s) = inv-at s st (σ .layout) (st .sized) in
       let hi : i < σ .layout .mains = discard-main σ I i t (subst₂ (λ (x : Session) (J : Image). discardStatus x J i t ≡ 0) e (st .image) h) in
-      let low : (k : ℕ) → k < 512 → Clear k (discardOps σ I i) = (λ k x. discard-clear (d .played) (d .durable) σ _ _ (st .bytes) inv i hi k (inl (omega arith))) in
+      let low : (k : ℕ) → k < 512 → Clear k (discardOps σ I i) = (λ k x. discard-clear (d .adrPlayed) (d .durable) σ _ _ (st .bytes) inv i hi k (inl (omega arith))) in
       let hl : i < l .mains = subst (λ (k : Layout). i < k .mains) (st .sized) hi in
       record {
         ops = discardOps σ I i;
-        opsAre = a .ops ∙ ap₂ (λ (x : Session) (J : Image). discardOps x J i) e (st .image);
+        opsAre = adr-served d c (a .status) ∙ ap₂ (λ (x : Session) (J : Image). discardOps x J i) e (st .image);
         model = record { working = page; checkpoint = s .model .checkpoint };
         modelIs = ap (λ (b : Bool). modelStep l (discardArgs i) b (s .model)) (a .status) ∙ model-discard l i (s .model);
         layout = σ .layout;
@@ -103,19 +105,19 @@ module _ (s : State) (st : Stands s) (i : ℕ) (t : Lent) where
         known = inl (a .session ∙ e);
         wholeWorking = length-sets (s .model .working) (pageAt l i 0) (pageSegment l (s .model .checkpoint) i) ∙ st .wholeWorking;
         wholeCheckpoint = st .wholeCheckpoint;
-        inv = discard-done (d .played) (d .durable) σ _ _ (st .bytes) inv i hi (contentsOf l page)
+        inv = discard-done (d .adrPlayed) (d .durable) σ _ _ (st .bytes) inv i hi (contentsOf l page)
             (subst (λ (k : Layout). (x : ℕ) → x < segmentSize k → contentsOf l page i x ≡ checkpointOf s i x) (sym (st .sized)) (page-here hl))
             (subst (λ (k : Layout). (u x : ℕ) → u < k .mains → x < segmentSize k → u ≢ i → contentsOf l page u x ≡ workingOf s u x) (sym (st .sized)) (page-others hl));
-        epoch = low-epoch (d .durable) (d .played) (discardOps σ I i) (λ k x. low k (omega arith)) ∙ omega arith;
-        states = λ u h. low-states (d .durable) (d .played) (discardOps σ I i) (λ k x. low k (omega arith)) u (omega (arith, inv .recovers .fit .sizes .0))
+        epoch = low-epoch (d .durable) (d .adrPlayed) (discardOps σ I i) (λ k x. low k (omega arith)) ∙ omega arith;
+        states = λ u h. low-states (d .durable) (d .adrPlayed) (discardOps σ I i) (λ k x. low k (omega arith)) u (omega (arith, inv .recovers .fit .sizes .0))
             ∙ sym (rw (a .status) (ap (λ (J : Image). activeState J u) (st .image)));
-        pairs = λ j h. low-pairs (d .durable) (d .played) (discardOps σ I i) (λ k x y. low k (omega arith)) j h
+        pairs = λ j h. low-pairs (d .durable) (d .adrPlayed) (discardOps σ I i) (λ k x y. low k (omega arith)) j h
             ∙ sym (rw (a .status) (ap (λ (J : Image). backupToMain J j) (st .image)));
-        crash = λ p H x. inl (discard-crash (d .played) (d .durable) σ _ _ (st .bytes) inv i hi p H x);
+        crash = λ p H x. inl (discard-crash (d .adrPlayed) (d .durable) σ _ _ (st .bytes) inv i hi p H x);
       }
 
   -- A DISCARD meets its argument
   pub discard-argument : Argument s (record { args = discardArgs i; lends = t })
   unfolding discardOutcome modelStep
   discard-argument =
-      by-status s st c (discard-outcome-ok (d .session) (d .image) i t) (discardStatus (d .session) (d .image) i t) (d .session) (d .session) (t .clients) (t .clients) (discardOps (d .session) (d .image) i) refl (inl refl) refl appends
+      by-status s st c (discard-outcome-ok (d .session) (d .image) i t) (discardStatus (d .session) (d .image) i t) (d .session) (d .session) (t .clients) (t .clients) (d .session .domain) (discardOps (d .session) (d .image) i) refl (inl refl) refl appends

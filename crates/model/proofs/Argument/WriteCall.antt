@@ -7,6 +7,8 @@ use native.Mathlib.Omega.{arith}
 use lib.Dec.{eqb}
 use lib.ListN.{length, length-set}
 use lib.Seq.{sets, length-sets}
+use Rattle.model.proofs.Laws.Domain.{adr-served}
+use Rattle.model.specs.Ops.{forDomain}
 use Rattle.model.specs.Outcome.{Lent}
 use Rattle.model.specs.declared.Layout.{Layout}
 use Rattle.model.specs.declared.Session.{Session}
@@ -71,10 +73,10 @@ module _ (s : State) (st : Stands s) (w : WriteArgs) (t : Lent) (small : Bytes (
       place : ℕ
       place = 256 * (u * l .blocks) + x
 
-  appends : writeStatus (d .session) (d .image) w t ≡ 0 → Answered (outcome d c) true (writeSession (d .session) (d .image) w) (writeOps (d .session) (d .image) w) → Appends s c
+  appends : writeStatus (d .session) (d .image) w t ≡ 0 → Answered (outcome d c) true (writeSession (d .session) (d .image) w) (forDomain (d .session .domain) (writeOps (d .session) (d .image) w)) → Appends s c
   appends h a =
       let e : d .session ≡ σ = session-known s st (λ x. writeStatus x (d .image) w t) (zero-write (d .image) w t) (λ x. omega arith) in
-      let inv : Invariant (σ .layout) (d .played) I σ (checkpointOf s) (workingOf s) = inv-at s st (σ .layout) (st .sized) in
+      let inv : Invariant (σ .layout) (d .adrPlayed) I σ (checkpointOf s) (workingOf s) = inv-at s st (σ .layout) (st .sized) in
       let z : writeStatus σ I w t ≡ 0 = subst₂ (λ (x : Session) (J : Image). writeStatus x J w t ≡ 0) e (st .image) h in
       let free : needsBackup σ I (w .main) ≡ true → someFree σ I ≡ true = served-free σ I w t z in
       let ok : SpanOk (σ .layout) w = span-ok σ I w t small z in
@@ -82,7 +84,7 @@ module _ (s : State) (st : Stands s) (w : WriteArgs) (t : Lent) (small : Bytes (
       (sym (st .sized)) (laid-page (subst (λ (k : Layout). SpanOk k w) (st .sized) ok)) in
       record {
         ops = writeOps σ I w;
-        opsAre = a .ops ∙ ap₂ (λ (x : Session) (J : Image). writeOps x J w) e (st .image);
+        opsAre = adr-served d c (a .status) ∙ ap₂ (λ (x : Session) (J : Image). writeOps x J w) e (st .image);
         model = record { working = page; checkpoint = s .model .checkpoint };
         modelIs = ap (λ (b : Bool). modelStep l (writeArgs w) b (s .model)) (a .status) ∙ model-write l w (s .model);
         layout = σ .layout;
@@ -93,16 +95,16 @@ module _ (s : State) (st : Stands s) (w : WriteArgs) (t : Lent) (small : Bytes (
         known = inl (a .session ∙ ap₂ (λ (x : Session) (J : Image). writeSession x J w) e (st .image));
         wholeWorking = length-sets (s .model .working) (pageAt l (w .main) (w .block) + w .offset) (w .bytes) ∙ st .wholeWorking;
         wholeCheckpoint = st .wholeCheckpoint;
-        inv = write-done (d .played) (d .durable) σ _ _ (st .bytes) inv w ok (st .wide) free (contentsOf l page) given;
-        epoch = low-epoch (d .durable) (d .played) (writeOps σ I w) (write-low (d .played) (d .durable) σ _ _ (st .bytes) inv w ok (st .wide) free) ∙ omega arith;
-        states = λ i h. write-states (d .played) (d .durable) σ _ _ (st .bytes) inv w ok (st .wide) free i h
+        inv = write-done (d .adrPlayed) (d .durable) σ _ _ (st .bytes) inv w ok (st .wide) free (contentsOf l page) given;
+        epoch = low-epoch (d .durable) (d .adrPlayed) (writeOps σ I w) (write-low (d .adrPlayed) (d .durable) σ _ _ (st .bytes) inv w ok (st .wide) free) ∙ omega arith;
+        states = λ i h. write-states (d .adrPlayed) (d .durable) σ _ _ (st .bytes) inv w ok (st .wide) free i h
             ∙ sym (rw (a .status) (ap₂ (λ (x : Session) (J : Image). cond (needsCopy x J (w .main) && eqb i (w .main)) ssBackup (activeState J i)) e (st .image)));
-        pairs = λ j h. write-pairs (d .played) (d .durable) σ _ _ (st .bytes) inv w ok (st .wide) free j h
+        pairs = λ j h. write-pairs (d .adrPlayed) (d .durable) σ _ _ (st .bytes) inv w ok (st .wide) free j h
             ∙ sym (rw (a .status) (ap₂ (λ (x : Session) (J : Image). cond (needsBackup x J (w .main) && eqb j (newOf x J)) (w .main) (backupToMain J j)) e (st .image)));
-        crash = λ p H x. inl (write-crash (d .played) (d .durable) σ _ _ (st .bytes) inv w ok (st .wide) free p H x);
+        crash = λ p H x. inl (write-crash (d .adrPlayed) (d .durable) σ _ _ (st .bytes) inv w ok (st .wide) free p H x);
       }
 
   pub write-argument : Argument s (record { args = writeArgs w; lends = t })
   unfolding writeOutcome modelStep
   write-argument =
-      by-status s st c (write-outcome-ok (d .session) (d .image) w t) (writeStatus (d .session) (d .image) w t) (d .session) (writeSession (d .session) (d .image) w) (t .clients) (writeClients (d .session) (d .image) w (t .clients)) (writeOps (d .session) (d .image) w) refl (inl refl) refl appends
+      by-status s st c (write-outcome-ok (d .session) (d .image) w t) (writeStatus (d .session) (d .image) w t) (d .session) (writeSession (d .session) (d .image) w) (t .clients) (writeClients (d .session) (d .image) w (t .clients)) (d .session .domain) (writeOps (d .session) (d .image) w) refl (inl refl) refl appends

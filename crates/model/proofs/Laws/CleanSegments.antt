@@ -16,7 +16,7 @@ use Rattle.model.specs.Range.{cat, sumTo, oneIf}
 use Rattle.model.specs.Words.{Image}
 use Rattle.model.specs.Layout.{lineSize, blockSize, metadataSize, lineWords, blockLines, segmentSize, mainAt}
 use Rattle.model.specs.Container.{committedEpoch, inactiveLine}
-use Rattle.model.specs.Session.{isDirty, dirtyWord, dirtySegment, dirtyBlock}
+use Rattle.model.specs.Session.{isDirty, dirtyWord, dirtySegment, dirtyBlock, adr}
 use Rattle.model.specs.Ops.{store, clwb, sfence, Ops, apply, replay, stores, clwbs, eachDirty}
 use Rattle.model.specs.Checkpoint.{flushDirty, statesOps, epochOps, checkpointOps}
 use Rattle.model.specs.CrashExact.{Each}
@@ -24,7 +24,7 @@ use Rattle.model.specs.Counts.{dirtyCount}
 use Rattle.model.specs.CleanSegments.{CleanSegment, flushDirtySegments, leanCheckpointOps, markedClean, inClean, leaveOut}
 use Rattle.model.proofs.Laws.Range.{both, cat-none, any-at, first-some, sum-ext, sum-add}
 use Rattle.model.proofs.Laws.Layout.{apart, state-line-high}
-use Rattle.model.proofs.Laws.Counts.{length-cat-sum, length-clwbs, length-dirty}
+use Rattle.model.proofs.Laws.Counts.{length-cat-sum, count-adr, count-clwbs, count-dirty}
 
 -- ---- operations without some flushes
 
@@ -201,7 +201,7 @@ module _ (s : Session) where
 
   length-segment : (i : ℕ) → length (segmentOps i) ≡ 4 * marks i
   unfolding marks dirtyCount dirtyBlock
-  length-segment i = length-dirty (dirtyWord s i) (l .blocks) 4 _ (λ b. length-clwbs blockLines _)
+  length-segment i = count-adr _ (count-dirty adr (dirtyWord s i) (l .blocks) 4 _ (λ b. count-clwbs adr blockLines _))
 
   length-flushes : length (flushDirty l (s .«dirty_blocks»)) ≡ length (flushDirtySegments s) + 4 * markedClean s
   unfolding flushDirty flushDirtySegments markedClean marks

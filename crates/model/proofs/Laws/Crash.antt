@@ -3,4 +3,5 @@ pub mod Floor
 pub mod Sentence
 pub mod Images
 pub mod LeftOut
+pub mod Flushes
 pub mod Count

@@ -14,7 +14,7 @@ use Rattle.model.specs.Checkpoint.{checkpointStatus, checkpointOutcome}
 use Rattle.model.specs.Reads.{readErrors, readStatus}
 use Rattle.model.specs.Reference.{Page, modelStep}
 use Rattle.model.specs.History.{callCheckpoint, State, step}
-use Rattle.model.specs.Counts.{dirtyTotal}
+use Rattle.model.specs.Counts.{flushes, dirtyTotal}
 use Rattle.model.specs.CrashSafety.{between, during, MayShow}
 use Rattle.model.proofs.Allowed.{shown-outside}
 use Rattle.model.proofs.Laws.Range.{and-left, and-right}
@@ -25,12 +25,16 @@ use Rattle.model.proofs.Laws.Counts.Checkpoint.{window-is}
 
 -- ---- the pages that a checkpoint may show
 
--- a served checkpoint with m dirty blocks: the old one until operation 4 * m + 12 is played, the new one once it is played whole
+-- a served checkpoint with m dirty blocks: the old one until the operation that stores the epoch is played, which is number 4 * m + 12 on
+-- kind 0 and number 11 on kind 1; the new one once it is played whole
 module _ (s : State) (t : Lent) (p : ℕ) (Q : Page) (h : checkpointStatus (s .device .session) (s .device .image) t ≡ 0) where
+  abbrev k : ℕ
+  k = s .device .session .domain
+
   abbrev m : ℕ
   m = dirtyTotal (s .device .session .layout) (s .device .session .«dirty_blocks»)
 
-  pub shown-before : p < 4 * m + 12 → MayShow s (during (callCheckpoint t) p) Q → Q ≡ s .model .checkpoint
+  pub shown-before : p < flushes k (4 * m) + (11 + flushes k 1) → MayShow s (during (callCheckpoint t) p) Q → Q ≡ s .model .checkpoint
   shown-before l x = shown-outside s (callCheckpoint t) p Q (λ w. omega (arith, window-is (s .device) t p h .0 w .0)) x
 
   pub shown-after : MayShow (step s (callCheckpoint t)) between Q → Q ≡ s .model .working

@@ -75,7 +75,7 @@ module _ (s : Session) (I : Image) (i : ℕ) where
   clean-served : dirtySegment s i ≡ false → (k : Lent) → discardStatus s I i k ≢ 11
   unfolding discardStatus
   clean-served d k h =
-      long-enough (discardOps s I i) (k .trace) (omega (arith, ap length (clean-none d))) (given-condition 11 (discardErrors s I i k) (omega arith) h)
+      long-enough (s .domain) (discardOps s I i) (k .trace) (omega (arith, ap length (clean-none d))) (given-condition 11 (discardErrors s I i k) (omega arith) h)
 
 pub discard-stores : DiscardStores
 discard-stores = record {

@@ -10,7 +10,9 @@ use lib.ListN.{length, replicate, length-append, length-replicate, getD-replicat
 use lib.Seq.{getD-append-add}
 use borrow.Author.Tests.{le-ltb, eq-eqb, eqb-true, not-false}
 use mathlib.Core.Bool.{false}
-use Rattle.model.specs.Clients.{clientsBad}
+use Rattle.model.proofs.Laws.Domain.{domain-shorter}
+use Rattle.model.specs.Session.{eadr, domainErrors}
+use Rattle.model.specs.Clients.{clientsBad, clientsErrors}
 use Rattle.model.specs.Outcome.{Lent}
 use Rattle.model.specs.declared.Layout.{Layout}
 use Rattle.model.specs.Range.{cat}
@@ -18,7 +20,7 @@ use Rattle.model.specs.Words.{Image, Bytes, byteAt, wordOf, littleEndian
 use Rattle.model.specs.Layout.{wordSize, lineSize, most, unpaired, SizesOk, imageSize, segmentSize, stateLine}
 use Rattle.model.specs.Status.{firstError}
 use Rattle.model.specs.Container.{HeaderOk, Valid, committedEpoch, activeLine, segState, backupToMain, byState, checkpointLocated, checkpointSegment, checkpointBytes, sizeErrors}
-use Rattle.model.specs.Ops.{opNumbers, traceShort}
+use Rattle.model.specs.Ops.{opNumbers, traceShort, Ops, traceErrors, forDomain}
 use Rattle.model.specs.Open.{recoveryOps, openStatus}
 use Rattle.model.specs.TraceLength.{mostOpenOps}
 use Rattle.model.specs.History.{start}
@@ -123,11 +125,13 @@ module _ (l : Layout) where
   pub formatted-ok : SizesOk l → ContainerOk l (formatted l)
   formatted-ok h = record { sizes = h; long = formatted-length; header = formatted-header h; valid = formatted-valid h }
 
-  pub formatted-accepted : SizesOk l → (t : Lent) → clientsBad l (t .clients) ≡ false → opNumbers * mostOpenOps l ≤ length (t .trace) → openStatus l (formatted l) t ≡ 0
+  pub formatted-accepted : SizesOk l → (t : Lent) → clientsBad l (t .clients) ≡ false → opNumbers * mostOpenOps l ≤ length (t .trace)
+      → (d : ℕ) → d ≤ eadr → openStatus l d (formatted l) t ≡ 0
   unfolding openStatus traceShort firstError
-  formatted-accepted h t c k =
-      container-passes l (formatted l) ((13, clientsBad l (t .clients)) ∷ (11, traceShort (recoveryOps l (formatted l) (activeLine (formatted l))) (t .trace)) ∷ []) (formatted-ok h)
-      ∙ rw (c, le-ltb (length (t .trace)) (3 * length (recoveryOps l (formatted l) (activeLine (formatted l)))) (omega (arith, recovery-most l (formatted l) (activeLine (formatted l)))))
+  formatted-accepted h t c k d e =
+      let O : Ops = recoveryOps l (formatted l) (activeLine (formatted l)) in
+      container-passes l (formatted l) (domainErrors d ++ clientsErrors l (t .clients) ++ traceErrors (forDomain d O) (t .trace)) (formatted-ok h)
+      ∙ rw (le-ltb eadr d e, c, le-ltb (length (t .trace)) (3 * length (forDomain d O)) (omega (arith, domain-shorter d O, recovery-most l (formatted l) (activeLine (formatted l)))))
 
   -- ---- its checkpoint
 
@@ -147,10 +151,10 @@ module _ (l : Layout) where
       and bytes-zero (segmentSize l * (l .mains + l .backups))
 
   -- it is one that a history may start with, and that starts with zeros
-  pub formatted-starts : SizesOk l → (t : Lent) → Bytes (formatted l)
-      × (start l (formatted l) t .model ≡ record { working = replicate (segmentSize l * l .mains) 0; checkpoint = replicate (segmentSize l * l .mains) 0 })
+  pub formatted-starts : SizesOk l → (d : ℕ) (t : Lent) → Bytes (formatted l)
+      × (start l d (formatted l) t .model ≡ record { working = replicate (segmentSize l * l .mains) 0; checkpoint = replicate (segmentSize l * l .mains) 0 })
   unfolding start
-  formatted-starts h t = (all-bytes .each, rw (formatted-checkpoint h))
+  formatted-starts h d t = (all-bytes .each, rw (formatted-checkpoint h))
 
   -- ---- format gives it
 

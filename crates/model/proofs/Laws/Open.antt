@@ -14,9 +14,9 @@ use Rattle.model.specs.Write.{WriteArgs, writeStatus}
 use Rattle.model.specs.Discard.{discardStatus}
 use Rattle.model.specs.Checkpoint.{checkpointStatus}
 
-pub refused-session : (l : Layout) (I : Image) (t : Lent) → openStatus l I t ≢ 0 → openOutcome l I t .session ≡ zeroSession
+pub refused-session : (l : Layout) (d : ℕ) (I : Image) (t : Lent) → openStatus l d I t ≢ 0 → openOutcome l d I t .session ≡ zeroSession
 unfolding openOutcome outcomeOf
-refused-session l I t h = rw (ne-eqb _ _ h)
+refused-session l d I t h = rw (ne-eqb _ _ h)
 
 pub zero-write : (I : Image) (w : WriteArgs) (t : Lent) → writeStatus zeroSession I w t ≡ 1
 unfolding writeStatus zeroSession freshSession firstError sizesOk inRange

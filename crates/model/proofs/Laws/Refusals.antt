@@ -30,7 +30,7 @@ served-exactly es k = (served-none es k, none-served es)
 pub knows : Knows
 knows = record {
   format = λ l I. refl;
-  opening = λ l I t. refl;
+  opening = λ l d I t. refl;
   write = λ s I w t. refl;
   discard = λ s I i t. refl;
   checkpoint = λ s I t. refl;

@@ -13,7 +13,7 @@ use Rattle.model.specs.Words.{Image}
 use Rattle.model.specs.Layout.{lineSize}
 use Rattle.model.specs.Status.{served}
 use Rattle.model.specs.Container.{activeLine}
-use Rattle.model.specs.Ops.{Ops}
+use Rattle.model.specs.Ops.{Ops, forDomain}
 use Rattle.model.specs.Outcome.{Lent, outcomeOf}
 use Rattle.model.specs.Open.{recoveryOps, openStatus, openOutcome}
 use Rattle.model.specs.Write.{WriteArgs, writeOps, writeErrors, writeStatus, writeOutcome}
@@ -27,22 +27,23 @@ use Rattle.model.proofs.Laws.Write.{span-good}
 use Rattle.model.proofs.Laws.NewBackup.{new-free}
 use Rattle.model.proofs.Laws.Container.{container-then}
 use Rattle.model.proofs.Laws.Ops.{OpOk, AllOk, all-when, replay-serves, played-ops}
+use Rattle.model.proofs.Laws.Domain.{domain-all}
 use Rattle.model.proofs.Laws.Replay.WellFormed.{recovery-ok, write-ok, discard-ok, checkpoint-ok}
 
 -- ---- what a call writes, served or not
 
-served-ok : (size e : ℕ) (O : Ops) → (e ≡ 0 → AllOk size O) → AllOk size (cond (served e) O [])
-served-ok size e O h = all-when (OpOk size) (served e) O (λ q. h (eqb-true e 0 q))
+served-ok : (size e d : ℕ) (O : Ops) → (e ≡ 0 → AllOk size O) → AllOk size (cond (served e) (forDomain d O) [])
+served-ok size e d O h = all-when (OpOk size) (served e) (forDomain d O) (λ q. domain-all (OpOk size) d O (h (eqb-true e 0 q)))
 
-pub open-ok : (l : Layout) (I : Image) (t : Lent) → AllOk (length I / lineSize) (openOutcome l I t .ops)
+pub open-ok : (l : Layout) (d : ℕ) (I : Image) (t : Lent) → AllOk (length I / lineSize) (openOutcome l d I t .ops)
 unfolding openOutcome outcomeOf openStatus
-open-ok l I t =
-    served-ok (length I / lineSize) (openStatus l I t) (recoveryOps l I (activeLine I))
+open-ok l d I t =
+    served-ok (length I / lineSize) (openStatus l d I t) d (recoveryOps l I (activeLine I))
     (λ h. subst (λ (n : ℕ). AllOk (n / lineSize) (recoveryOps l I (activeLine I))) (sym (container-then l I _ h .0 .long)) (recovery-ok l I (activeLine I)))
 
 pub write-outcome-ok : (s : Session) (I : Image) (w : WriteArgs) (t : Lent) → AllOk (length I / lineSize) (writeOutcome s I w t .ops)
 unfolding writeOutcome outcomeOf writeStatus
-write-outcome-ok s I w t = served-ok (length I / lineSize) (writeStatus s I w t) (writeOps s I w) go
+write-outcome-ok s I w t = served-ok (length I / lineSize) (writeStatus s I w t) (s .domain) (writeOps s I w) go
   where
     go : writeStatus s I w t ≡ 0 → AllOk (length I / lineSize) (writeOps s I w)
     go h =
@@ -61,14 +62,14 @@ discard-main s I i t h = leb-false _ _ (served-condition (discardErrors s I i t)
 pub discard-outcome-ok : (s : Session) (I : Image) (i : ℕ) (t : Lent) → AllOk (length I / lineSize) (discardOutcome s I i t .ops)
 unfolding discardOutcome outcomeOf discardStatus
 discard-outcome-ok s I i t =
-    served-ok (length I / lineSize) (discardStatus s I i t) (discardOps s I i)
+    served-ok (length I / lineSize) (discardStatus s I i t) (s .domain) (discardOps s I i)
     (λ h. subst (λ (n : ℕ). AllOk (n / lineSize) (discardOps s I i)) (sym (container-then (s .layout) I _ h .0 .long))
     (discard-ok s I i (discard-main s I i t h)))
 
 pub checkpoint-outcome-ok : (s : Session) (I : Image) (t : Lent) → AllOk (length I / lineSize) (checkpointOutcome s I t .ops)
 unfolding checkpointOutcome outcomeOf checkpointStatus
 checkpoint-outcome-ok s I t =
-    served-ok (length I / lineSize) (checkpointStatus s I t) (checkpointOps s I)
+    served-ok (length I / lineSize) (checkpointStatus s I t) (s .domain) (checkpointOps s I)
     (λ h. subst (λ (n : ℕ). AllOk (n / lineSize) (checkpointOps s I)) (sym (container-then (s .layout) I _ h .0 .long)) (checkpoint-ok s I))
 
 -- ---- what a call of a history writes
@@ -77,7 +78,7 @@ pub call-ok : (d : Device) (c : Call) → AllOk (length (d .image) / lineSize) (
 call-ok d c = go (c .args)
   where
     go : (a : CallArgs) → AllOk (length (d .image) / lineSize) (answers (d .session) (d .image) a (c .lends) .ops)
-    go (openArgs l) = open-ok l (d .image) (c .lends)
+    go (openArgs l k) = open-ok l k (d .image) (c .lends)
     go (writeArgs w) = write-outcome-ok (d .session) (d .image) w (c .lends)
     go (discardArgs i) = discard-outcome-ok (d .session) (d .image) i (c .lends)
     go checkpointArgs = checkpoint-outcome-ok (d .session) (d .image) (c .lends)

@@ -13,12 +13,12 @@ use lib.Pow.{pow-pos, pow-lt, pow-mono, pow-add, shr-shr}
 use lib.Dec.{ltb, eqb}
 use lib.ListN.{length, List·getD-eq-default}
 use lib.Seq.{getD-set-same, getD-set-other}
-use borrow.Author.Tests.{lt-ltb, ltb-true, ltb-false, eqb-true, eqb-false, eq-eqb, ne-eqb, not-true}
+use borrow.Author.Tests.{lt-ltb, le-ltb, ltb-true, ltb-false, eqb-true, eqb-false, eq-eqb, ne-eqb, not-true}
 use Rattle.model.specs.declared.Layout.{Layout}
 use Rattle.model.specs.declared.Session.{Session}
 use Rattle.model.specs.Range.{allB}
 use Rattle.model.specs.Layout.{most, ssMain}
-use Rattle.model.specs.Session.{bit, isDirty, setBit, setBits, dirtyWord, dirtySegment, dirtyBlock, freshSession, withDirty, withCheckpoint, SessionValid, validSession}
+use Rattle.model.specs.Session.{eadr, noDomain, bit, isDirty, setBit, setBits, dirtyWord, dirtySegment, dirtyBlock, freshSession, withDirty, withCheckpoint, SessionValid, validSession}
 use Rattle.model.proofs.Laws.Range.{all-at, all-from}
 
 -- ---- bits
@@ -156,9 +156,9 @@ pub checkpoint-block : (s : Session) (u f : ℕ) → dirtyBlock (withCheckpoint 
 unfolding dirtyBlock withCheckpoint
 checkpoint-block s u f = refl
 
-pub fresh-segment : (l : Layout) (u : ℕ) → dirtySegment (freshSession l) u ≡ false
+pub fresh-segment : (l : Layout) (d u : ℕ) → dirtySegment (freshSession l d) u ≡ false
 unfolding dirtySegment freshSession
-fresh-segment l u = no-bit u
+fresh-segment l d u = no-bit u
 
 -- ---- valid sessions
 
@@ -167,8 +167,8 @@ pub dirty-means : (s : Session) (st : ℕ → ℕ) → validSession s st ≡ tru
 unfolding validSession dirtySegment
 dirty-means s st h i d =
     let k = simp and-eq-true-iff at h in
-    let l : i < s .layout .mains = bits-below _ _ .0 (ltb-true _ _ (k .0 .0)) i (eqb-true _ _ d) in
-    (l, eqb-false _ _ (rw d at (not-true (dirtySegment s i && eqb (st i) ssMain) (all-at (s .layout .mains) _ (k .1) i l))))
+    let l : i < s .layout .mains = bits-below _ _ .0 (ltb-true _ _ (k .0 .0 .0)) i (eqb-true _ _ d) in
+    (l, eqb-false _ _ (rw d at (not-true (dirtySegment s i && eqb (st i) ssMain) (all-at (s .layout .mains) _ (k .0 .1) i l))))
 
 -- a session has a word for each of 64 main segments
 pub session-means : (s : Session) (st : ℕ → ℕ) → length (s .«dirty_blocks») ≡ most → validSession s st ≡ true → SessionValid s st
@@ -177,8 +177,9 @@ session-means s st len h =
     let k = simp and-eq-true-iff at h in
     record {
       segments = λ i d. dirty-means s st h i d .0;
-      blocks = λ i b d. block i b (decLt i most) (k .0 .1) (eqb-true _ _ d);
+      blocks = λ i b d. block i b (decLt i most) (k .0 .0 .1) (eqb-true _ _ d);
       moved = λ i d. dirty-means s st h i d .1;
+      domain = ltb-false eadr (s .domain) (not-true (noDomain (s .domain)) (k .1));
     }
   where
     word : (i b : ℕ) (a : Bool) → ltb i (s .layout .mains) ≡ a → ltb (dirtyWord s i) (cond a (2 ^ s .layout .blocks) 1) ≡ true → bit (dirtyWord s i) b ≡ 1
@@ -198,10 +199,13 @@ unfolding validSession dirtySegment dirtyBlock
 session-test s st v =
     simp and-eq-true-iff (
       (
-        lt-ltb _ _ (bits-below _ _ .1 (λ f e. v .segments f (eq-eqb _ _ e))),
-        all-from most _ (λ i b. word i (ltb i (s .layout .mains)) refl),
+        (
+          lt-ltb _ _ (bits-below _ _ .1 (λ f e. v .segments f (eq-eqb _ _ e))),
+          all-from most _ (λ i b. word i (ltb i (s .layout .mains)) refl),
+        ),
+        all-from (s .layout .mains) _ (λ i b. moved i (dirtySegment s i) refl),
       ),
-      all-from (s .layout .mains) _ (λ i b. moved i (dirtySegment s i) refl),
+      ap not (le-ltb eadr (s .domain) (v .domain)),
     )
   where
     word : (i : ℕ) (a : Bool) → ltb i (s .layout .mains) ≡ a → ltb (dirtyWord s i) (cond a (2 ^ s .layout .blocks) 1) ≡ true

@@ -15,8 +15,8 @@ use Rattle.model.specs.Range.{oneIf}
 use Rattle.model.specs.Layout.{blockWords}
 use Rattle.model.specs.Words.{Image}
 use Rattle.model.specs.Container.{activeLine}
-use Rattle.model.specs.Session.{isDirty, dirtyWord, dirtySegment}
-use Rattle.model.specs.Ops.{Ops, Trace, traceShort}
+use Rattle.model.specs.Session.{adr, isDirty, dirtyWord, dirtySegment}
+use Rattle.model.specs.Ops.{Ops, Trace, traceShort, forDomain}
 use Rattle.model.specs.Open.{recoveryOps, openErrors, openStatus}
 use Rattle.model.specs.Write.{WriteArgs, copyPlan, spanBad, writeOps, writeErrors, writeStatus}
 use Rattle.model.specs.Discard.{discardOps, discardErrors, discardStatus}
@@ -24,21 +24,23 @@ use Rattle.model.specs.Checkpoint.{checkpointOps, checkpointErrors, chec
 use Rattle.model.specs.Counts.{dirtyCount, dirtyTotal}
 use Rattle.model.specs.TraceLength.{TraceSuffices, WriteTraceSuffices, DiscardTraceSuffices, CheckpointTraceSuffices}
 use Rattle.model.proofs.Laws.Status.{given-condition, given-earlier}
-use Rattle.model.proofs.Laws.Counts.{recovery-most}
-use Rattle.model.proofs.Laws.Counts.Checkpoint.{length-checkpoint-ops}
-use Rattle.model.proofs.Laws.Counts.Discard.{length-discard}
-use Rattle.model.proofs.Laws.Counts.Write.{copyCount, spanCount, length-write}
+use Rattle.model.proofs.Laws.Domain.{domain-shorter}
+use Rattle.model.proofs.Laws.Counts.{count-adr, recovery-most}
+use Rattle.model.proofs.Laws.Counts.Checkpoint.{count-checkpoint}
+use Rattle.model.proofs.Laws.Counts.Discard.{count-discard}
+use Rattle.model.proofs.Laws.Counts.Write.{copyCount, spanCount, count-write}
 use Rattle.model.proofs.Laws.Range.{one-most, sum-most}
 use Rattle.model.proofs.Laws.Write.{span-good}
 
-pub long-enough : (O : Ops) (t : Trace) → 3 * length O ≤ length t → traceShort O t ≢ true
+-- a trace that is long enough for all operations of a rule is so for those that it has for a kind of module
+pub long-enough : (d : ℕ) (O : Ops) (t : Trace) → 3 * length O ≤ length t → traceShort (forDomain d O) t ≢ true
 unfolding traceShort
-long-enough O t h e = true≢false (sym e ∙ le-ltb (length t) (3 * length O) h)
+long-enough d O t h e = true≢false (sym e ∙ le-ltb (length t) (3 * length (forDomain d O)) (omega (arith, domain-shorter d O)))
 
 pub trace-suffices : TraceSuffices
 unfolding openStatus
-trace-suffices l I t h e =
-    long-enough (recoveryOps l I (activeLine I)) (t .trace) (omega (arith, recovery-most l I (activeLine I))) (given-condition 11 (openErrors l I t) (omega arith) e)
+trace-suffices l d I t h e =
+    long-enough d (recoveryOps l I (activeLine I)) (t .trace) (omega (arith, recovery-most l I (activeLine I))) (given-condition 11 (openErrors l d I t) (omega arith) e)
 
 -- ---- write
 
@@ -50,7 +52,7 @@ dirty-most word n = omega (arith, sum-most n 1 (λ b. oneIf (isDirty word b)) (�
 span-most : (l : Layout) (w : WriteArgs) → spanBad l w ≡ false → spanCount l w ≤ blockWords * l .blocks
 span-most l w h = let g = span-good l w h in omega (arith, g)
 
-copy-most : (l : Layout) (word : ℕ) (p : Plan) → copyCount l word p ≤ 36 * l .blocks + 6
+copy-most : (l : Layout) (word : ℕ) (p : Plan) → copyCount adr l word p ≤ 36 * l .blocks + 6
 copy-most l word NoCopy = omega arith
 copy-most l word (OwnBackup j) = omega (arith, dirty-most word (l .blocks))
 copy-most l word (NewBackup j) = omega arith
@@ -58,18 +60,18 @@ copy-most l word NoneFree = omega arith
 
 write-most : (s : Session) (I : Image) (w : WriteArgs) → spanBad (s .layout) w ≡ false
     → length (writeOps s I w) ≤ 36 * s .layout .blocks + 6 + blockWords * s .layout .blocks
-write-most s I w h = omega (arith, span-most (s .layout) w h, length-write s I w, copy-most (s .layout) (dirtyWord s (w .main)) (copyPlan s I (w .main)))
+write-most s I w h = omega (arith, span-most (s .layout) w h, count-adr (writeOps s I w) (count-write adr s I w), copy-most (s .layout) (dirtyWord s (w .main)) (copyPlan s I (w .main)))
 
 pub write-trace-suffices : WriteTraceSuffices
 unfolding writeStatus
 write-trace-suffices s I w t h e =
-    long-enough (writeOps s I w) (t .trace) (omega (arith, write-most s I w (given-earlier 11 (writeErrors s I w t) (omega arith) e 8)))
+    long-enough (s .domain) (writeOps s I w) (t .trace) (omega (arith, write-most s I w (given-earlier 11 (writeErrors s I w t) (omega arith) e 8)))
     (given-condition 11 (writeErrors s I w t) (omega arith) e)
 
 -- ---- discard
 
 discard-most : (s : Session) (I : Image) (i : ℕ) → length (discardOps s I i) ≤ blockWords * s .layout .blocks
-discard-most s I i = go (dirtySegment s i) (length-discard s I i)
+discard-most s I i = go (dirtySegment s i) (count-adr (discardOps s I i) (count-discard adr s I i))
   where
     go : (d : Bool) → length (discardOps s I i) ≡ cond d (32 * dirtyCount (dirtyWord s i) (s .layout .blocks)) 0 → length (discardOps s I i) ≤ 32 * s .layout .blocks
     go true e = omega (arith, dirty-most (dirtyWord s i) (s .layout .blocks))
@@ -78,7 +80,7 @@ discard-most s I i = go (dirtySegment s i) (length-discard s I i)
 pub discard-trace-suffices : DiscardTraceSuffices
 unfolding discardStatus
 discard-trace-suffices s I i t h e =
-    long-enough (discardOps s I i) (t .trace) (omega (arith, discard-most s I i)) (given-condition 11 (discardErrors s I i t) (omega arith) e)
+    long-enough (s .domain) (discardOps s I i) (t .trace) (omega (arith, discard-most s I i)) (given-condition 11 (discardErrors s I i t) (omega arith) e)
 
 -- ---- checkpoint
 
@@ -89,5 +91,5 @@ total-most l words = sum-most (l .mains) (l .blocks) _ (λ i h. dirty-most (getD
 pub checkpoint-trace-suffices : CheckpointTraceSuffices
 unfolding checkpointStatus
 checkpoint-trace-suffices s I t h e =
-    long-enough (checkpointOps s I) (t .trace) (omega (arith, length-checkpoint-ops s I, total-most (s .layout) (s .«dirty_blocks»)))
+    long-enough (s .domain) (checkpointOps s I) (t .trace) (omega (arith, count-adr (checkpointOps s I) (count-checkpoint s I adr), total-most (s .layout) (s .«dirty_blocks»)))
     (given-condition 11 (checkpointErrors s I t) (omega arith) e)

@@ -56,15 +56,15 @@ module _ (l : Layout) (I : Image) (P : Contents) (r : Recoverable l I P) where
   shows = recovery-shows l line whole I P r
 
   -- the invariant after an opening whose lines are settled
-  pub opened : (O : Ops) → ((i : ℕ) → i < 512 → Settled (i / 64) O)
+  pub opened : (d : ℕ) (O : Ops) → ((i : ℕ) → i < 512 → Settled (i / 64) O)
       → ((i x : ℕ) → i < l .mains → x < segmentSize l → Settled ((mainAt l i + x) / 64) O)
       → ((j x : ℕ) → j < l .backups → x < segmentSize l → Settled ((backupAt l j + x) / 64) O)
-      → Invariant l O (replay (recoveryOps l I (activeLine I)) I) (freshSession l) P P
-  opened O firm-meta firm-segment firm-backup = record {
+      → Invariant l O (replay (recoveryOps l I (activeLine I)) I) (freshSession l d) P P
+  opened d O firm-meta firm-segment firm-backup = record {
     recovers = recoverable-alike l I K P alike r;
     working = shows;
-    low = λ i e. absurd (true≢false (sym e ∙ fresh-segment l i));
-    moved = λ i e. absurd (true≢false (sym e ∙ fresh-segment l i));
+    low = λ i e. absurd (true≢false (sym e ∙ fresh-segment l d i));
+    moved = λ i e. absurd (true≢false (sym e ∙ fresh-segment l d i));
     clean = λ i x h k e. refl;
     twin = λ i j x h m k e d. backup-shows l line whole I P r i j x h m k (sym (alike .pairs j (omega (arith, r .fit .sizes .1))) ∙ e) ∙ sym (shows i x h k);
     blank = λ i x h k e d. shows i x h k ∙ r .holds .initial i x h k (sym (alike-state l I K alike i (omega (arith, r .fit .sizes .0))) ∙ e);
@@ -75,8 +75,8 @@ module _ (l : Layout) (I : Image) (P : Contents) (r : Recoverable l I P) where
   }
 
   -- the start of a history: all is durable
-  pub opened-durable : Invariant l [] (replay (recoveryOps l I (activeLine I)) I) (freshSession l) P P
-  opened-durable = opened [] (λ i h. settled-nil (i / 64)) (λ i x h k. settled-nil _) (λ j x h k. settled-nil _)
+  pub opened-durable : (d : ℕ) → Invariant l [] (replay (recoveryOps l I (activeLine I)) I) (freshSession l d) P P
+  opened-durable d = opened d [] (λ i h. settled-nil (i / 64)) (λ i x h k. settled-nil _) (λ j x h k. settled-nil _)
 
 -- ---- an opening in the course of a history
 
@@ -112,7 +112,7 @@ module _ (l : Layout) (O : Ops) (I₀ : Image) (s : Session) (P W : Contents) (h
       go (no e) = unfold recoveryOps in (settles-fence ℓ (cat (l .mains) (turn l (activeLine I) I))
           (turns-flushed l (activeLine I) (committedEpoch I, refl) I P rec i ℓ h e (omega arith) (omega arith)) O)
 
-  pub reopen-done : Invariant l (O ++ G) (replay (O ++ G) I₀) (freshSession l) P P
-  reopen-done = subst (λ (X : Image). Invariant l (O ++ G) X (freshSession l) P P) (sym (replay-append O G I₀))
-      (opened l I P rec (O ++ G) (λ i h. recovery-keeps l (activeLine I) I (i / 64) O (inv .firmMeta i h)) firm-main
+  pub reopen-done : (d : ℕ) → Invariant l (O ++ G) (replay (O ++ G) I₀) (freshSession l d) P P
+  reopen-done d = subst (λ (X : Image). Invariant l (O ++ G) X (freshSession l d) P P) (sym (replay-append O G I₀))
+      (opened l I P rec d (O ++ G) (λ i h. recovery-keeps l (activeLine I) I (i / 64) O (inv .firmMeta i h)) firm-main
       (λ j x h k. recovery-keeps l (activeLine I) I _ O (inv .firmBackup j x h k)))

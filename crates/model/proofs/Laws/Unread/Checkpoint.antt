@@ -11,7 +11,7 @@ use Rattle.model.specs.Words.{Image, wordOf}
 use Rattle.model.specs.Layout.{wordSize, lineWords, epochAt, stateLine}
 use Rattle.model.specs.Container.{activeState, inactiveLine}
 use Rattle.model.specs.Session.{isDirty}
-use Rattle.model.specs.Ops.{store, clwb, sfence, Ops, traceShort, stores}
+use Rattle.model.specs.Ops.{store, clwb, sfence, Ops, traceShort, stores, forDomain}
 use Rattle.model.specs.Checkpoint.{flushDirty, nextState, nextStates, statesOps, epochOps, checkpointOps, checkpointStatus, checkpointOutcome}
 use Rattle.model.specs.Unread.{AgreeNamed}
 use Rattle.model.proofs.Laws.Words.{word-cong}
@@ -35,8 +35,8 @@ module _ {I J : Image} (same : AgreeNamed I J) where
       error-ext 5 _ _ _ _ (ap not (session-same same s sizes)) (λ a.
       error-ext 13 _ _ _ _ refl (λ d.
       error-ext 10 _ _ _ _ (ap (λ (e : ℕ). eqb e (2 ^ 64 - 1)) (epoch-same same)) (λ b.
-      error-ext 11 _ _ _ _ (ap (λ (O : Ops). traceShort O (t .trace)) (checkpoint-ops-same s)) (λ c. refl)))))
+      error-ext 11 _ _ _ _ (ap (λ (O : Ops). traceShort (forDomain (s .domain) O) (t .trace)) (checkpoint-ops-same s)) (λ c. refl)))))
 
   pub checkpoint-unread : (s : Session) (t : Lent) → checkpointOutcome s I t ≡ checkpointOutcome s J t
   unfolding checkpointOutcome
-  checkpoint-unread s t = outcome-same _ _ s _ (checkpoint-status-unread s t) (λ z. refl) (λ z. refl) (λ z. checkpoint-ops-same s)
+  checkpoint-unread s t = outcome-same _ _ s _ (s .domain) (checkpoint-status-unread s t) (λ z. refl) (λ z. refl) (λ z. checkpoint-ops-same s)

@@ -14,7 +14,7 @@ use Rattle.model.specs.Words.{Image}
 use Rattle.model.specs.Layout.{wordSize, blockSize, mainAt, SizesOk}
 use Rattle.model.specs.Container.{activeLine, checkpointLocated}
 use Rattle.model.specs.Session.{isDirty, dirtyWord, dirtySegment}
-use Rattle.model.specs.Ops.{Ops, putBlock, traceShort}
+use Rattle.model.specs.Ops.{Ops, putBlock, traceShort, forDomain}
 use Rattle.model.specs.Discard.{locatedWord, restoreDirty, discardOps, discardErrors, discardStatus, discardOutcome}
 use Rattle.model.specs.Unread.{AgreeNamed}
 use Rattle.model.proofs.Laws.Range.{cat-ext}
@@ -46,9 +46,9 @@ module _ {I J : Image} (same : AgreeNamed I J) where
   discard-status-unread s i t = errors-same same (s .layout) _ _ (λ sizes v.
       error-ext 5 _ _ _ _ (ap not (session-same same s sizes)) (λ a.
       error-ext 6 _ _ _ _ refl (λ b.
-      error-ext 11 _ _ _ _ (ap (λ (O : Ops). traceShort O (t .trace)) (discard-ops-same s i sizes (leb-false _ _ b))) (λ c. refl))))
+      error-ext 11 _ _ _ _ (ap (λ (O : Ops). traceShort (forDomain (s .domain) O) (t .trace)) (discard-ops-same s i sizes (leb-false _ _ b))) (λ c. refl))))
 
   pub discard-unread : (s : Session) (i : ℕ) (t : Lent) → discardOutcome s I i t ≡ discardOutcome s J i t
   unfolding discardOutcome discardStatus
-  discard-unread s i t = outcome-same _ _ s _ (discard-status-unread s i t) (λ z. refl) (λ z. refl)
+  discard-unread s i t = outcome-same _ _ s _ (s .domain) (discard-status-unread s i t) (λ z. refl) (λ z. refl)
       (λ z. discard-ops-same s i (container-then (s .layout) I _ z .0 .sizes) (leb-false _ _ (served-condition (discardErrors s I i t) (omega arith) z 6)))

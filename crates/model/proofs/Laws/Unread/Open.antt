@@ -12,8 +12,8 @@ use Rattle.model.specs.Words.{Image}
 use Rattle.model.specs.Layout.{wordSize, blockSize, metadataSize, blockLines, SizesOk, mainAt, backupAt}
 use Rattle.model.specs.Status.{firstError}
 use Rattle.model.specs.Container.{activeLine}
-use Rattle.model.specs.Session.{zeroSession}
-use Rattle.model.specs.Ops.{sfence, Ops, traceErrors, clwbs, putBlock, persistCopy, copySegment}
+use Rattle.model.specs.Session.{zeroSession, domainErrors}
+use Rattle.model.specs.Ops.{sfence, Ops, traceErrors, forDomain, clwbs, putBlock, persistCopy, copySegment}
 use Rattle.model.specs.Open.{recoveryAction, actionOps, recoverSegment, recoveryOps, openStatus, openOutcome}
 use Rattle.model.specs.Unread.{AgreeNamed}
 use Rattle.model.proofs.Laws.Range.{cat-ext}
@@ -44,10 +44,11 @@ module _ {I J : Image} (same : AgreeNamed I J) where
       ∙ ap₂ (λ (j : ℕ) (a : Action). actionOps l J i j a) (backup-same same l sizes i)
       (ap₂ recoveryAction (state-same same i (omega arith)) (paired-same same l sizes i))))
 
-  pub open-status-unread : (l : Layout) (t : Lent) → openStatus l I t ≡ openStatus l J t
+  pub open-status-unread : (l : Layout) (d : ℕ) (t : Lent) → openStatus l d I t ≡ openStatus l d J t
   unfolding openStatus
-  open-status-unread l t = errors-same same l _ _ (λ sizes v. ap (λ (O : Ops). firstError (clientsErrors l (t .clients) ++ traceErrors O (t .trace))) (recovery-same l sizes))
+  open-status-unread l d t = errors-same same l _ _ (λ sizes v.
+      ap (λ (O : Ops). firstError (domainErrors d ++ clientsErrors l (t .clients) ++ traceErrors (forDomain d O) (t .trace))) (recovery-same l sizes))
 
-  pub open-unread : (l : Layout) (t : Lent) → openOutcome l I t ≡ openOutcome l J t
+  pub open-unread : (l : Layout) (d : ℕ) (t : Lent) → openOutcome l d I t ≡ openOutcome l d J t
   unfolding openOutcome openStatus
-  open-unread l t = outcome-same _ _ zeroSession _ (open-status-unread l t) (λ z. refl) (λ z. refl) (λ z. recovery-same l (container-then l I _ z .0 .sizes))
+  open-unread l d t = outcome-same _ _ zeroSession _ d (open-status-unread l d t) (λ z. refl) (λ z. refl) (λ z. recovery-same l (container-then l I _ z .0 .sizes))

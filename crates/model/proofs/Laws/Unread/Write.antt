@@ -16,7 +16,7 @@ use Rattle.model.specs.Words.{Image, byteAt, wordOf, overlay}
 use Rattle.model.specs.Layout.{most, pairsAt, ssMain, ssBackup, SizesOk, stateLine}
 use Rattle.model.specs.Container.{committedEpoch, activeLine, segState, backupToMain, Valid, isPaired, pairedBackup}
 use Rattle.model.specs.Session.{isDirty, dirtySegment, dirtyWord, withDirty}
-use Rattle.model.specs.Ops.{store, clwb, sfence, Ops, traceShort, wordPlace}
+use Rattle.model.specs.Ops.{store, clwb, sfence, Ops, traceShort, wordPlace, forDomain}
 use Rattle.model.specs.Write.{WriteArgs, needsCopy, copyPlan, copies, noneFree, pairOps, copyDirty, backupOps, stateOps, copyOnWriteOps, spanAt, spanBlocks, spanOps, writeOps, writeSession, writeClients, writeErrors, writeStatus, writeOutcome}
 use Rattle.model.specs.Unread.{AgreeNamed}
 use Rattle.model.proofs.Laws.Range.{cat-ext}
@@ -109,11 +109,11 @@ module _ {I J : Image} (same : AgreeNamed I J) where
       error-ext 9 _ _ _ _ (ap (λ (p : Plan). noneFree p) (plan-same s (w .main) sizes v (omega arith))) (λ e.
       error-ext 14 _ _ _ _ (ap (λ (p : Plan). cond (copies p) (quotaReached (t .clients) (w .client)) false) (plan-same s (w .main) sizes v (omega arith))) (λ y.
       error-ext 15 _ _ _ _ (ap₂ (λ (p : Plan) (free : ℕ). cond (copies p) (allReserved (t .clients) (w .client) free) false) (plan-same s (w .main) sizes v (omega arith)) (count-free-same same (s .layout) sizes v)) (λ z.
-      error-ext 11 _ _ _ _ (ap (λ (O : Ops). traceShort O (t .trace)) (write-ops-same s w sizes v m)) (λ f. refl))))))))))
+      error-ext 11 _ _ _ _ (ap (λ (O : Ops). traceShort (forDomain (s .domain) O) (t .trace)) (write-ops-same s w sizes v m)) (λ f. refl))))))))))
 
   pub write-unread : (s : Session) (w : WriteArgs) (t : Lent) → writeOutcome s I w t ≡ writeOutcome s J w t
   unfolding writeOutcome writeSession writeClients writeStatus
-  write-unread s w t = outcome-same _ _ s _ (write-status-unread s w t)
+  write-unread s w t = outcome-same _ _ s _ (s .domain) (write-status-unread s w t)
       (λ z. ap (λ (b : Bool). withDirty s (w .main) (w .block) (spanBlocks w) (cond b 0 (dirtyWord s (w .main)))) (needs-copy-same s (w .main) (omega (arith, ok z .sizes, below z))))
       (λ z. ap (λ (b : Bool). cond b (charged (t .clients) (w .client)) (t .clients)) (needs-copy-same s (w .main) (omega (arith, ok z .sizes, below z))))
       (λ z. write-ops-same s w (ok z .sizes) (ok z .valid) (below z))
