@@ -61,4 +61,4 @@ pub refused-parts : (s : Session) (I : Image) (R : Clients) (t : Trace) (k : Sta
     → Gives (checkpointOutcome s I (lent R t)) t (checkpointedAnswer s (record { status = k; ops = 0 })) t (checkpointedClients R (record { status = k; ops = 0 }))
 unfolding checkpointOutcome
 refused-parts s I R t k p n =
-    rw n (gives-refused (checkpointStatus s I (lent R t)) s (withCheckpoint s) R (cleared R) (checkpointOps s I) t (record { status = k; session = s; ops = 0 }) (refl, refl, refl) p n refl)
+    rw n (gives-refused (checkpointStatus s I (lent R t)) s (withCheckpoint s) R (cleared R) (s .domain) (checkpointOps s I) t (record { status = k; session = s; ops = 0 }) (refl, refl, refl) p n refl)

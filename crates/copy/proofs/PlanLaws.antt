@@ -23,9 +23,9 @@ use Rattle.copy.specs.Steps.{CopiesTo}
 module _ (l : Layout) (segments : ℕ) (I : Image) (i : ℕ) where
   -- a segment that is dirty or not in state 1 needs no copy
   copy-test : (line : ℕ) (dirty : Bool) → line ≡ activeLine I → dirty ≡ isDirty segments i
-      → (words : List ℕ) → needsCopy (sessionOf l segments words) I i ≡ not (dirty || not (eqb (byteAt I (line + i)) 1))
+      → (words : List ℕ) (k : ℕ) → needsCopy (sessionOf l segments words k) I i ≡ not (dirty || not (eqb (byteAt I (line + i)) 1))
   unfolding needsCopy dirtySegment
-  copy-test line dirty e d words = rw (e, d) (go (isDirty segments i) (eqb (activeState I i) 1))
+  copy-test line dirty e d words k = rw (e, d) (go (isDirty segments i) (eqb (activeState I i) 1))
     where
       go : (a b : Bool) → (not a && b) ≡ not (a || not b)
       go true b = refl
@@ -34,12 +34,12 @@ module _ (l : Layout) (segments : ℕ) (I : Image) (i : ℕ) where
 
   -- the plan of a session with these parts
   abbrev pub PlanIs : Plan → Type 0
-  PlanIs p = ((words : List ℕ) → p ≡ copyPlan (sessionOf l segments words) I i) × CopiesTo l p
+  PlanIs p = ((words : List ℕ) (k : ℕ) → p ≡ copyPlan (sessionOf l segments words k) I i) × CopiesTo l p
 
   module _ (line : ℕ) (dirty : Bool) (e : line ≡ activeLine I) (d : dirty ≡ isDirty segments i) where
     pub no-copy : (dirty || not (eqb (byteAt I (line + i)) 1)) ≡ true → PlanIs NoCopy
     unfolding copyPlan
-    no-copy h = (λ words. rw (copy-test line dirty e d words, h), tt)
+    no-copy h = (λ words k. rw (copy-test line dirty e d words k, h), tt)
 
     module _ (h : (dirty || not (eqb (byteAt I (line + i)) 1)) ≡ false) where
       -- else it goes to its own backup segment, or to the new one, or none is free
@@ -48,7 +48,7 @@ module _ (l : Layout) (segments : ℕ) (I : Image) (i : ℕ) where
       own-backup j p =
           let q = found-backup (l .backups) (pairedBackup l (backupToMain I) i) j p in
           let x : isPaired l (backupToMain I) i ≡ true = is-paired l (backupToMain I) i ∙ lt-ltb _ _ (q .1) in
-          (λ words. rw (copy-test line dirty e d words, h, x) (ap OwnBackup (q .0)), omega (arith, q))
+          (λ words k. rw (copy-test line dirty e d words k, h, x) (ap OwnBackup (q .0)), omega (arith, q))
 
       module _ (v : Valid l (activeState I) (backupToMain I)) (p : Missing ≡ foundBelow (l .backups) (pairedBackup l (backupToMain I) i)) where
         unpaired : isPaired l (backupToMain I) i ≡ false
@@ -62,10 +62,10 @@ module _ (l : Layout) (segments : ℕ) (I : Image) (i : ℕ) where
         new-backup j c =
             let q = found-backup (l .backups) (newBackup l (activeState I) (backupToMain I)) j c in
             let x : anyFree l (activeState I) (backupToMain I) ≡ true = some-free ∙ lt-ltb _ _ (q .1) in
-            (λ words. rw (copy-test line dirty e d words, h, unpaired, x) (ap NewBackup (q .0)), omega (arith, q))
+            (λ words k. rw (copy-test line dirty e d words k, h, unpaired, x) (ap NewBackup (q .0)), omega (arith, q))
 
         pub none-free : Missing ≡ foundBelow (l .backups) (newBackup l (activeState I) (backupToMain I)) → PlanIs NoneFree
         unfolding copyPlan
         none-free c =
             let x : anyFree l (activeState I) (backupToMain I) ≡ false = some-free ∙ le-ltb _ _ (found-missing (l .backups) _ c) in
-            (λ words. rw (copy-test line dirty e d words, h, unpaired, x), tt)
+            (λ words k. rw (copy-test line dirty e d words k, h, unpaired, x), tt)

@@ -88,4 +88,4 @@ pub refused-parts : (s : Session) (I : Image) (i : ℕ) (R : Clients) (t : Trace
     → Gives (discardOutcome s I i (lent R t)) t (discardedAnswer s (record { status = k; ops = 0 })) t R
 unfolding discardOutcome
 refused-parts s I i R t k p n =
-    gives-refused (discardStatus s I i (lent R t)) s s R R (discardOps s I i) t (record { status = k; session = s; ops = 0 }) (refl, refl, refl) p n refl
+    gives-refused (discardStatus s I i (lent R t)) s s R R (s .domain) (discardOps s I i) t (record { status = k; session = s; ops = 0 }) (refl, refl, refl) p n refl

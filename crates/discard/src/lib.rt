@@ -18,6 +18,7 @@ ghost use Rattle.model.specs.Layout.{most, SizesOk, imageSize};
 ghost use Rattle.model.specs.Status.{codeOf, firstError};
 ghost use Rattle.model.specs.Container.{activeState, activeLine, backupToMain, Valid, checkpointLocated, mainErrors};
 ghost use Rattle.model.specs.Session.{isDirty, contextErrors};
+ghost use Rattle.model.specs.Ops.{forDomain};
 ghost use Rattle.model.specs.Clients.{Clients};
 ghost use Rattle.model.specs.Outcome.{lent, Gives};
 ghost use Rattle.model.specs.Discard.{restoreDirty, discardOutcome};
@@ -28,11 +29,18 @@ ghost use Rattle.discard.specs.Discarded.{discardedAnswer};
 // ---- refusals
 
 // The first of refusals 1 to 6 that applies, for the session of these parts.
-fn discard_status(image: &[u8], layout: Layout, segments: u64, words: &[u64], main: u64) -> Status
+fn discard_status(
+    image: &[u8],
+    layout: Layout,
+    segments: u64,
+    words: &[u64],
+    domain: u64,
+    main: u64,
+) -> Status
     requires { ⌜ most ≤ length (now words) ⌝ }
-    ensures { λ r. ⌜ codeOf r ≡ firstError (contextErrors (sessionOf layout segments (now (words .entry))) (now (image .entry)) ++ mainErrors layout main) ⌝ }
+    ensures { λ r. ⌜ codeOf r ≡ firstError (contextErrors (sessionOf layout segments (now (words .entry)) domain) (now (image .entry)) ++ mainErrors layout main) ⌝ }
 {
-    let context = session::context_status(image, layout, segments, words);
+    let context = session::context_status(image, layout, segments, words, domain);
     if !context.is_served() {
         return context;
     }
@@ -53,29 +61,46 @@ fn discarded_blocks(segments: u64, words: &[u64], main: u64) -> u64
     word
 }
 
-// How many operations that is, wherever the checkpoint stands.
+// How many operations that is, wherever the checkpoint stands and whatever the kind of module: none of them is a write-back.
 fn discard_length(word: u64) -> u64
-    ensures { λ r. ⌜ ((l : Layout) (I : Image) (i : ℕ) (from : Located) → word < 2 ^ l .blocks → r ≡ length (restoreDirty l I word i from)) × (r ≤ 2 ^ 33) ⌝ }
+    ensures { λ r. ⌜ ((d : ℕ) (l : Layout) (I : Image) (i : ℕ) (from : Located) → word < 2 ^ l .blocks → r ≡ length (forDomain d (restoreDirty l I word i from))) × (r ≤ 2 ^ 33) ⌝ }
 {
     Layout::BLOCK_WORDS * session::dirty_count(word)
 }
 
 // Writes them from the start of the trace: the blocks of the word, stored as they stand where the checkpoint of the main segment stands,
 // or zeros. The number of the next operation.
-fn put_discard(image: &[u8], layout: Layout, word: u64, main: u64, trace: &mut [u64]) -> usize
+fn put_discard(
+    image: &[u8],
+    layout: Layout,
+    word: u64,
+    main: u64,
+    domain: u64,
+    trace: &mut [u64],
+) -> usize
     requires { ⌜ (main < layout .mains) × SizesOk layout × (length (now image) ≡ imageSize layout) × (word < 2 ^ layout .blocks) ⌝ }
     requires { ⌜ Valid layout (activeState (now image)) (backupToMain (now image)) ⌝ }
-    requires { ⌜ Fits (now trace) 0 (restoreDirty layout (now image) word main (checkpointLocated layout (now image) (activeLine (now image)) main)) ⌝ }
-    ensures { λ r. ⌜ Emitted (now (trace .entry)) 0 (restoreDirty layout (now (image .entry)) word main (checkpointLocated layout (now (image .entry)) (activeLine (now (image .entry))) main)) (now (trace .exit)) r ⌝ }
+    requires { ⌜ Fits domain (now trace) 0 (restoreDirty layout (now image) word main (checkpointLocated layout (now image) (activeLine (now image)) main)) ⌝ }
+    ensures { λ r. ⌜ Emitted domain (now (trace .entry)) 0 (restoreDirty layout (now (image .entry)) word main (checkpointLocated layout (now (image .entry)) (activeLine (now (image .entry))) main)) (now (trace .exit)) r ⌝ }
 {
     let blocks = layout.blocks;
     let to = places::main_at(layout, main);
     let active = metadata::active_at(image);
     let located = metadata::checkpoint_located(image, layout, active, main);
     match located {
-        Located::Nowhere => segments::put_dirty_zeros(blocks, word, to, trace, 0),
+        Located::Nowhere => segments::put_dirty_zeros(blocks, word, to, domain, trace, 0),
         Located::At(from) => {
-            segments::put_dirty_copies(image, blocks, word, from as usize, to, false, trace, 0)
+            segments::put_dirty_copies(
+                image,
+                blocks,
+                word,
+                from as usize,
+                to,
+                false,
+                domain,
+                trace,
+                0,
+            )
         }
     }
 }
@@ -96,13 +121,14 @@ pub fn discard_parts(
     layout: Layout,
     segments: u64,
     words: &[u64],
+    domain: u64,
     main: u64,
     trace: &mut [u64],
 ) -> Discarded
     requires { ⌜ most ≤ length (now words) ⌝ }
-    ensures { λ r. ⌜ ((R : Clients) → Gives (discardOutcome (sessionOf layout segments (now (words .entry))) (now (image .entry)) main (lent R (now (trace .entry)))) (now (trace .entry)) (discardedAnswer (sessionOf layout segments (now (words .entry))) r) (now (trace .exit)) R) ⌝ }
+    ensures { λ r. ⌜ ((R : Clients) → Gives (discardOutcome (sessionOf layout segments (now (words .entry)) domain) (now (image .entry)) main (lent R (now (trace .entry)))) (now (trace .entry)) (discardedAnswer (sessionOf layout segments (now (words .entry)) domain) r) (now (trace .exit)) R) ⌝ }
 {
-    let status = discard_status(image, layout, segments, words, main);
+    let status = discard_status(image, layout, segments, words, domain, main);
     if !status.is_served() {
         return Discarded {
             status: status,
@@ -118,7 +144,7 @@ pub fn discard_parts(
             ops: 0,
         };
     }
-    put_discard(image, layout, word, main, trace);
+    put_discard(image, layout, word, main, domain, trace);
     Discarded {
         status: Status::Served,
         ops: ops,
@@ -133,7 +159,8 @@ pub fn crpm_discard(image: &[u8], session: Session, main: u64, trace: &mut [u64]
     let layout = session.layout;
     let segments = session.dirty_segments;
     let words = &session.dirty_blocks;
-    let done = discard_parts(image, layout, segments, words, main, trace);
+    let domain = session.domain;
+    let done = discard_parts(image, layout, segments, words, domain, main, trace);
     let status = done.status;
     Answer {
         status: status,

@@ -11,8 +11,8 @@ use Rattle.model.specs.Words.{Image}
 use Rattle.model.specs.Layout.{most, SizesOk, imageSize}
 use Rattle.model.specs.Status.{Errors, firstError}
 use Rattle.model.specs.Container.{segState, backupToMain, Valid, isPaired, validErrors}
-use Rattle.model.specs.Session.{isDirty, freshSession, zeroSession}
-use Rattle.model.specs.Ops.{traceErrors}
+use Rattle.model.specs.Session.{isDirty, freshSession, zeroSession, domainErrors}
+use Rattle.model.specs.Ops.{forDomain, traceErrors}
 use Rattle.model.specs.Clients.{clientsErrors, cleared}
 use Rattle.model.specs.Open.{recoveryOps}
 use Rattle.model.specs.Outcome.{Lent, Outcome, outcomeOf}
@@ -35,11 +35,12 @@ takesBackup ZeroMain = false
 takesBackup CopyToBackup = true
 takesBackup CopyToMain = true
 
--- ---- refusals and outcome of recovery of an image that refusals 1 to 3 let pass
+-- ---- refusals and outcome of recovery, for a kind d of module, of an image that refusals 1 to 3 let pass
 
-abbrev pub recoveryErrors : Layout → Image → ℕ → Lent → Errors
-recoveryErrors l I line k = validErrors l I line ++ clientsErrors l (k .clients) ++ traceErrors (recoveryOps l I line) (k .trace)
+abbrev pub recoveryErrors : Layout → ℕ → Image → ℕ → Lent → Errors
+recoveryErrors l d I line k =
+    validErrors l I line ++ domainErrors d ++ clientsErrors l (k .clients) ++ traceErrors (forDomain d (recoveryOps l I line)) (k .trace)
 
-unfoldable pub recoveryOutcome : Layout → Image → ℕ → Lent → Outcome
-recoveryOutcome l I line k =
-    outcomeOf (firstError (recoveryErrors l I line k)) zeroSession (freshSession l) (k .clients) (cleared (k .clients)) (recoveryOps l I line)
+unfoldable pub recoveryOutcome : Layout → ℕ → Image → ℕ → Lent → Outcome
+recoveryOutcome l d I line k =
+    outcomeOf (firstError (recoveryErrors l d I line k)) zeroSession (freshSession l d) (k .clients) (cleared (k .clients)) d (recoveryOps l I line)

@@ -1,5 +1,6 @@
 // Opening, which recovers (SPECIFICATION 9): each main segment is treated by the table of states and pairs, so that its
-// bytes are the checkpoint again. What recovery does is given a line of states; an opening goes by the active one.
+// bytes are the checkpoint again. What recovery does is given a line of states; an opening goes by the active one. Every function
+// `put_..` writes the operations that the trace has for the kind of module.
 use clients::Run;
 use metadata::Found;
 use model::Action;
@@ -14,7 +15,8 @@ ghost use lib.ListN.{length};
 ghost use Rattle.model.specs.Layout.{layoutOf, most, pairsEnd, ssBackup, SizesOk, imageSize};
 ghost use Rattle.model.specs.Status.{codeOf, firstError, served};
 ghost use Rattle.model.specs.Container.{segState, backupToMain, isPaired, pairedBackup};
-ghost use Rattle.model.specs.Session.{zeroSession};
+ghost use Rattle.model.specs.Session.{zeroSession, domainErrors};
+ghost use Rattle.model.specs.Ops.{forDomain};
 ghost use Rattle.model.specs.Clients.{Clients, clientsErrors, cleared};
 ghost use Rattle.model.specs.Outcome.{lent, Gives};
 ghost use Rattle.model.specs.Open.{recoveryAction, actionOps, recoverSegment, recoveryOps, openOutcome};
@@ -80,30 +82,32 @@ fn put_action(
     i: u64,
     j: u64,
     action: Action,
+    domain: u64,
     trace: &mut [u64],
     n: usize,
 ) -> usize
     requires { ⌜ (i < layout .mains) × (takesBackup action ≡ true → j < layout .backups) × SizesOk layout × (length (now image) ≡ imageSize layout) ⌝ }
-    requires { ⌜ Fits (now trace) n (actionOps layout (now image) i j action) ⌝ }
-    ensures { λ r. ⌜ Emitted (now (trace .entry)) n (actionOps layout (now (image .entry)) i j action) (now (trace .exit)) r ⌝ }
+    requires { ⌜ Fits domain (now trace) n (actionOps layout (now image) i j action) ⌝ }
+    ensures { λ r. ⌜ Emitted domain (now (trace .entry)) n (actionOps layout (now (image .entry)) i j action) (now (trace .exit)) r ⌝ }
 {
     match action {
         Action::Nothing => n,
         Action::ZeroMain => segments::put_segment_zero(
             layout,
             places::main_at(layout, i),
+            domain,
             trace,
             n,
         ),
         Action::CopyToBackup => {
             let from = places::main_at(layout, i);
             let to = places::backup_at(layout, j);
-            segments::put_segment_copy(image, layout, from, to, trace, n)
+            segments::put_segment_copy(image, layout, from, to, domain, trace, n)
         }
         Action::CopyToMain => {
             let from = places::backup_at(layout, j);
             let to = places::main_at(layout, i);
-            segments::put_segment_copy(image, layout, from, to, trace, n)
+            segments::put_segment_copy(image, layout, from, to, domain, trace, n)
         }
     }
 }
@@ -115,16 +119,17 @@ fn put_segment(
     line: usize,
     paired: u64,
     i: usize,
+    domain: u64,
     trace: &mut [u64],
     n: usize,
 ) -> usize
     requires { ⌜ (i < layout .mains) × ValidBy layout (now image) line × PairedSet layout (now image) paired ⌝ }
-    requires { ⌜ Fits (now trace) n (recoverSegment layout (now image) line i) ⌝ }
-    ensures { λ r. ⌜ Emitted (now (trace .entry)) n (recoverSegment layout (now (image .entry)) line i) (now (trace .exit)) r ⌝ }
+    requires { ⌜ Fits domain (now trace) n (recoverSegment layout (now image) line i) ⌝ }
+    ensures { λ r. ⌜ Emitted domain (now (trace .entry)) n (recoverSegment layout (now (image .entry)) line i) (now (trace .exit)) r ⌝ }
 {
     let action = segment_action(image, layout, line, paired, i);
     let j = backup_of(image, layout, i as u64);
-    put_action(image, layout, i as u64, j, action, trace, n)
+    put_action(image, layout, i as u64, j, action, domain, trace, n)
 }
 
 // ---- all segments
@@ -144,12 +149,12 @@ fn count_treated(image: &[u8], layout: Layout, line: usize, paired: u64) -> u64
     sum
 }
 
-// The number of the operations of recovery.
-fn recovery_length(image: &[u8], layout: Layout, line: usize, paired: u64) -> u64
+// The number of the operations of recovery on the trace for a kind of module.
+fn recovery_length(image: &[u8], layout: Layout, line: usize, paired: u64, domain: u64) -> u64
     requires { ⌜ ValidBy layout (now image) line × PairedSet layout (now image) paired ⌝ }
-    ensures { λ r. ⌜ (r ≡ length (recoveryOps layout (now (image .entry)) line)) × (r < 2 ^ 32) ⌝ }
+    ensures { λ r. ⌜ (r ≡ length (forDomain domain (recoveryOps layout (now (image .entry)) line))) × (r < 2 ^ 32) ⌝ }
 {
-    Layout::BLOCK_OPS * layout.blocks * count_treated(image, layout, line, paired) + 1
+    trace::copied_ops(domain) * layout.blocks * count_treated(image, layout, line, paired) + 1
 }
 
 // Writes the operations of recovery: the main segments upward, then one fence.
@@ -158,18 +163,19 @@ fn put_recovery(
     layout: Layout,
     line: usize,
     paired: u64,
+    domain: u64,
     trace: &mut [u64],
     n: usize,
 ) -> usize
     requires { ⌜ ValidBy layout (now image) line × PairedSet layout (now image) paired ⌝ }
-    requires { ⌜ Fits (now trace) n (recoveryOps layout (now image) line) ⌝ }
-    ensures { λ r. ⌜ Emitted (now (trace .entry)) n (recoveryOps layout (now (image .entry)) line) (now (trace .exit)) r ⌝ }
+    requires { ⌜ Fits domain (now trace) n (recoveryOps layout (now image) line) ⌝ }
+    ensures { λ r. ⌜ Emitted domain (now (trace .entry)) n (recoveryOps layout (now (image .entry)) line) (now (trace .exit)) r ⌝ }
 {
     let mains = layout.mains as usize;
     let mut next = n;
     let mut i = 0;
     while i < mains {
-        next = put_segment(image, layout, line, paired, i, trace, next);
+        next = put_segment(image, layout, line, paired, i, domain, trace, next);
         i += 1;
     }
     trace::put_sfence(trace, next)
@@ -177,47 +183,74 @@ fn put_recovery(
 
 // ---- the call
 
+// Refusal 5 of an opening, which is given the kind of module alone: there is no such kind.
+fn domain_status(domain: u64) -> Status
+    ensures { λ r. ⌜ codeOf r ≡ firstError (domainErrors domain) ⌝ }
+{
+    if domain > Session::EADR {
+        return Status::BadSession;
+    }
+    Status::Served
+}
+
 // A refused opening: it answers a session of zeros.
 fn refused(status: Status) -> Answer
     ensures { λ r. ⌜ (r .status ≡ status) × (r .session ≡ zeroSession) × (r .ops ≡ 0) ⌝ }
 {
-    Answer::refused(status, Session::fresh(Layout::new(0, 0, 0)))
+    Answer::refused(status, Session::fresh(Layout::new(0, 0, 0), Session::ADR))
 }
 
 // Recovers the checkpoint by a line of states, of an image that has the layout's size, and answers a session in which
 // nothing is dirty. `judged` is what refusal 13 says of the records of clients.
-fn recover(image: &[u8], layout: Layout, line: usize, judged: Status, trace: &mut [u64]) -> Answer
+fn recover(
+    image: &[u8],
+    layout: Layout,
+    line: usize,
+    domain: u64,
+    judged: Status,
+    trace: &mut [u64],
+) -> Answer
     requires { ⌜ SizesOk layout × (length (now image) ≡ imageSize layout) × (line + most ≤ length (now image)) ⌝ }
-    ensures { λ r. ⌜ ((R : Clients) → codeOf judged ≡ firstError (clientsErrors layout R) → Gives (recoveryOutcome layout (now (image .entry)) line (lent R (now (trace .entry)))) (now (trace .entry)) r (now (trace .exit)) (cond (served (codeOf (r .status))) (cleared R) R)) ⌝ }
+    ensures { λ r. ⌜ ((R : Clients) → codeOf judged ≡ firstError (clientsErrors layout R) → Gives (recoveryOutcome layout domain (now (image .entry)) line (lent R (now (trace .entry)))) (now (trace .entry)) r (now (trace .exit)) (cond (served (codeOf (r .status))) (cleared R) R)) ⌝ }
 {
     let found = container::examine(image, layout, line);
     if !found.valid {
         return refused(Status::Invalid);
     }
+    let kind = domain_status(domain);
+    if !kind.is_served() {
+        return refused(kind);
+    }
     if !judged.is_served() {
         return refused(judged);
     }
-    let ops = recovery_length(image, layout, line, found.paired);
+    let ops = recovery_length(image, layout, line, found.paired, domain);
     let room = trace::trace_status(trace.len(), ops);
     if !room.is_served() {
         return refused(room);
     }
-    put_recovery(image, layout, line, found.paired, trace, 0);
-    Answer::served(Session::fresh(layout), ops)
+    put_recovery(image, layout, line, found.paired, domain, trace, 0);
+    Answer::served(Session::fresh(layout, domain), ops)
 }
 
-// Opening by a layout (SPECIFICATION 9): recovers the checkpoint after any crash, and answers a session in which nothing is dirty. A
+// Opening by a layout and a kind of module (SPECIFICATION 9): recovers the checkpoint after any crash, and answers a session in which nothing is dirty. A
 // refused opening answers a session of zeros. `judged` is what refusal 13 says of the records, which the caller judges
 // (clients::clients_status), and clears where the call is served.
-pub fn open_parts(image: &[u8], layout: Layout, judged: Status, trace: &mut [u64]) -> Answer
-    ensures { λ r. ⌜ ((R : Clients) → codeOf judged ≡ firstError (clientsErrors layout R) → Gives (openOutcome layout (now (image .entry)) (lent R (now (trace .entry)))) (now (trace .entry)) r (now (trace .exit)) (cond (served (codeOf (r .status))) (cleared R) R)) ⌝ }
+pub fn open_parts(
+    image: &[u8],
+    layout: Layout,
+    domain: u64,
+    judged: Status,
+    trace: &mut [u64],
+) -> Answer
+    ensures { λ r. ⌜ ((R : Clients) → codeOf judged ≡ firstError (clientsErrors layout R) → Gives (openOutcome layout domain (now (image .entry)) (lent R (now (trace .entry)))) (now (trace .entry)) r (now (trace .exit)) (cond (served (codeOf (r .status))) (cleared R) R)) ⌝ }
 {
     let status = places::layout_status(image, layout);
     if !status.is_served() {
         return refused(status);
     }
     let active = metadata::active_at(image);
-    recover(image, layout, active, judged, trace)
+    recover(image, layout, active, domain, judged, trace)
 }
 
 // What an opening with a run as a value answers: the answer, and the record from which on the run is to be cleared: past its end where
@@ -233,14 +266,15 @@ pub fn open_run(
     mains: u64,
     backups: u64,
     blocks: u64,
+    domain: u64,
     run: Run,
     trace: &mut [u64],
 ) -> OpenRun
-    ensures { λ r. ⌜ ((R : Clients) → run ≡ loaded R → Gives (openOutcome (layoutOf mains backups blocks) (now (image .entry)) (lent R (now (trace .entry)))) (now (trace .entry)) (r .answer) (now (trace .exit)) (clearedFrom (r .from) R)) ⌝ }
+    ensures { λ r. ⌜ ((R : Clients) → run ≡ loaded R → Gives (openOutcome (layoutOf mains backups blocks) domain (now (image .entry)) (lent R (now (trace .entry)))) (now (trace .entry)) (r .answer) (now (trace .exit)) (clearedFrom (r .from) R)) ⌝ }
 {
     let layout = Layout::new(mains, backups, blocks);
     let judged = clients::clients_status(run, layout);
-    let answer = open_parts(image, layout, judged, trace);
+    let answer = open_parts(image, layout, domain, judged, trace);
     let status = answer.status;
     let mut from = run.count;
     if status.is_served() {

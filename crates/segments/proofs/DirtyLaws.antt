@@ -24,12 +24,12 @@ module _ {word blocks rest k : ℕ} (f : ℕ → Ops) (w : Walk word blocks rest
   none : (b : ℕ) → b < blocks → bit word b ≡ 0 → cond (isDirty word b) (f b) [] ≡ []
   none b l e = rw e
 
-  pub dirty-ends : {t t₁ : Trace} {n r : ℕ} → rest ≡ 0 → Emitted t n (eachDirty word k f) t₁ r → Emitted t n (eachDirty word blocks f) t₁ r
+  pub dirty-ends : {d : ℕ} {t t₁ : Trace} {n r : ℕ} → rest ≡ 0 → Emitted d t n (eachDirty word k f) t₁ r → Emitted d t n (eachDirty word blocks f) t₁ r
   dirty-ends e p = walk-ends _ none w e p
 
-  module _ {t t₁ : Trace} {n r : ℕ} (some : 0 < rest) (p : Emitted t n (eachDirty word k f) t₁ r) where
-    pub dirty-fits : Fits t n (eachDirty word blocks f) → Fits t₁ r (f (trailingZeros 64 rest))
+  module _ {d : ℕ} {t t₁ : Trace} {n r : ℕ} (some : 0 < rest) (p : Emitted d t n (eachDirty word k f) t₁ r) where
+    pub dirty-fits : Fits d t n (eachDirty word blocks f) → Fits d t₁ r (f (trailingZeros 64 rest))
     dirty-fits room = fits-if (isDirty word (trailingZeros 64 rest)) (eq-eqb _ _ (walk-member w some)) (walk-fits _ none w some p room)
 
-    pub dirty-emits : {t₂ : Trace} {r₂ : ℕ} → Emitted t₁ r (f (trailingZeros 64 rest)) t₂ r₂ → Emitted t n (eachDirty word (trailingZeros 64 rest + 1) f) t₂ r₂
+    pub dirty-emits : {t₂ : Trace} {r₂ : ℕ} → Emitted d t₁ r (f (trailingZeros 64 rest)) t₂ r₂ → Emitted d t n (eachDirty word (trailingZeros 64 rest + 1) f) t₂ r₂
     dirty-emits q = walk-emits _ none w some p (emitted-if (isDirty word (trailingZeros 64 rest)) (eq-eqb _ _ (walk-member w some)) q)

@@ -14,7 +14,7 @@ use Rattle.model.specs.Words.{Image}
 use Rattle.model.specs.Layout.{most, SizesOk, metadataSize}
 use Rattle.model.specs.Status.{firstError, served}
 use Rattle.model.specs.Container.{segState, activeLine, activeState, containerErrors}
-use Rattle.model.specs.Session.{isDirty, dirtyWord, dirtySegment, validSession, sessionErrors, contextErrors}
+use Rattle.model.specs.Session.{isDirty, dirtyWord, dirtySegment, noDomain, validSession, sessionErrors, contextErrors}
 use Rattle.model.proofs.Laws.Range.{both, and-left, and-right, all-at, all-from, all-ext, same-test}
 use Rattle.model.proofs.Laws.Layout.{metadata-inside}
 use Rattle.model.proofs.Laws.Status.{stage-passed}
@@ -49,22 +49,23 @@ module _ (words : ℕ → ℕ) (n k : ℕ) where
       back e = both (all-from n _ (λ i l. split i (ltb i n) refl (all-at 64 either e i (omega arith)) .0 l)) (all-from 64 _ (λ i l. split i (ltb i n) refl (all-at 64 either e i l) .1))
 
 -- validity by the tests that the code makes
-pub valid-session-tests : (s : Session) (st : ℕ → ℕ) (a b c d : Bool) → s .layout .mains ≤ 64
+pub valid-session-tests : (s : Session) (st : ℕ → ℕ) (a b c d e : Bool) → s .layout .mains ≤ 64
     → a ≡ ltb (s .«dirty_segments») (2 ^ s .layout .mains)
     → b ≡ allB (s .layout .mains) (λ (i : ℕ). ltb (dirtyWord s i) (2 ^ s .layout .blocks))
     → c ≡ allB 64 (λ (i : ℕ). ltb i (s .layout .mains) || eqb (dirtyWord s i) 0)
     → d ≡ allB (s .layout .mains) (λ (i : ℕ). not (isDirty (s .«dirty_segments») i && eqb (st i) 1))
-    → ((a && (b && c)) && d) ≡ validSession s st
+    → e ≡ not (noDomain (s .domain))
+    → ((a && (b && c)) && d && e) ≡ validSession s st
 unfolding validSession dirtySegment
-valid-session-tests s st a b c d h p q r t =
-    ap₂ (λ (x y : Bool). x && y) (ap₂ (λ (x y : Bool). x && y) p (ap₂ (λ (x y : Bool). x && y) q r ∙ words-in-two (dirtyWord s) (s .layout .mains) (s .layout .blocks) h)) t
+valid-session-tests s st a b c d e h p q r t u =
+    ap₂ _&&_ (ap₂ _&&_ (ap₂ _&&_ p (ap₂ _&&_ q r ∙ words-in-two (dirtyWord s) (s .layout .mains) (s .layout .blocks) h)) t) u
 
 -- in a valid session no word of dirty blocks has a bit beyond the blocks
 pub words-within : (s : Session) (st : ℕ → ℕ) → s .layout .mains ≤ most → validSession s st ≡ true → (i : ℕ) → i < s .layout .mains
     → dirtyWord s i < 2 ^ s .layout .blocks
 unfolding validSession
 words-within s st m v i h =
-    ltb-true _ _ (rw (lt-ltb i (s .layout .mains) h) at (all-at most _ (and-right (ltb (s .«dirty_segments») (2 ^ s .layout .mains)) _ (and-left _ _ v)) i (omega arith)))
+    ltb-true _ _ (rw (lt-ltb i (s .layout .mains) h) at (all-at most _ (and-right (ltb (s .«dirty_segments») (2 ^ s .layout .mains)) _ (and-left _ _ (and-left _ _ v))) i (omega arith)))
 
 -- validity depends on the states of main segments only
 pub valid-session-cong : (s : Session) (f g : ℕ → ℕ) → ((i : ℕ) → i < s .layout .mains → f i ≡ g i) → validSession s f ≡ validSession s g

@@ -8,9 +8,9 @@ use Rattle.model.specs.declared.Status.{Status}
 use Rattle.model.specs.declared.Answer.{Answer}
 use Rattle.model.specs.Status.{codeOf, served}
 
--- the session of a layout, a word of dirty segments, and words of dirty blocks
-abbrev pub sessionOf : Layout → ℕ → List ℕ → Session
-sessionOf l segments words = record { layout = l; «dirty_segments» = segments; «dirty_blocks» = words }
+-- the session of a layout, a word of dirty segments, words of dirty blocks, and a kind of module
+abbrev pub sessionOf : Layout → ℕ → List ℕ → ℕ → Session
+sessionOf l segments words domain = record { layout = l; «dirty_segments» = segments; «dirty_blocks» = words; domain = domain }
 
 -- the answer of a call with this status and number of operations: refused, it has the session `kept`; served, the session `next`
 abbrev pub answerOf : Status → Session → Session → ℕ → Answer

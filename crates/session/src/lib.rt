@@ -121,10 +121,10 @@ fn none_in_main(segments: u64, states: &[u8], mains: u64) -> bool
 }
 
 // Whether the session of these parts is valid, by the states of main segments.
-fn session_valid(layout: Layout, segments: u64, words: &[u64], states: &[u8]) -> bool
+fn session_valid(layout: Layout, segments: u64, words: &[u64], domain: u64, states: &[u8]) -> bool
     requires { ⌜ (1 ≤ layout .mains) × (layout .mains ≤ most) × (1 ≤ layout .blocks) × (layout .blocks ≤ most) ⌝ }
     requires { ⌜ (most ≤ length (now words)) × (lineSize ≤ length (now states)) ⌝ }
-    ensures { λ r. ⌜ r ≡ validSession (sessionOf layout segments (now (words .entry))) (λ i. getD (now (states .entry)) i 0) ⌝ }
+    ensures { λ r. ⌜ r ≡ validSession (sessionOf layout segments (now (words .entry)) domain) (λ i. getD (now (states .entry)) i 0) ⌝ }
 {
     let mains = layout.mains;
     if !words::within(segments, mains) {
@@ -132,20 +132,32 @@ fn session_valid(layout: Layout, segments: u64, words: &[u64], states: &[u8]) ->
     }
     let n = mains as usize;
     let in_blocks = blocks_within(words, n, layout.blocks) & rest_clear(words, n);
-    in_blocks & none_in_main(segments, states, mains)
+    in_blocks & none_in_main(segments, states, mains) & !(domain > Session::EADR)
 }
 
 // The first of refusals 1 to 5 that applies to an image and the session of these parts.
-pub fn context_status(image: &[u8], layout: Layout, segments: u64, words: &[u64]) -> Status
+pub fn context_status(
+    image: &[u8],
+    layout: Layout,
+    segments: u64,
+    words: &[u64],
+    domain: u64,
+) -> Status
     requires { ⌜ most ≤ length (now words) ⌝ }
-    ensures { λ r. ⌜ codeOf r ≡ firstError (contextErrors (sessionOf layout segments (now (words .entry))) (now (image .entry))) ⌝ }
+    ensures { λ r. ⌜ codeOf r ≡ firstError (contextErrors (sessionOf layout segments (now (words .entry)) domain) (now (image .entry))) ⌝ }
 {
     let container = container::container_status(image, layout);
     if !container.is_served() {
         return container;
     }
     let active = metadata::active_at(image);
-    if !session_valid(layout, segments, words, &image[active..active + LINE_SIZE]) {
+    if !session_valid(
+        layout,
+        segments,
+        words,
+        domain,
+        &image[active..active + LINE_SIZE],
+    ) {
         return Status::BadSession;
     }
     Status::Served

@@ -14,29 +14,35 @@ use lib.Seq.{getD-set-same, getD-set-other, getD-drop, take-all}
 use borrow.Author.Tests.{lt-ltb, le-ltb, eq-eqb, ne-eqb}
 use Rattle.model.specs.Words.{Image, byteAt, wordOf, wordAt, overlay}
 use Rattle.model.specs.Range.{cat}
-use Rattle.model.specs.Ops.{store, Ops, Trace, stores, wordPlace}
+use Rattle.model.specs.Session.{adr}
+use Rattle.model.specs.Ops.{store, Ops, Trace, forDomain, stores, wordPlace}
 use Rattle.model.specs.Write.{spanWords, spanStores}
 use Rattle.model.proofs.Laws.Range.{cat-ext}
 use Rattle.model.proofs.Laws.Words.{word-moved, word-cong, overlay-in, overlay-before, overlay-after, overlay-inside}
+use Rattle.model.proofs.Laws.Domain.{domain-stores}
 use Rattle.model.proofs.Laws.Counts.{length-stores}
 use Rattle.trace.specs.Emit.{Fits, wordStores}
 use Rattle.span.specs.Steps.{overlaidStore, firstStores}
 
 -- ---- room on a trace: a span meets a word, and no fewer words than lie whole among its bytes
 
-module _ {t : Trace} {n : ℕ} (I : Image) (a : ℕ) (bs : List ℕ) (h : Fits t n (spanStores I a bs)) where
-  span-room : 3 * (n + spanWords a (length bs)) ≤ length t
-  span-room = omega (arith, length-stores (spanWords a (length bs)) (wordPlace a) (λ k. wordOf (overlay (byteAt I) a bs) (wordPlace a + 8 * k)))
+length-written : (n a : ℕ) (w : ℕ → ℕ) → length (forDomain adr (stores n a w)) ≡ n
+length-written n a w = ap length (domain-stores adr n a w) ∙ length-stores n a w
 
-  pub first-fits : Fits t n (firstStores I a bs)
+module _ {t : Trace} {n : ℕ} (I : Image) (a : ℕ) (bs : List ℕ) (h : Fits adr t n (spanStores I a bs)) where
+  span-room : 3 * (n + spanWords a (length bs)) ≤ length t
+  span-room = omega (arith, length-written (spanWords a (length bs)) (wordPlace a) (λ k. wordOf (overlay (byteAt I) a bs) (wordPlace a + 8 * k)))
+
+  pub first-fits : Fits adr t n (firstStores I a bs)
+  unfolding forDomain
   first-fits = go (eqb (a % 8) 0)
     where
-      go : (b : Bool) → Fits t n (cond (not b) (overlaidStore I a bs (wordPlace a) ∷ []) [])
+      go : (b : Bool) → Fits adr t n (cond (not b) (overlaidStore I a bs (wordPlace a) ∷ []) [])
       go true = record { room = omega (arith, span-room) }
       go false = record { room = omega (arith, span-room) }
 
-  pub words-fit : Fits t n (wordStores a bs)
-  words-fit = record { room = omega (arith, span-room, length-stores (length bs / 8) a (λ k. wordAt bs (8 * k))) }
+  pub words-fit : Fits adr t n (wordStores a bs)
+  words-fit = record { room = omega (arith, span-room, length-written (length bs / 8) a (λ k. wordAt bs (8 * k))) }
 
 -- ---- a word of the image with bytes laid over it, made byte by byte
 

@@ -8,6 +8,7 @@ ghost use Prim.Native.Nat.{ℕ, _+_, _-_, _*_, _/_, _%_, _^_, _≤_, _<_};
 ghost use lib.ListN.{length};
 ghost use Rattle.model.specs.Words.{byteAt, wordOf, overlay};
 ghost use Rattle.model.specs.Layout.{most, lineSize, wordSize, blockSize, largestImage, mainAt};
+ghost use Rattle.model.specs.Session.{adr};
 ghost use Rattle.model.specs.Ops.{storeByte, wordPlace};
 ghost use Rattle.model.specs.Write.{spanWords, spanBad, spanStores};
 ghost use Rattle.trace.specs.Emit.{Fits, Emitted};
@@ -100,8 +101,8 @@ fn put_overlaid(
     n: usize,
 ) -> usize
     requires { ⌜ (place + wordSize ≤ length (now image)) × (at + length (now bytes) < 2 ^ 64) ⌝ }
-    requires { ⌜ Fits (now trace) n (overlaidStore (now image) at (now bytes) place ∷ []) ⌝ }
-    ensures { λ r. ⌜ Emitted (now (trace .entry)) n (overlaidStore (now (image .entry)) at (now (bytes .entry)) place ∷ []) (now (trace .exit)) r ⌝ }
+    requires { ⌜ Fits adr (now trace) n (overlaidStore (now image) at (now bytes) place ∷ []) ⌝ }
+    ensures { λ r. ⌜ Emitted adr (now (trace .entry)) n (overlaidStore (now (image .entry)) at (now (bytes .entry)) place ∷ []) (now (trace .exit)) r ⌝ }
 {
     trace::put_store(
         trace,
@@ -114,8 +115,8 @@ fn put_overlaid(
 // Stores one byte in its word.
 pub fn put_byte(image: &[u8], at: usize, byte: u8, trace: &mut [u64], n: usize) -> usize
     requires { ⌜ wordPlace at + wordSize ≤ length (now image) ⌝ }
-    requires { ⌜ Fits (now trace) n (storeByte (now image) at byte ∷ []) ⌝ }
-    ensures { λ r. ⌜ Emitted (now (trace .entry)) n (storeByte (now (image .entry)) at byte ∷ []) (now (trace .exit)) r ⌝ }
+    requires { ⌜ Fits adr (now trace) n (storeByte (now image) at byte ∷ []) ⌝ }
+    ensures { λ r. ⌜ Emitted adr (now (trace .entry)) n (storeByte (now (image .entry)) at byte ∷ []) (now (trace .exit)) r ⌝ }
 {
     let place = WORD_SIZE * (at / WORD_SIZE);
     let mut word = words::bytes_at(image, place);
@@ -126,8 +127,8 @@ pub fn put_byte(image: &[u8], at: usize, byte: u8, trace: &mut [u64], n: usize) 
 // Stores the word in whose midst bytes start, with the bytes laid over what stands there; nothing if they start a word.
 fn put_first(image: &[u8], at: usize, bytes: &[u8], trace: &mut [u64], n: usize) -> usize
     requires { ⌜ (wordPlace at + wordSize ≤ length (now image)) × (at + length (now bytes) < 2 ^ 64) ⌝ }
-    requires { ⌜ Fits (now trace) n (firstStores (now image) at (now bytes)) ⌝ }
-    ensures { λ r. ⌜ Emitted (now (trace .entry)) n (firstStores (now (image .entry)) at (now (bytes .entry))) (now (trace .exit)) r ⌝ }
+    requires { ⌜ Fits adr (now trace) n (firstStores (now image) at (now bytes)) ⌝ }
+    ensures { λ r. ⌜ Emitted adr (now (trace .entry)) n (firstStores (now (image .entry)) at (now (bytes .entry))) (now (trace .exit)) r ⌝ }
 {
     if at % WORD_SIZE == 0 {
         return n;
@@ -140,8 +141,8 @@ fn put_first(image: &[u8], at: usize, bytes: &[u8], trace: &mut [u64], n: usize)
 fn put_aligned(image: &[u8], at: usize, bytes: &[u8], trace: &mut [u64], n: usize) -> usize
     requires { ⌜ (at % wordSize ≡ 0) × (1 ≤ length (now bytes)) × (at + length (now bytes) ≤ length (now image)) ⌝ }
     requires { ⌜ (length (now image) % lineSize ≡ 0) × (length (now image) ≤ largestImage) ⌝ }
-    requires { ⌜ Fits (now trace) n (spanStores (now image) at (now bytes)) ⌝ }
-    ensures { λ r. ⌜ Emitted (now (trace .entry)) n (spanStores (now (image .entry)) at (now (bytes .entry))) (now (trace .exit)) r ⌝ }
+    requires { ⌜ Fits adr (now trace) n (spanStores (now image) at (now bytes)) ⌝ }
+    ensures { λ r. ⌜ Emitted adr (now (trace .entry)) n (spanStores (now (image .entry)) at (now (bytes .entry))) (now (trace .exit)) r ⌝ }
 {
     let next = trace::put_words(trace, n, at as u64, bytes);
     if bytes.len() % WORD_SIZE == 0 {
@@ -162,8 +163,8 @@ fn put_aligned(image: &[u8], at: usize, bytes: &[u8], trace: &mut [u64], n: usiz
 pub fn put_span(image: &[u8], at: usize, bytes: &[u8], trace: &mut [u64], n: usize) -> usize
     requires { ⌜ (1 ≤ length (now bytes)) × (at + length (now bytes) ≤ length (now image)) ⌝ }
     requires { ⌜ (length (now image) % lineSize ≡ 0) × (length (now image) ≤ largestImage) ⌝ }
-    requires { ⌜ Fits (now trace) n (spanStores (now image) at (now bytes)) ⌝ }
-    ensures { λ r. ⌜ Emitted (now (trace .entry)) n (spanStores (now (image .entry)) at (now (bytes .entry))) (now (trace .exit)) r ⌝ }
+    requires { ⌜ Fits adr (now trace) n (spanStores (now image) at (now bytes)) ⌝ }
+    ensures { λ r. ⌜ Emitted adr (now (trace .entry)) n (spanStores (now (image .entry)) at (now (bytes .entry))) (now (trace .exit)) r ⌝ }
 {
     if (at % WORD_SIZE == 0) & (bytes.len() % WORD_SIZE == 0) {
         return trace::put_words(trace, n, at as u64, bytes);

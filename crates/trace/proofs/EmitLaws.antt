@@ -1,5 +1,5 @@
--- Laws of operations written on a trace: nothing, one run after another, a run for each number, a run if a test holds, and
--- what a whole call leaves.
+-- Laws of operations written on a trace for a kind of module: nothing, one run after another, a run for each number, a run if a test
+-- holds, a run that is the same for every kind, and what a whole call leaves.
 use Prim.Native.Nat.{ℕ, zero, suc, _+_, _*_, _≤_, _<_}
 use mathlib.Core.Path.{_≡_, refl, sym, ap, ap₂, _∙_}
 use mathlib.Core.Bool.{Bool, true, false, cond, false≢true}
@@ -11,8 +11,11 @@ use native.Mathlib.Numerals.{add-one, add-two}
 use lib.ListN.{length, set, drop, length-append}
 use lib.Seq.{sets, sets-eq, length-sets}
 use Rattle.model.specs.Range.{cat}
-use Rattle.model.specs.Ops.{Ops, Trace, encode, written}
+use Rattle.model.specs.Session.{adr}
+use Rattle.model.specs.Ops.{Ops, Trace, encode, written, forDomain}
 use Rattle.model.proofs.Laws.Ops.{length-encode, encode-append}
+use Rattle.model.proofs.Laws.Domain.{domain-append, domain-cat, domain-adr}
+use Rattle.model.proofs.Laws.Counts.{count-append}
 use Rattle.trace.specs.Emit.{emit, Fits, Emitted}
 
 -- ---- the trace alone
@@ -47,39 +50,42 @@ emit-whole t O h =
 
 -- ---- one run: the trace keeps its length; the same operations in another form
 
-pub fits-as : {t : Trace} {n : ℕ} {O E : Ops} → O ≡ E → Fits t n O → Fits t n E
-fits-as p h = record { room = omega (arith, ap length p) }
+pub fits-as : {d : ℕ} {t : Trace} {n : ℕ} {O E : Ops} → O ≡ E → Fits d t n O → Fits d t n E
+fits-as {d} p h = record { room = omega (arith, ap (λ (X : Ops). length (forDomain d X)) p) }
 
-module _ {t t₁ : Trace} {n r : ℕ} {O : Ops} (e : Emitted t n O t₁ r) where
+module _ {d : ℕ} {t t₁ : Trace} {n r : ℕ} {O : Ops} (e : Emitted d t n O t₁ r) where
   pub emitted-length : length t₁ ≡ length t
-  emitted-length = ap length (e .stands) ∙ length-emit t n O
+  emitted-length = ap length (e .stands) ∙ length-emit t n (forDomain d O)
 
-  pub emitted-as : {E : Ops} → O ≡ E → Emitted t n E t₁ r
-  emitted-as p = record { stands = e .stands ∙ ap (emit t n) p; next = e .next ∙ ap (λ (X : Ops). n + length X) p }
+  pub emitted-as : {E : Ops} → O ≡ E → Emitted d t n E t₁ r
+  emitted-as p = record { stands = e .stands ∙ ap (λ (X : Ops). emit t n (forDomain d X)) p; next = e .next ∙ ap (λ (X : Ops). n + length (forDomain d X)) p }
 
 -- ---- no run
 
-pub emitted-nil : {t : Trace} {n : ℕ} → Emitted t n [] t n
-emitted-nil {t} {n} = record { stands = sym (emit-nil t n); next = omega arith }
+pub emitted-nil : {d : ℕ} {t : Trace} {n : ℕ} → Emitted d t n [] t n
+unfolding forDomain
+emitted-nil {t = t} {n = n} = record { stands = sym (emit-nil t n); next = omega arith }
 
 -- ---- one run after another
 
-pub fits-first : {t : Trace} {n : ℕ} {A : Ops} (B : Ops) → Fits t n (A ++ B) → Fits t n A
-fits-first {A = A} B h = record { room = omega (arith, length-append A B) }
+pub fits-first : {d : ℕ} {t : Trace} {n : ℕ} {A : Ops} (B : Ops) → Fits d t n (A ++ B) → Fits d t n A
+fits-first {d} {A = A} B h = record { room = omega (arith, count-append d A B) }
 
-pub fits-then : {t t₁ : Trace} {n r : ℕ} {A B : Ops} → Fits t n (A ++ B) → Emitted t n A t₁ r → Fits t₁ r B
-fits-then {A = A} {B} h e = record { room = omega (arith, length-append A B, emitted-length e) }
+pub fits-then : {d : ℕ} {t t₁ : Trace} {n r : ℕ} {A B : Ops} → Fits d t n (A ++ B) → Emitted d t n A t₁ r → Fits d t₁ r B
+fits-then {d} {A = A} {B} h e = record { room = omega (arith, count-append d A B, emitted-length e) }
 
-pub emitted-then : {t t₁ t₂ : Trace} {n r₁ r₂ : ℕ} {A B : Ops} → Emitted t n A t₁ r₁ → Emitted t₁ r₁ B t₂ r₂ → Emitted t n (A ++ B) t₂ r₂
-emitted-then {t} {n = n} {A = A} {B = B} d e =
+pub emitted-then : {d : ℕ} {t t₁ t₂ : Trace} {n r₁ r₂ : ℕ} {A B : Ops} → Emitted d t n A t₁ r₁ → Emitted d t₁ r₁ B t₂ r₂ → Emitted d t n (A ++ B) t₂ r₂
+emitted-then {d} {t} {n = n} {A = A} {B = B} x y =
     record {
-      stands = e .stands ∙ ap₂ (λ (x : Trace) (y : ℕ). emit x y B) (d .stands) (d .next) ∙ sym (emit-append t n A B);
-      next = omega (arith, length-append A B);
+      stands =
+          y .stands ∙ ap₂ (λ (u : Trace) (m : ℕ). emit u m (forDomain d B)) (x .stands) (x .next)
+          ∙ sym (emit-append t n (forDomain d A) (forDomain d B)) ∙ ap (emit t n) (sym (domain-append d A B));
+      next = omega (arith, count-append d A B);
     }
 
 -- ---- a run for each number: f 0, f 1, ..
 
-pub emitted-none : {t : Trace} {n : ℕ} (f : ℕ → Ops) → Emitted t n (cat 0 f) t n
+pub emitted-none : {d : ℕ} {t : Trace} {n : ℕ} (f : ℕ → Ops) → Emitted d t n (cat 0 f) t n
 unfolding cat
 emitted-none f = emitted-nil
 
@@ -93,24 +99,35 @@ length-upto i (suc k) f h =
     ]
 
 -- after i of k turns there is room for the next one
-pub fits-each : {t t₁ : Trace} {n r : ℕ} (i k : ℕ) (f : ℕ → Ops) → i < k → Fits t n (cat k f) → Emitted t n (cat i f) t₁ r → Fits t₁ r (f i)
-fits-each i k f l h e = record { room = omega (arith, length-upto i k f l, emitted-length e) }
+pub fits-each : {d : ℕ} {t t₁ : Trace} {n r : ℕ} (i k : ℕ) (f : ℕ → Ops) → i < k → Fits d t n (cat k f) → Emitted d t n (cat i f) t₁ r → Fits d t₁ r (f i)
+fits-each {d} i k f l h e =
+    record { room = omega (arith, length-upto i k (λ j. forDomain d (f j)) l, ap length (domain-cat d i f), ap length (domain-cat d k f), emitted-length e) }
 
 -- and with it written, i + 1 turns are
-pub emitted-each : {t t₁ t₂ : Trace} {n r₁ r₂ : ℕ} (i : ℕ) (f : ℕ → Ops) → Emitted t n (cat i f) t₁ r₁ → Emitted t₁ r₁ (f i) t₂ r₂ → Emitted t n (cat (i + 1) f) t₂ r₂
+pub emitted-each : {d : ℕ} {t t₁ t₂ : Trace} {n r₁ r₂ : ℕ} (i : ℕ) (f : ℕ → Ops) → Emitted d t n (cat i f) t₁ r₁ → Emitted d t₁ r₁ (f i) t₂ r₂ → Emitted d t n (cat (i + 1) f) t₂ r₂
 unfolding cat
-emitted-each i f d e = rw add-one (emitted-then d e)
+emitted-each i f x y = rw add-one (emitted-then x y)
 
 -- ---- a run if a test holds
 
-pub fits-if : {t : Trace} {n : ℕ} {O : Ops} (b : Bool) → b ≡ true → Fits t n (cond b O []) → Fits t n O
+pub fits-if : {d : ℕ} {t : Trace} {n : ℕ} {O : Ops} (b : Bool) → b ≡ true → Fits d t n (cond b O []) → Fits d t n O
 fits-if true p h = h
 fits-if false p h = absurd (false≢true p)
 
 -- it holds
-pub emitted-if : {t t₁ : Trace} {n r : ℕ} {O : Ops} (b : Bool) → b ≡ true → Emitted t n O t₁ r → Emitted t n (cond b O []) t₁ r
+pub emitted-if : {d : ℕ} {t t₁ : Trace} {n r : ℕ} {O : Ops} (b : Bool) → b ≡ true → Emitted d t n O t₁ r → Emitted d t n (cond b O []) t₁ r
 emitted-if b p e = rw p e
 
 -- it does not: nothing is written
-pub emitted-unless : {t t₁ : Trace} {n r : ℕ} (b : Bool) (O : Ops) → b ≡ false → t₁ ≡ t → r ≡ n → Emitted t n (cond b O []) t₁ r
+pub emitted-unless : {d : ℕ} {t t₁ : Trace} {n r : ℕ} (b : Bool) (O : Ops) → b ≡ false → t₁ ≡ t → r ≡ n → Emitted d t n (cond b O []) t₁ r
 emitted-unless b O p x y = rw (p, x, y) emitted-nil
+
+-- ---- a run that is the same for every kind, as one without write-backs
+
+pub fits-plain : {d : ℕ} {t : Trace} {n : ℕ} {O : Ops} → forDomain d O ≡ O → Fits d t n O → Fits adr t n O
+fits-plain {O = O} p h = record { room = omega (arith, ap length p, ap length (domain-adr O)) }
+
+pub emitted-plain : (d : ℕ) {t t₁ : Trace} {n r : ℕ} {O : Ops} → forDomain d O ≡ O → Emitted adr t n O t₁ r → Emitted d t n O t₁ r
+emitted-plain d {t} {n = n} {O = O} p e =
+    let same = domain-adr O ∙ sym p in
+    record { stands = e .stands ∙ ap (emit t n) same; next = e .next ∙ ap (λ (X : Ops). n + length X) same }

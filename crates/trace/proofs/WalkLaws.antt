@@ -21,24 +21,24 @@ cat-skip g k (suc d) h =
 
 -- the operations g of numbers below n, none of those that are not in the set
 module _ {set n rest k : ℕ} (g : ℕ → Ops) (none : (b : ℕ) → b < n → bit set b ≡ 0 → g b ≡ []) (w : Walk set n rest k) where
-  pub walk-ends : {t t₁ : Trace} {m r : ℕ} → rest ≡ 0 → Emitted t m (cat k g) t₁ r → Emitted t m (cat n g) t₁ r
+  pub walk-ends : {d : ℕ} {t t₁ : Trace} {m r : ℕ} → rest ≡ 0 → Emitted d t m (cat k g) t₁ r → Emitted d t m (cat n g) t₁ r
   walk-ends e p =
-      let d : k + (n - k) ≡ n = omega (arith, w .within) in
+      let e₁ : k + (n - k) ≡ n = omega (arith, w .within) in
       let skip = cat-skip g k (n - k) (λ b l h. none b (omega (arith, w .within)) (walk-left w e b l)) in
-      emitted-as p (sym skip ∙ ap (λ (m : ℕ). cat m g) d)
+      emitted-as p (sym skip ∙ ap (λ (m : ℕ). cat m g) e₁)
 
-  module _ {t t₁ : Trace} {m r : ℕ} (some : 0 < rest) (p : Emitted t m (cat k g) t₁ r) where
+  module _ {d : ℕ} {t t₁ : Trace} {m r : ℕ} (some : 0 < rest) (p : Emitted d t m (cat k g) t₁ r) where
     abbrev z : ℕ
     z = trailingZeros 64 rest
 
-    reached : Emitted t m (cat (trailingZeros 64 rest) g) t₁ r
+    reached : Emitted d t m (cat (trailingZeros 64 rest) g) t₁ r
     reached =
-        let d : k + (z - k) ≡ z = omega (arith, walk-beyond w some) in
+        let e₁ : k + (z - k) ≡ z = omega (arith, walk-beyond w some) in
         let skip = cat-skip g k (z - k) (λ b l h. none b (omega (arith, walk-below w some)) (walk-between w some b l (omega arith))) in
-        emitted-as p (sym skip ∙ ap (λ (m : ℕ). cat m g) d)
+        emitted-as p (sym skip ∙ ap (λ (m : ℕ). cat m g) e₁)
 
-    pub walk-fits : Fits t m (cat n g) → Fits t₁ r (g (trailingZeros 64 rest))
+    pub walk-fits : Fits d t m (cat n g) → Fits d t₁ r (g (trailingZeros 64 rest))
     walk-fits room = fits-each z n g (walk-below w some) room reached
 
-    pub walk-emits : {t₂ : Trace} {r₂ : ℕ} → Emitted t₁ r (g (trailingZeros 64 rest)) t₂ r₂ → Emitted t m (cat (trailingZeros 64 rest + 1) g) t₂ r₂
+    pub walk-emits : {t₂ : Trace} {r₂ : ℕ} → Emitted d t₁ r (g (trailingZeros 64 rest)) t₂ r₂ → Emitted d t m (cat (trailingZeros 64 rest + 1) g) t₂ r₂
     walk-emits q = emitted-each z g reached q

@@ -4,7 +4,7 @@ use mathlib.Core.Path.{_≡_, refl, sym, ap, ap₂, _∙_}
 use mathlib.Core.Bool.{Bool, true, false, cond}
 use mathlib.Core.List.{_++_}
 use native.Mathlib.Omega.{arith}
-use lib.ListN.{length, set, length-append}
+use lib.ListN.{length, set}
 use borrow.Author.Tests.{leb-false, not-false}
 use Rattle.model.specs.declared.Session.{Session}
 use Rattle.model.specs.declared.Status.{Status}
@@ -15,7 +15,7 @@ use Rattle.model.specs.Layout.{imageSize}
 use Rattle.model.specs.Status.{codeOf, firstError, served}
 use Rattle.model.specs.Container.{activeState, backupToMain, freeBackups}
 use Rattle.model.specs.Session.{setBit, setBits, dirtyWord, withDirty}
-use Rattle.model.specs.Ops.{Ops, Trace}
+use Rattle.model.specs.Ops.{Ops, Trace, forDomain}
 use Rattle.model.specs.Clients.{Clients, clientAt, withUsed, shareErrors}
 use Rattle.model.specs.Outcome.{lent, Gives}
 use Rattle.model.specs.Write.{WriteArgs, needsCopy, copies, noneFree, copyPlan, copyOnWriteOps, spanAt, spanWords, spanBlocks, spanStores, spanOps, writeOps, writeSession, writeClients, earlyErrors, lateErrors, writeStatus, writeOutcome}
@@ -23,7 +23,8 @@ use Rattle.model.proofs.Laws.Layout.{image-lines, metadata-inside, segment-in-i
 use Rattle.model.proofs.Laws.Status.{served-condition, after-served, stage-refused}
 use Rattle.model.proofs.Laws.Container.{container-then}
 use Rattle.model.proofs.Laws.Write.{plan-copies, span-good}
-use Rattle.model.proofs.Laws.Counts.{length-stores}
+use Rattle.model.proofs.Laws.Domain.{domain-stores}
+use Rattle.model.proofs.Laws.Counts.{length-stores, count-append}
 use Rattle.trace.specs.Emit.{Fits, Emitted}
 use Rattle.trace.proofs.EmitLaws.{fits-as, emitted-as}
 use Rattle.trace.proofs.CallLaws.{gives-refused, gives-served}
@@ -83,10 +84,16 @@ module _ (s : Session) (I : Image) (w : WriteArgs) (p : Plan) (at : ℕ) where
   abbrev pub ops : Ops
   ops = copyOnWriteOps (s .layout) I (dirtyWord s (w .main)) (w .main) p ++ spanStores I at (w .bytes)
 
+  -- those of them that the trace has
+  abbrev pub onTrace : Ops
+  onTrace = forDomain (s .domain) ops
+
   -- as many as it counts
-  pub length-ops : (m n : ℕ) → m ≡ length (copyOnWriteOps (s .layout) I (dirtyWord s (w .main)) (w .main) p) → n ≡ spanWords at (length (w .bytes)) → length ops ≡ m + n
+  pub length-ops : (m n : ℕ) → m ≡ length (forDomain (s .domain) (copyOnWriteOps (s .layout) I (dirtyWord s (w .main)) (w .main) p)) → n ≡ spanWords at (length (w .bytes))
+      → length onTrace ≡ m + n
   length-ops m n x y =
-      length-append (copyOnWriteOps (s .layout) I (dirtyWord s (w .main)) (w .main) p) (spanStores I at (w .bytes)) ∙ ap₂ _+_ (sym x) (length-stores _ _ _ ∙ sym y)
+      count-append (s .domain) (copyOnWriteOps (s .layout) I (dirtyWord s (w .main)) (w .main) p) (spanStores I at (w .bytes))
+      ∙ ap₂ _+_ (sym x) (ap length (domain-stores _ _ _ _) ∙ length-stores _ _ _ ∙ sym y)
 
   write-ops : p ≡ copyPlan s I (w .main) → at ≡ spanAt (s .layout) w → ops ≡ writeOps s I w
   unfolding writeOps spanOps
@@ -112,7 +119,7 @@ module _ (s : Session) (I : Image) (R : Clients) (w : WriteArgs) (t : Trace) whe
   unfolding writeOutcome
   refused-with a k e r h =
       let n : served (codeOf (a .status)) ≡ false = ap (λ (x : Status). served (codeOf x)) (h .0) ∙ r in
-      let g = gives-refused _ s _ R _ _ t (writtenAnswer s (w .main) a) (h .0, ap (λ (b : Bool). cond b (writtenSession s (w .main) a) s) n, h .1) e r refl in
+      let g = gives-refused _ s _ R _ _ _ t (writtenAnswer s (w .main) a) (h .0, ap (λ (b : Bool). cond b (writtenSession s (w .main) a) s) n, h .1) e r refl in
       (g .0, g .1, g .2, g .3, ap (λ (b : Bool). cond b (changed a) R) n ∙ g .4)
 
   pub refused-early : (a : Written) (k : Status) → codeOf k ≡ firstError (earlyErrors s I R w) → served (codeOf k) ≡ false → (a .status ≡ k) × (a .ops ≡ 0) → Given a t
@@ -120,22 +127,22 @@ module _ (s : Session) (I : Image) (R : Clients) (w : WriteArgs) (t : Trace) whe
   refused-early a k e r h = refused-with a k (stage-refused (codeOf k) (earlyErrors s I R w) _ e r) r h
 
   module _ (p : Plan) (at : ℕ) (early : firstError (earlyErrors s I R w) ≡ 0) (plan : p ≡ copyPlan s I (w .main)) (place : at ≡ spanAt (s .layout) w) where
-    status-late : firstError (lateErrors p R (w .client) free (ops s I w p at) t) ≡ writeStatus s I w (lent R t)
+    status-late : firstError (lateErrors p R (w .client) free (onTrace s I w p at) t) ≡ writeStatus s I w (lent R t)
     unfolding writeStatus
     status-late =
-        ap₂ (λ (q : Plan) (O : Ops). firstError (lateErrors q R (w .client) free O t)) plan (write-ops s I w p at plan place)
-        ∙ sym (after-served (earlyErrors s I R w) (lateErrors (copyPlan s I (w .main)) R (w .client) free (writeOps s I w) t) (omega arith) early)
+        ap₂ (λ (q : Plan) (O : Ops). firstError (lateErrors q R (w .client) free (forDomain (s .domain) O) t)) plan (write-ops s I w p at plan place)
+        ∙ sym (after-served (earlyErrors s I R w) (lateErrors (copyPlan s I (w .main)) R (w .client) free (forDomain (s .domain) (writeOps s I w)) t) (omega arith) early)
 
-    pub refused-late : (a : Written) (k : Status) → codeOf k ≡ firstError (lateErrors p R (w .client) free (ops s I w p at) t) → served (codeOf k) ≡ false
+    pub refused-late : (a : Written) (k : Status) → codeOf k ≡ firstError (lateErrors p R (w .client) free (onTrace s I w p at) t) → served (codeOf k) ≡ false
         → (a .status ≡ k) × (a .ops ≡ 0) → Given a t
     refused-late a k e r h = refused-with a k (e ∙ status-late) r h
 
-    module _ (z : firstError (lateErrors p R (w .client) free (ops s I w p at) t) ≡ 0) where
+    module _ (z : firstError (lateErrors p R (w .client) free (onTrace s I w p at) t) ≡ 0) where
       -- the segment is copied exactly if it must be
       copied : copies p ≡ needsCopy s I (w .main)
       copied =
           ap copies plan ∙ plan-copies s I (w .main)
-          (sym (ap noneFree plan) ∙ served-condition (lateErrors p R (w .client) free (ops s I w p at) t) (omega arith) z 9)
+          (sym (ap noneFree plan) ∙ served-condition (lateErrors p R (w .client) free (onTrace s I w p at) t) (omega arith) z 9)
 
       -- the records with what the code says that the client has taken
       clients-left : (a : Written) → a .status ≡ Served → a .used ≡ cond (copies p) (suc (clientAt R (w .client) .used)) (clientAt R (w .client) .used)
@@ -146,17 +153,17 @@ module _ (s : Session) (I : Image) (R : Clients) (w : WriteArgs) (t : Trace) whe
           ∙ ap (λ (n : ℕ). set R (w .client) (withUsed n (clientAt R (w .client)))) (u ∙ ap (λ (b : Bool). cond b (suc (clientAt R (w .client) .used)) (clientAt R (w .client) .used)) copied)
           ∙ put-used R (w .client) (needsCopy s I (w .main))
 
-      pub served-write : (a : Written) (after : Trace) (r : ℕ) → Fits t 0 (ops s I w p at) → a .status ≡ Served
+      pub served-write : (a : Written) (after : Trace) (r : ℕ) → Fits (s .domain) t 0 (ops s I w p at) → a .status ≡ Served
           → a .«dirty_segments» ≡ setBit (s .«dirty_segments») (w .main)
           → a .word ≡ setBits (cond (copies p) 0 (dirtyWord s (w .main))) (w .block) (spanBlocks w)
-          → a .used ≡ cond (copies p) (suc (clientAt R (w .client) .used)) (clientAt R (w .client) .used) → a .ops ≡ length (ops s I w p at)
-          → Emitted t 0 (ops s I w p at) after r → Given a after
+          → a .used ≡ cond (copies p) (suc (clientAt R (w .client) .used)) (clientAt R (w .client) .used) → a .ops ≡ length (onTrace s I w p at)
+          → Emitted (s .domain) t 0 (ops s I w p at) after r → Given a after
       unfolding writeOutcome writeSession withDirty
       served-write a after r room h x y u m e =
           let same = write-ops s I w p at plan place in
-          let g = gives-served _ s _ R (writeClients s I w R) (writeOps s I w) t (writtenAnswer s (w .main) a)
+          let g = gives-served _ s _ R (writeClients s I w R) (s .domain) (writeOps s I w) t (writtenAnswer s (w .main) a)
           (h, ap (λ (k : Status). cond (served (codeOf k)) (writtenSession s (w .main) a) s) h, m) (sym status-late ∙ z)
-          (ap₂ (λ (segments word : ℕ). sessionOf (s .layout) segments (set (s .«dirty_blocks») (w .main) word)) x
-          (y ∙ ap (λ (b : Bool). setBits (cond b 0 (dirtyWord s (w .main))) (w .block) (spanBlocks w)) copied)) (ap length same) (fits-as same room)
+          (ap₂ (λ (segments word : ℕ). sessionOf (s .layout) segments (set (s .«dirty_blocks») (w .main) word) (s .domain)) x
+          (y ∙ ap (λ (b : Bool). setBits (cond b 0 (dirtyWord s (w .main))) (w .block) (spanBlocks w)) copied)) (ap (λ (O : Ops). length (forDomain (s .domain) O)) same) (fits-as same room)
           (emitted-as e same) in
           (g .0, g .1, g .2, g .3, clients-left a h u ∙ g .4)

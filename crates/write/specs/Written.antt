@@ -11,7 +11,7 @@ use Rattle.write.specs.declared.Written.{Written}
 
 -- the session s after a served write to main segment i: the dirty segments and that segment's word of dirty blocks are the answer's
 abbrev pub writtenSession : Session → ℕ → Written → Session
-writtenSession s i r = sessionOf (s .layout) (r .«dirty_segments») (set (s .«dirty_blocks») i (r .word))
+writtenSession s i r = sessionOf (s .layout) (r .«dirty_segments») (set (s .«dirty_blocks») i (r .word)) (s .domain)
 
 -- the answer of a write to main segment i in the session s: refused, it keeps s
 abbrev pub writtenAnswer : Session → ℕ → Written → Answer

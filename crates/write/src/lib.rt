@@ -38,15 +38,16 @@ fn early_status(
     layout: Layout,
     segments: u64,
     words: &[u64],
+    domain: u64,
     run: Run,
     client: u64,
     span: Span,
 ) -> Status
     requires { ⌜ most ≤ length (now words) ⌝ }
-    ensures { λ r. ⌜ ((R : Clients) (bytes : List ℕ) → run ≡ loaded R → length bytes ≡ span .len → codeOf r ≡ firstError (earlyErrors (sessionOf layout segments (now (words .entry))) (now (image .entry)) R (argsOf client span bytes))) ⌝ }
-    ensures { λ r. ⌜ ((bytes : List ℕ) → length bytes ≡ span .len → served (codeOf r) ≡ true → (firstError (plainErrors (sessionOf layout segments (now (words .entry))) (now (image .entry)) (argsOf client span bytes)) ≡ 0) × (client < run .count) × (run .count ≤ mostClients)) ⌝ }
+    ensures { λ r. ⌜ ((R : Clients) (bytes : List ℕ) → run ≡ loaded R → length bytes ≡ span .len → codeOf r ≡ firstError (earlyErrors (sessionOf layout segments (now (words .entry)) domain) (now (image .entry)) R (argsOf client span bytes))) ⌝ }
+    ensures { λ r. ⌜ ((bytes : List ℕ) → length bytes ≡ span .len → served (codeOf r) ≡ true → (firstError (plainErrors (sessionOf layout segments (now (words .entry)) domain) (now (image .entry)) (argsOf client span bytes)) ≡ 0) × (client < run .count) × (run .count ≤ mostClients)) ⌝ }
 {
-    let context = session::context_status(image, layout, segments, words);
+    let context = session::context_status(image, layout, segments, words, domain);
     if !context.is_served() {
         return context;
     }
@@ -105,22 +106,23 @@ fn late_status(
 
 // ---- the call
 
-// The operations of a write: the copy, and then the span.
+// The operations of a write that the trace has for the kind of module: the copy, and then the span.
 fn put_write(
     image: &[u8],
     segment: Segment,
     plan: Plan,
     at: usize,
     bytes: &[u8],
+    domain: u64,
     trace: &mut [u64],
 ) -> usize
     requires { ⌜ Writable (segment .layout) (now image) (segment .main) × (segment .word < 2 ^ segment .layout .blocks) ⌝ }
     requires { ⌜ CopiesTo (segment .layout) plan ⌝ }
     requires { ⌜ (1 ≤ length (now bytes)) × (at + length (now bytes) ≤ length (now image)) ⌝ }
-    requires { ⌜ Fits (now trace) 0 (copyOnWriteOps (segment .layout) (now image) (segment .word) (segment .main) plan ++ spanStores (now image) at (now bytes)) ⌝ }
-    ensures { λ r. ⌜ Emitted (now (trace .entry)) 0 (copyOnWriteOps (segment .layout) (now (image .entry)) (segment .word) (segment .main) plan ++ spanStores (now (image .entry)) at (now (bytes .entry))) (now (trace .exit)) r ⌝ }
+    requires { ⌜ Fits domain (now trace) 0 (copyOnWriteOps (segment .layout) (now image) (segment .word) (segment .main) plan ++ spanStores (now image) at (now bytes)) ⌝ }
+    ensures { λ r. ⌜ Emitted domain (now (trace .entry)) 0 (copyOnWriteOps (segment .layout) (now (image .entry)) (segment .word) (segment .main) plan ++ spanStores (now (image .entry)) at (now (bytes .entry))) (now (trace .exit)) r ⌝ }
 {
-    let next = copy::put_copy_on_write(image, segment, plan, trace, 0);
+    let next = copy::put_copy_on_write(image, segment, plan, domain, trace, 0);
     span::put_span(image, at, bytes, trace, next)
 }
 
@@ -170,6 +172,7 @@ pub fn write_parts(
     layout: Layout,
     segments: u64,
     words: &[u64],
+    domain: u64,
     run: Run,
     client: u64,
     main: u64,
@@ -179,7 +182,7 @@ pub fn write_parts(
     trace: &mut [u64],
 ) -> Written
     requires { ⌜ most ≤ length (now words) ⌝ }
-    ensures { λ r. ⌜ ((R : Clients) → run ≡ loaded R → Gives (writeOutcome (sessionOf layout segments (now (words .entry))) (now (image .entry)) (writeArgsOf client main block offset (now (bytes .entry))) (lent R (now (trace .entry)))) (now (trace .entry)) (writtenAnswer (sessionOf layout segments (now (words .entry))) main r) (now (trace .exit)) (writtenClients R client r)) ⌝ }
+    ensures { λ r. ⌜ ((R : Clients) → run ≡ loaded R → Gives (writeOutcome (sessionOf layout segments (now (words .entry)) domain) (now (image .entry)) (writeArgsOf client main block offset (now (bytes .entry))) (lent R (now (trace .entry)))) (now (trace .entry)) (writtenAnswer (sessionOf layout segments (now (words .entry)) domain) main r) (now (trace .exit)) (writtenClients R client r)) ⌝ }
     ensures { λ r. ⌜ (served (codeOf (r .status)) ≡ false → (r .«dirty_segments» ≡ segments) × (r .word ≡ 0) × (r .used ≡ 0)) ⌝ }
     ensures { λ r. ⌜ (served (codeOf (r .status)) ≡ true → (main < most) × (client < run .count) × (run .count ≤ mostClients)) ⌝ }
 {
@@ -189,7 +192,7 @@ pub fn write_parts(
         offset: offset,
         len: bytes.len(),
     };
-    let early = early_status(image, layout, segments, words, run, client, span);
+    let early = early_status(image, layout, segments, words, domain, run, client, span);
     if !early.is_served() {
         return refused(early, segments);
     }
@@ -201,12 +204,12 @@ pub fn write_parts(
     };
     let plan = copy::plan_copy(image, layout, segments, main);
     let at = span::span_at(layout, span);
-    let ops = copy::copy_count(plan, segment) + span::span_words(at, span.len) as u64;
+    let ops = copy::copy_count(plan, segment, domain) + span::span_words(at, span.len) as u64;
     let late = late_status(image, layout, plan, run, client, ops, trace.len());
     if !late.is_served() {
         return refused(late, segments);
     }
-    put_write(image, segment, plan, at, bytes, trace);
+    put_write(image, segment, plan, at, bytes, domain, trace);
     Written {
         status: Status::Served,
         dirty_segments: session::set_segment(segments, main),
@@ -268,11 +271,13 @@ pub fn write_run(
     let layout = session.layout;
     let segments = session.dirty_segments;
     let words = &session.dirty_blocks;
+    let domain = session.domain;
     let written = write_parts(
         image,
         layout,
         segments,
         words,
+        domain,
         run,
         client,
         main,

@@ -11,10 +11,10 @@ use Rattle.blocks.proofs.put_clwbs.Statement.{statement}
 use Rattle.blocks.proofs.put_clwbs.Tie as tie
 
 abbrev Inv-loop : tie.InvT-loop
-Inv-loop at trace₀ n next₀ k₀ trace next k = (k ≤ blockLines) × (length trace ≡ length trace₀) × Emitted trace₀ n (clwbs k at) trace next
+Inv-loop at domain trace₀ n next₀ k₀ trace next k = (k ≤ blockLines) × (length trace ≡ length trace₀) × Emitted domain trace₀ n (clwbs k at) trace next
 
 abbrev μ-loop : tie.MeasureT-loop
-μ-loop at trace₀ n next₀ k₀ trace next k = blockLines - k
+μ-loop at domain trace₀ n next₀ k₀ trace next k = blockLines - k
 
 loop-holds : tie.Need-loop-holds Inv-loop μ-loop
 unfolding clwbs

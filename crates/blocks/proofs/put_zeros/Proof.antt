@@ -1,6 +1,7 @@
 use Rattle.model.specs.Layout.{blockWords}
 use Rattle.trace.proofs.EmitLaws.{emitted-none, emitted-each, fits-each}
 use Rattle.trace.specs.Emit.{Emitted}
+use Rattle.model.specs.Session.{adr}
 use Rattle.model.specs.Ops.{stores}
 use lib.ListN.{length}
 use native.Mathlib.Omega.{arith}
@@ -12,7 +13,7 @@ use Rattle.blocks.proofs.put_zeros.Tie as tie
 
 abbrev Inv-loop : tie.InvT-loop
 Inv-loop to trace₀ n next₀ k₀ trace next k =
-    (k ≤ blockWords) × (length trace ≡ length trace₀) × Emitted trace₀ n (stores k to (λ _. 0)) trace next
+    (k ≤ blockWords) × (length trace ≡ length trace₀) × Emitted adr trace₀ n (stores k to (λ _. 0)) trace next
 
 abbrev μ-loop : tie.MeasureT-loop
 μ-loop to trace₀ n next₀ k₀ trace next k = blockWords - k

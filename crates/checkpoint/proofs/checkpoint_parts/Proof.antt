@@ -2,7 +2,7 @@ use mathlib.Core.Path.{refl, sym, _∙_}
 use native.Mathlib.Omega.{arith}
 use borrow.Author.Needs.{needs}
 use borrow.Author.Tests.{eqb-true, not-true, not-false}
-use Rattle.model.specs.Ops.{traceErrors}
+use Rattle.model.specs.Ops.{forDomain, traceErrors}
 use Rattle.model.specs.Checkpoint.{checkpointOps, checkpointStatus, checkpointOutcome}
 use Rattle.model.proofs.Laws.Status.{stage-refused, stage-passed}
 use Rattle.trace.proofs.CallLaws.{fits-whole, gives-served}
@@ -22,7 +22,7 @@ unfolding checkpointStatus
 returns c = λ R x.
     let k = c .before .before in
     let g = k .before .before .before .before .args in
-    let s = sessionOf (g .layout) (g .segments) (g .words .now) in
+    let s = sessionOf (g .layout) (g .segments) (g .words .now) (g .domain) in
     let r = sym (c .before .is-served .ensures) ∙ not-true _ (c .if1 .taken) in
     refused-parts s (g .image .now) R (g .trace .now) (k .checkpoint-status .result) (stage-refused _ _ _ (k .checkpoint-status .ensures .0 R x) r) r
 
@@ -51,8 +51,8 @@ returns-2 c = λ R x.
     let i = n .before .before in
     let k = i .before .before in
     let g = k .before .before .before .before .args in
-    let s = sessionOf (g .layout) (g .segments) (g .words .now) in
-    let O = checkpointOps s (g .image .now) in
+    let s = sessionOf (g .layout) (g .segments) (g .words .now) (g .domain) in
+    let O = forDomain (g .domain) (checkpointOps s (g .image .now)) in
     let z = sym (i .before .is-served .ensures) ∙ not-false _ (i .if1 .left) in
     let r = sym (c .before .is-served2 .ensures) ∙ not-true _ (c .if2 .taken) in
     let e = t .trace-status .ensures O (g .trace .now) (sym (n .checkpoint-length .ensures .0 (g .segments) (g .image .now))) refl in
@@ -66,11 +66,12 @@ put-checkpoint-requires c κs =
     let i = n .before .before in
     let k = i .before .before in
     let g = k .before .before .before .before .args in
-    let O = checkpointOps (sessionOf (g .layout) (g .segments) (g .words .now)) (g .image .now) in
+    let s = sessionOf (g .layout) (g .segments) (g .words .now) (g .domain) in
+    let O = forDomain (g .domain) (checkpointOps s (g .image .now)) in
     let e = t .trace-status .ensures O (g .trace .now) (sym (n .checkpoint-length .ensures .0 (g .segments) (g .image .now))) refl in
     let p = sym (eqb-true _ 0 (sym (j .before .is-served2 .ensures) ∙ not-false _ (j .if2 .left))) ∙ e in
     let ok = k .checkpoint-status .ensures .1 (sym (i .before .is-served .ensures) ∙ not-false _ (i .if1 .left)) in
-    ((ok, n .before .marked-segments .ensures), fits-whole O (g .trace .now) p)
+    ((ok, n .before .marked-segments .ensures), fits-whole (checkpointOps s (g .image .now)) (g .trace .now) p)
 
 same-length : tie.Need-same-length
 same-length c = search needs
@@ -84,13 +85,13 @@ returns-3 c = λ R x.
     let i = n .before .before in
     let k = i .before .before in
     let g = k .before .before .before .before .args in
-    let s = sessionOf (g .layout) (g .segments) (g .words .now) in
-    let O = checkpointOps s (g .image .now) in
+    let s = sessionOf (g .layout) (g .segments) (g .words .now) (g .domain) in
+    let O = forDomain (g .domain) (checkpointOps s (g .image .now)) in
     let m = n .checkpoint-length .ensures .0 (g .segments) (g .image .now) in
     let z = sym (i .before .is-served .ensures) ∙ not-false _ (i .if1 .left) in
     let p = sym (eqb-true _ 0 (sym (j .before .is-served2 .ensures) ∙ not-false _ (j .if2 .left))) ∙ t .trace-status .ensures O (g .trace .now) (sym m) refl in
-    gives-served _ s _ R _ _ _ _ (refl, refl, refl) (stage-passed _ _ (traceErrors O (g .trace .now)) (omega arith) (k .checkpoint-status .ensures .0 R x) z ∙ sym p) refl m
-    (fits-whole O (g .trace .now) p) (c .before .before .put-checkpoint .ensures)
+    gives-served _ s _ R _ _ _ _ _ (refl, refl, refl) (stage-passed _ _ (traceErrors O (g .trace .now)) (omega arith) (k .checkpoint-status .ensures .0 R x) z ∙ sym p) refl m
+    (fits-whole (checkpointOps s (g .image .now)) (g .trace .now) p) (c .before .before .put-checkpoint .ensures)
 
 pub checkpoint-parts-spec : {M : Type 1} → statement M
 checkpoint-parts-spec =

@@ -28,7 +28,7 @@ returns-2 c =
     let b = c .before .before in
     let k = b .before .before in
     let g = k .before .before .before .args in
-    let s = sessionOf (g .layout) (g .segments) (g .words .now) in
+    let s = sessionOf (g .layout) (g .segments) (g .words .now) (g .domain) in
     let y = sym (b .before .is-served .ensures) ∙ not-false _ (b .if1 .left) in
     let r = sym (c .before .is-served2 .ensures) ∙ not-true _ (c .if2 .taken) in
     ((λ R x. clients-refused s (g .image .now) R _ _ (k .context-status .ensures) y x r), (λ z. absurd (true≢false (sym z ∙ r))))
@@ -38,7 +38,7 @@ word-at-requires c κs =
     let b = c .before .before in
     let k = b .before .before in
     let g = k .before .before .before .args in
-    omega (arith, long-enough (sessionOf (g .layout) (g .segments) (g .words .now)) (g .image .now) _ (k .context-status .ensures) (sym (b .before .is-served .ensures) ∙ not-false _ (b .if1 .left)))
+    omega (arith, long-enough (sessionOf (g .layout) (g .segments) (g .words .now) (g .domain)) (g .image .now) _ (k .context-status .ensures) (sym (b .before .is-served .ensures) ∙ not-false _ (b .if1 .left)))
 
 returns-3 : tie.Need-returns-3
 returns-3 c =
@@ -46,7 +46,7 @@ returns-3 c =
     let b = d .before .before in
     let k = b .before .before in
     let g = k .before .before .before .args in
-    let s = sessionOf (g .layout) (g .segments) (g .words .now) in
+    let s = sessionOf (g .layout) (g .segments) (g .words .now) (g .domain) in
     let y = sym (b .before .is-served .ensures) ∙ not-false _ (b .if1 .left) in
     let z = sym (d .before .is-served2 .ensures) ∙ not-false _ (d .if2 .left) in (
       λ R x. first-holds 10 _ _ (eq-eqb _ _ (sym (c .before .word-at .ensures) ∙ c .if3 .taken)) ∙ sym (epoch-left s (g .image .now) R _ _ (k .context-status .ensures) y x z),
@@ -60,7 +60,7 @@ returns-4 c =
     let k = b .before .before in
     let f = k .before .before .before in
     let g = f .args in
-    let s = sessionOf (g .layout) (g .segments) (g .words .now) in
+    let s = sessionOf (g .layout) (g .segments) (g .words .now) (g .domain) in
     let y = sym (b .before .is-served .ensures) ∙ not-false _ (b .if1 .left) in
     let z = sym (d .before .is-served2 .ensures) ∙ not-false _ (d .if2 .left) in (
       λ R x. first-fails 10 0 _ _ (ne-eqb _ _ (λ e. c .if3 .left (c .before .word-at .ensures ∙ e))) first-of-none

@@ -33,11 +33,11 @@ none layout words marked e i l d =
     ∙ none-dirty (layout .blocks) (λ b. clwbs blockLines (mainAt layout i + blockSize * b))
 
 abbrev Inv-loop : tie.InvT-loop
-Inv-loop layout words marked trace₀ n next₀ rest₀ trace next rest =
-    (length trace ≡ length trace₀) × ((k : ℕ) × (Walk marked (layout .mains) rest k × Emitted trace₀ n (cat k (flushed layout words)) trace next))
+Inv-loop layout words marked domain trace₀ n next₀ rest₀ trace next rest =
+    (length trace ≡ length trace₀) × ((k : ℕ) × (Walk marked (layout .mains) rest k × Emitted domain trace₀ n (cat k (flushed layout words)) trace next))
 
 abbrev μ-loop : tie.MeasureT-loop
-μ-loop layout words marked trace₀ n next₀ rest₀ trace next rest = rest
+μ-loop layout words marked domain trace₀ n next₀ rest₀ trace next rest = rest
 
 loop-holds : tie.Need-loop-holds Inv-loop μ-loop
 loop-holds c =

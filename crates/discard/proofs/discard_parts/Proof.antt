@@ -6,7 +6,7 @@ use borrow.Author.Needs.{needs}
 use borrow.Author.Tests.{eqb-true, not-true, not-false}
 use Rattle.model.specs.Container.{mainErrors}
 use Rattle.model.specs.Session.{contextErrors}
-use Rattle.model.specs.Ops.{traceErrors}
+use Rattle.model.specs.Ops.{Ops, forDomain, traceErrors}
 use Rattle.model.specs.Discard.{discardOps, discardStatus, discardOutcome}
 use Rattle.model.proofs.Laws.Status.{stage-refused, stage-passed}
 use Rattle.trace.proofs.EmitLaws.{fits-as, emitted-as}
@@ -27,17 +27,17 @@ unfolding discardStatus
 returns c = λ R.
     let k = c .before .before in
     let g = k .before .before .before .before .args in
-    let s = sessionOf (g .layout) (g .segments) (g .words .now) in
+    let s = sessionOf (g .layout) (g .segments) (g .words .now) (g .domain) in
     let r = sym (c .before .is-served .ensures) ∙ not-true _ (c .if1 .taken) in
     refused-parts s (g .image .now) (g .main) R (g .trace .now) (k .discard-status .result)
-    (stage-refused _ (contextErrors s (g .image .now) ++ mainErrors (g .layout) (g .main)) (traceErrors (discardOps s (g .image .now) (g .main)) (g .trace .now)) (k .discard-status .ensures) r) r
+    (stage-refused _ (contextErrors s (g .image .now) ++ mainErrors (g .layout) (g .main)) (traceErrors (forDomain (g .domain) (discardOps s (g .image .now) (g .main))) (g .trace .now)) (k .discard-status .ensures) r) r
 
 discarded-blocks-requires : tie.Need-discarded-blocks-requires
 discarded-blocks-requires c κs =
     let k = c .before .before in
     let b = k .before .before .before .before in
     let g = b .args in
-    let s = sessionOf (g .layout) (g .segments) (g .words .now) in
+    let s = sessionOf (g .layout) (g .segments) (g .words .now) (g .domain) in
     let z = sym (c .before .is-served .ensures) ∙ not-false _ (c .if1 .left) in
     let d = discardable s (g .image .now) (g .main) (sym (k .discard-status .ensures) ∙ eqb-true _ 0 z) in
     omega (arith, d .main, d .sizes, b .pre)
@@ -60,13 +60,13 @@ returns-2 c = λ R.
     let i = w .before in
     let k = i .before .before in
     let g = k .before .before .before .before .args in
-    let s = sessionOf (g .layout) (g .segments) (g .words .now) in
-    let O = discardOps s (g .image .now) (g .main) in
+    let s = sessionOf (g .layout) (g .segments) (g .words .now) (g .domain) in
+    let O = forDomain (g .domain) (discardOps s (g .image .now) (g .main)) in
     let z = sym (i .before .is-served .ensures) ∙ not-false _ (i .if1 .left) in
     let d = discardable s (g .image .now) (g .main) (sym (k .discard-status .ensures) ∙ eqb-true _ 0 z) in
     let within = discarded-within s (g .image .now) (g .main) _ (w .discarded-blocks .ensures) d in
     let same = discard-ops s (g .image .now) (g .main) _ (w .discarded-blocks .ensures) in
-    let m = n .discard-length .ensures .0 (g .layout) (g .image .now) (g .main) _ within ∙ ap length same in
+    let m = n .discard-length .ensures .0 (g .domain) (g .layout) (g .image .now) (g .main) _ within ∙ ap (λ (X : Ops). length (forDomain (g .domain) X)) same in
     let r = sym (c .before .is-served2 .ensures) ∙ not-true _ (c .if2 .taken) in
     refused-parts s (g .image .now) (g .main) R (g .trace .now) (t .trace-status .result)
     (t .trace-status .ensures O (g .trace .now) (sym m) refl
@@ -81,15 +81,15 @@ put-discard-requires c κs =
     let i = w .before in
     let k = i .before .before in
     let g = k .before .before .before .before .args in
-    let s = sessionOf (g .layout) (g .segments) (g .words .now) in
-    let O = discardOps s (g .image .now) (g .main) in
+    let s = sessionOf (g .layout) (g .segments) (g .words .now) (g .domain) in
+    let O = forDomain (g .domain) (discardOps s (g .image .now) (g .main)) in
     let z = sym (i .before .is-served .ensures) ∙ not-false _ (i .if1 .left) in
     let d = discardable s (g .image .now) (g .main) (sym (k .discard-status .ensures) ∙ eqb-true _ 0 z) in
     let within = discarded-within s (g .image .now) (g .main) _ (w .discarded-blocks .ensures) d in
     let same = discard-ops s (g .image .now) (g .main) _ (w .discarded-blocks .ensures) in
-    let m = n .discard-length .ensures .0 (g .layout) (g .image .now) (g .main) _ within ∙ ap length same in
+    let m = n .discard-length .ensures .0 (g .domain) (g .layout) (g .image .now) (g .main) _ within ∙ ap (λ (X : Ops). length (forDomain (g .domain) X)) same in
     let p = sym (eqb-true _ 0 (sym (j .before .is-served2 .ensures) ∙ not-false _ (j .if2 .left))) ∙ t .trace-status .ensures O (g .trace .now) (sym m) refl in
-    ((d .main, d .sizes, d .long, within), (d .valid, fits-as (sym same) (fits-whole O (g .trace .now) p)))
+    ((d .main, d .sizes, d .long, within), (d .valid, fits-as (sym same) (fits-whole (discardOps s (g .image .now) (g .main)) (g .trace .now) p)))
 
 same-length : tie.Need-same-length
 same-length c = search needs
@@ -104,17 +104,17 @@ returns-3 c = λ R.
     let i = w .before in
     let k = i .before .before in
     let g = k .before .before .before .before .args in
-    let s = sessionOf (g .layout) (g .segments) (g .words .now) in
-    let O = discardOps s (g .image .now) (g .main) in
+    let s = sessionOf (g .layout) (g .segments) (g .words .now) (g .domain) in
+    let O = forDomain (g .domain) (discardOps s (g .image .now) (g .main)) in
     let z = sym (i .before .is-served .ensures) ∙ not-false _ (i .if1 .left) in
     let d = discardable s (g .image .now) (g .main) (sym (k .discard-status .ensures) ∙ eqb-true _ 0 z) in
     let within = discarded-within s (g .image .now) (g .main) _ (w .discarded-blocks .ensures) d in
     let same = discard-ops s (g .image .now) (g .main) _ (w .discarded-blocks .ensures) in
-    let m = n .discard-length .ensures .0 (g .layout) (g .image .now) (g .main) _ within ∙ ap length same in
+    let m = n .discard-length .ensures .0 (g .domain) (g .layout) (g .image .now) (g .main) _ within ∙ ap (λ (X : Ops). length (forDomain (g .domain) X)) same in
     let p = sym (eqb-true _ 0 (sym (j .before .is-served2 .ensures) ∙ not-false _ (j .if2 .left))) ∙ t .trace-status .ensures O (g .trace .now) (sym m) refl in
-    gives-served _ s s R R O _ _ (refl, refl, refl)
+    gives-served _ s s R R (g .domain) (discardOps s (g .image .now) (g .main)) _ _ (refl, refl, refl)
     (stage-passed _ (contextErrors s (g .image .now) ++ mainErrors (g .layout) (g .main)) (traceErrors O (g .trace .now)) (omega arith) (k .discard-status .ensures) z ∙ sym p) refl m
-    (fits-whole O (g .trace .now) p) (emitted-as (c .before .before .put-discard .ensures) same)
+    (fits-whole (discardOps s (g .image .now) (g .main)) (g .trace .now) p) (emitted-as (c .before .before .put-discard .ensures) same)
 
 pub discard-parts-spec : {M : Type 1} → statement M
 discard-parts-spec =

@@ -19,7 +19,7 @@ returns : tie.Need-returns
 returns c =
     let k = c .before .before in
     let g = k .before .before .before .args in
-    stage-refused _ (contextErrors (sessionOf (g .layout) (g .segments) (g .words .now)) (g .image .now)) (mainErrors (g .layout) (g .main)) (k .context-status .ensures)
+    stage-refused _ (contextErrors (sessionOf (g .layout) (g .segments) (g .words .now) (g .domain)) (g .image .now)) (mainErrors (g .layout) (g .main)) (k .context-status .ensures)
     (sym (c .before .is-served .ensures) ∙ not-true _ (c .if1 .taken))
 
 main-status-requires : tie.Need-main-status-requires
@@ -31,7 +31,7 @@ returns-2 c =
     let k = i .before .before in
     let g = k .before .before .before .args in
     c .main-status .ensures
-    ∙ sym (stage-passed _ (contextErrors (sessionOf (g .layout) (g .segments) (g .words .now)) (g .image .now)) (mainErrors (g .layout) (g .main)) (omega arith) (k .context-status .ensures)
+    ∙ sym (stage-passed _ (contextErrors (sessionOf (g .layout) (g .segments) (g .words .now) (g .domain)) (g .image .now)) (mainErrors (g .layout) (g .main)) (omega arith) (k .context-status .ensures)
     (sym (i .before .is-served .ensures) ∙ not-false _ (i .if1 .left)))
 
 pub discard-status-spec : {M : Type 1} → statement M

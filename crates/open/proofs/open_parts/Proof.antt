@@ -31,7 +31,7 @@ returns c = λ R x.
     let I = g .image .now in
     let t = g .trace .now in
     let r = sym (s .is-served .ensures) ∙ not-true _ (c .before .if1 .taken) in
-    refused-gives (openStatus l I (lent R t)) l R (recoveryOps l I (activeLine I)) t _ (c .refused .ensures) (open-refused l I (lent R t) _ (s .before .layout-status .ensures) r) r
+    refused-gives (openStatus l (g .domain) I (lent R t)) l R (g .domain) (recoveryOps l I (activeLine I)) t _ (c .refused .ensures) (open-refused l (g .domain) I (lent R t) _ (s .before .layout-status .ensures) r) r
 
 active-at-requires : tie.Need-active-at-requires
 active-at-requires c κs =
@@ -63,7 +63,7 @@ returns-2 c = λ R x.
     let g = s .before .before .before .before .args in
     let t = g .trace .now in
     let h = sym (s .is-served .ensures) ∙ not-false _ (d .before .if1 .left) in
-    open-gives (g .layout) (g .image .now) (lent R t) _ (s .before .layout-status .ensures) h _ t (f .recover .result) _ _ (f .recover .ensures R x) (d .active-at .ensures .0)
+    open-gives (g .layout) (g .domain) (g .image .now) (lent R t) _ (s .before .layout-status .ensures) h _ t (f .recover .result) _ _ (f .recover .ensures R x) (d .active-at .ensures .0)
 
 pub open-parts-spec : {M : Type 1} → statement M
 open-parts-spec = tie.close (tie.spec layout-status-requires is-served-requires refused-requires returns active-at-requires recover-requires same-length returns-2)

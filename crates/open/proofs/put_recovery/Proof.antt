@@ -1,21 +1,21 @@
 use Prim.Native.Nat.{_-_, _≤_}
-use mathlib.Core.Path.{_≡_, _∙_}
+use mathlib.Core.Path.{_≡_, refl, _∙_}
 use mathlib.Core.List.{[], _∷_}
 use native.Mathlib.Omega.{arith}
 use borrow.Author.Needs.{needs}
 use Rattle.model.specs.Range.{cat}
-use Rattle.model.specs.Ops.{sfence}
+use Rattle.model.specs.Ops.{sfence, forDomain}
 use Rattle.model.specs.Open.{recoverSegment, recoveryOps}
 use Rattle.trace.specs.Emit.{Emitted}
-use Rattle.trace.proofs.EmitLaws.{fits-first, fits-then, fits-each, emitted-none, emitted-each, emitted-then, emitted-length}
+use Rattle.trace.proofs.EmitLaws.{fits-first, fits-then, fits-each, emitted-none, emitted-each, emitted-then, emitted-length, fits-plain, emitted-plain}
 use Rattle.open.proofs.put_recovery.Statement.{statement}
 use Rattle.open.proofs.put_recovery.Tie as tie
 
 abbrev Inv-loop : tie.InvT-loop
-Inv-loop image layout line backup trace₀ n mains next₀ i₀ trace next i = (i ≤ mains) × Emitted trace₀ n (cat i (recoverSegment layout image line)) trace next
+Inv-loop image layout line backup domain trace₀ n mains next₀ i₀ trace next i = (i ≤ mains) × Emitted domain trace₀ n (cat i (recoverSegment layout image line)) trace next
 
 abbrev μ-loop : tie.MeasureT-loop
-μ-loop image layout line backup trace₀ n mains next₀ i₀ trace next i = mains - i
+μ-loop image layout line backup domain trace₀ n mains next₀ i₀ trace next i = mains - i
 
 loop-holds : tie.Need-loop-holds Inv-loop μ-loop
 loop-holds c = (search needs, emitted-none _)
@@ -42,22 +42,22 @@ loop-again c =
     (omega arith, emitted-each (b .loop .i) _ (b .loop .inv .1) (c .before .before .put-segment .ensures))
 
 put-sfence-requires : tie.Need-put-sfence-requires Inv-loop μ-loop
-unfolding recoveryOps
+unfolding recoveryOps forDomain
 put-sfence-requires c κs =
     let b = c .before .before in
     let f = b .before .before .before in
     let e : b .loop .i ≡ f .args .layout .mains = omega arith in
-    fits-then (f .pre .1) (rw e at (b .loop .inv .1))
+    fits-plain refl (fits-then (f .pre .1) (rw e at (b .loop .inv .1)))
 
 same-length : tie.Need-same-length Inv-loop μ-loop
 same-length c = emitted-length (c .before .before .put-sfence .ensures) ∙ emitted-length (c .before .before .before .before .before .loop .inv .1)
 
 returns : tie.Need-returns Inv-loop μ-loop
-unfolding recoveryOps
+unfolding recoveryOps forDomain
 returns c =
     let b = c .before .before .before .before .before in
     let e : b .loop .i ≡ b .before .before .before .args .layout .mains = omega arith in
-    emitted-then (rw e at (b .loop .inv .1)) (c .before .before .put-sfence .ensures)
+    emitted-then (rw e at (b .loop .inv .1)) (emitted-plain _ refl (c .before .before .put-sfence .ensures))
 
 pub put-recovery-spec : {M : Type 1} → statement M
 put-recovery-spec = tie.close (tie.spec Inv-loop μ-loop loop-holds put-segment-requires add-i loop-less loop-again put-sfence-requires same-length returns)

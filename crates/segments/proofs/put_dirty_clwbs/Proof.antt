@@ -15,12 +15,12 @@ use Rattle.segments.proofs.put_dirty_clwbs.Statement.{statement}
 use Rattle.segments.proofs.put_dirty_clwbs.Tie as tie
 
 abbrev Inv-loop : tie.InvT-loop
-Inv-loop blocks dirty at trace₀ n next₀ rest₀ trace next rest =
+Inv-loop blocks dirty at domain trace₀ n next₀ rest₀ trace next rest =
     (length trace ≡ length trace₀)
-    × ((k : ℕ) × (Walk dirty blocks rest k × Emitted trace₀ n (eachDirty dirty k (λ b. clwbs blockLines (at + blockSize * b))) trace next))
+    × ((k : ℕ) × (Walk dirty blocks rest k × Emitted domain trace₀ n (eachDirty dirty k (λ b. clwbs blockLines (at + blockSize * b))) trace next))
 
 abbrev μ-loop : tie.MeasureT-loop
-μ-loop blocks dirty at trace₀ n next₀ rest₀ trace next rest = rest
+μ-loop blocks dirty at domain trace₀ n next₀ rest₀ trace next rest = rest
 
 loop-holds : tie.Need-loop-holds Inv-loop μ-loop
 loop-holds c = (search needs, (0, (walk-start (search needs) (search needs), emitted-none _)))

@@ -17,12 +17,12 @@ use Rattle.segments.proofs.put_dirty_copies.Statement.{statement}
 use Rattle.segments.proofs.put_dirty_copies.Tie as tie
 
 abbrev Inv-loop : tie.InvT-loop
-Inv-loop image blocks word from to flush trace₀ n next₀ rest₀ trace next rest =
+Inv-loop image blocks word from to flush domain trace₀ n next₀ rest₀ trace next rest =
     (length trace ≡ length trace₀)
-    × ((k : ℕ) × (Walk word blocks rest k × Emitted trace₀ n (eachDirty word k (λ b. putBlock flush (to + blockSize * b) (λ j. wordAt image (from + blockSize * b + wordSize * j)))) trace next))
+    × ((k : ℕ) × (Walk word blocks rest k × Emitted domain trace₀ n (eachDirty word k (λ b. putBlock flush (to + blockSize * b) (λ j. wordAt image (from + blockSize * b + wordSize * j)))) trace next))
 
 abbrev μ-loop : tie.MeasureT-loop
-μ-loop image blocks word from to flush trace₀ n next₀ rest₀ trace next rest = rest
+μ-loop image blocks word from to flush domain trace₀ n next₀ rest₀ trace next rest = rest
 
 loop-holds : tie.Need-loop-holds Inv-loop μ-loop
 loop-holds c = (search needs, (0, (walk-start (search needs) (search needs), emitted-none _)))

@@ -16,12 +16,12 @@ use Rattle.segments.proofs.put_dirty_zeros.Statement.{statement}
 use Rattle.segments.proofs.put_dirty_zeros.Tie as tie
 
 abbrev Inv-loop : tie.InvT-loop
-Inv-loop blocks word to trace₀ n next₀ rest₀ trace next rest =
+Inv-loop blocks word to domain trace₀ n next₀ rest₀ trace next rest =
     (length trace ≡ length trace₀)
-    × ((k : ℕ) × (Walk word blocks rest k × Emitted trace₀ n (eachDirty word k (λ b. putBlock false (to + blockSize * b) (λ _. 0))) trace next))
+    × ((k : ℕ) × (Walk word blocks rest k × Emitted domain trace₀ n (eachDirty word k (λ b. putBlock false (to + blockSize * b) (λ _. 0))) trace next))
 
 abbrev μ-loop : tie.MeasureT-loop
-μ-loop blocks word to trace₀ n next₀ rest₀ trace next rest = rest
+μ-loop blocks word to domain trace₀ n next₀ rest₀ trace next rest = rest
 
 loop-holds : tie.Need-loop-holds Inv-loop μ-loop
 loop-holds c = (search needs, (0, (walk-start (search needs) (search needs), emitted-none _)))

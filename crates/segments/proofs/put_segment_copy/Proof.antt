@@ -14,13 +14,13 @@ use Rattle.segments.proofs.put_segment_copy.Statement.{statement}
 use Rattle.segments.proofs.put_segment_copy.Tie as tie
 
 abbrev Inv-loop : tie.InvT-loop
-Inv-loop image from to trace₀ n blocks next₀ b₀ trace next b =
+Inv-loop image from to domain trace₀ n blocks next₀ b₀ trace next b =
     (b ≤ blocks)
     × (length trace ≡ length trace₀)
-    × Emitted trace₀ n (cat b (λ i. persistCopy image (from + blockSize * i) (to + blockSize * i))) trace next
+    × Emitted domain trace₀ n (cat b (λ i. persistCopy image (from + blockSize * i) (to + blockSize * i))) trace next
 
 abbrev μ-loop : tie.MeasureT-loop
-μ-loop image from to trace₀ n blocks next₀ b₀ trace next b = blocks - b
+μ-loop image from to domain trace₀ n blocks next₀ b₀ trace next b = blocks - b
 
 loop-holds : tie.Need-loop-holds Inv-loop μ-loop
 loop-holds c = (search needs, search needs, emitted-none _)

@@ -12,13 +12,13 @@ use Rattle.segments.proofs.put_segment_zero.Statement.{statement}
 use Rattle.segments.proofs.put_segment_zero.Tie as tie
 
 abbrev Inv-loop : tie.InvT-loop
-Inv-loop to trace₀ n blocks next₀ b₀ trace next b =
+Inv-loop to domain trace₀ n blocks next₀ b₀ trace next b =
     (b ≤ blocks)
     × (length trace ≡ length trace₀)
-    × Emitted trace₀ n (cat b (λ i. persistZero (to + blockSize * i))) trace next
+    × Emitted domain trace₀ n (cat b (λ i. persistZero (to + blockSize * i))) trace next
 
 abbrev μ-loop : tie.MeasureT-loop
-μ-loop to trace₀ n blocks next₀ b₀ trace next b = blocks - b
+μ-loop to domain trace₀ n blocks next₀ b₀ trace next b = blocks - b
 
 loop-holds : tie.Need-loop-holds Inv-loop μ-loop
 loop-holds c = (search needs, search needs, emitted-none _)

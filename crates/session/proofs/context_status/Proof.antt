@@ -22,7 +22,7 @@ returns : tie.Need-returns
 returns c =
     let b = c .before .before in
     let a = b .before .before .before .args in
-    let s = sessionOf (a .layout) (a .segments) (a .words .now) in
+    let s = sessionOf (a .layout) (a .segments) (a .words .now) (a .domain) in
     stage-refused (codeOf (b .container-status .result)) (containerErrors (a .layout) (a .image .now)) (sessionErrors s (a .image .now)) (c .before .before .container-status .ensures) (sym (c .before .is-served .ensures) ∙ not-true _ (c .if1 .taken))
 
 active-at-requires : tie.Need-active-at-requires
@@ -57,14 +57,14 @@ returns-2 c =
     let b = c .before .before .before .before in
     let a = b .before .before .before .before .before .args in
     ap (λ (v : Bool). cond v 0 5) (sym (not-true (c .before .session-valid .result) (c .if2 .taken)))
-    ∙ session-judged (sessionOf (a .layout) (a .segments) (a .words .now)) (a .image .now) _ _ _ (b .before .before .container-status .ensures) (sym (b .before .is-served .ensures) ∙ not-false _ (b .if1 .left)) (c .before .before .before .active-at .ensures .0) (c .before .session-valid .ensures)
+    ∙ session-judged (sessionOf (a .layout) (a .segments) (a .words .now) (a .domain)) (a .image .now) _ _ _ (b .before .before .container-status .ensures) (sym (b .before .is-served .ensures) ∙ not-false _ (b .if1 .left)) (c .before .before .before .active-at .ensures .0) (c .before .session-valid .ensures)
 
 returns-3 : tie.Need-returns-3
 returns-3 c =
     let b = c .before .before .before .before in
     let a = b .before .before .before .before .before .args in
     ap (λ (v : Bool). cond v 0 5) (sym (not-false (c .before .session-valid .result) (c .if2 .left)))
-    ∙ session-judged (sessionOf (a .layout) (a .segments) (a .words .now)) (a .image .now) _ _ _ (b .before .before .container-status .ensures) (sym (b .before .is-served .ensures) ∙ not-false _ (b .if1 .left)) (c .before .before .before .active-at .ensures .0) (c .before .session-valid .ensures)
+    ∙ session-judged (sessionOf (a .layout) (a .segments) (a .words .now) (a .domain)) (a .image .now) _ _ _ (b .before .before .container-status .ensures) (sym (b .before .is-served .ensures) ∙ not-false _ (b .if1 .left)) (c .before .before .before .active-at .ensures .0) (c .before .session-valid .ensures)
 
 pub context-status-spec : {M : Type 1} → statement M
 context-status-spec =

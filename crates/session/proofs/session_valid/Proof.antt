@@ -13,7 +13,7 @@ within-requires c κs = search needs
 returns : tie.Need-returns
 returns c =
     let b = c .before in
-    valid-session-tests _ _ false _ _ _ (omega arith) (sym (not-true _ (c .if1 .taken)) ∙ b .within .ensures) refl refl refl
+    valid-session-tests _ _ false _ _ _ _ (omega arith) (sym (not-true _ (c .if1 .taken)) ∙ b .within .ensures) refl refl refl refl
 
 blocks-within-requires : tie.Need-blocks-within-requires
 blocks-within-requires c κs = search needs
@@ -29,8 +29,8 @@ none-in-main-requires c κs =
 returns-2 : tie.Need-returns-2
 returns-2 c =
     let b = c .before .before .before in
-    valid-session-tests _ _ true _ _ _ (omega arith) (sym (not-false _ (b .if1 .left)) ∙ b .before .within .ensures)
-    (c .before .before .blocks-within .ensures) (c .before .rest-clear .ensures) (c .none-in-main .ensures)
+    valid-session-tests _ _ true _ _ _ _ (omega arith) (sym (not-false _ (b .if1 .left)) ∙ b .before .within .ensures)
+    (c .before .before .blocks-within .ensures) (c .before .rest-clear .ensures) (c .none-in-main .ensures) refl
 
 pub session-valid-spec : {M : Type 1} → statement M
 session-valid-spec =

@@ -4,7 +4,7 @@ use mathlib.Core.List.{[], _∷_}
 use lib.ListN.{length, set}
 use borrow.Author.Needs.{needs}
 use Rattle.model.specs.Words.{byteAt, wordOf, wordAt, overlay}
-use Rattle.model.specs.Ops.{wordPlace}
+use Rattle.model.specs.Ops.{wordPlace, forDomain}
 use Rattle.span.proofs.SpanLaws.{byte-laid}
 use Rattle.span.proofs.put_byte.Statement.{statement}
 use Rattle.span.proofs.put_byte.Tie as tie
@@ -22,6 +22,7 @@ join-requires : tie.Need-join-requires
 join-requires c κs = search needs
 
 put-store-requires : tie.Need-put-store-requires
+unfolding forDomain
 put-store-requires c κs = search needs
 
 same-length : tie.Need-same-length

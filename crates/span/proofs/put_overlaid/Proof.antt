@@ -1,4 +1,5 @@
 use borrow.Author.Needs.{needs}
+use Rattle.model.specs.Ops.{forDomain}
 use Rattle.span.proofs.put_overlaid.Statement.{statement}
 use Rattle.span.proofs.put_overlaid.Tie as tie
 
@@ -6,6 +7,7 @@ overlaid-word-requires : tie.Need-overlaid-word-requires
 overlaid-word-requires c κs = search needs
 
 put-store-requires : tie.Need-put-store-requires
+unfolding forDomain
 put-store-requires c κs = search needs
 
 same-length : tie.Need-same-length

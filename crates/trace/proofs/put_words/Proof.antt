@@ -4,6 +4,7 @@ use native.Mathlib.Omega.{arith}
 use lib.ListN.{length}
 use borrow.Author.Needs.{needs}
 use Rattle.model.specs.Words.{wordAt}
+use Rattle.model.specs.Session.{adr}
 use Rattle.model.specs.Ops.{stores}
 use Rattle.trace.specs.Emit.{Emitted}
 use Rattle.trace.proofs.EmitLaws.{emitted-length, emitted-none, fits-each, emitted-each}
@@ -11,7 +12,7 @@ use Rattle.trace.proofs.put_words.Statement.{statement}
 use Rattle.trace.proofs.put_words.Tie as tie
 
 abbrev Inv-loop : tie.InvT-loop
-Inv-loop trace₀ n place bytes count next₀ k₀ trace next k = (k ≤ count) × Emitted trace₀ n (stores k place (λ j. wordAt bytes (8 * j))) trace next
+Inv-loop trace₀ n place bytes count next₀ k₀ trace next k = (k ≤ count) × Emitted adr trace₀ n (stores k place (λ j. wordAt bytes (8 * j))) trace next
 
 abbrev μ-loop : tie.MeasureT-loop
 μ-loop trace₀ n place bytes count next₀ k₀ trace next k = count - k

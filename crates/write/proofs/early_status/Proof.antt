@@ -34,7 +34,7 @@ returns-2 : tie.Need-returns-2
 returns-2 c =
     let b = c .before .before .before in
     let a = b .before .before .before .before .before .args in
-    let s = sessionOf (a .layout) (a .segments) (a .words .now) in
+    let s = sessionOf (a .layout) (a .segments) (a .words .now) (a .domain) in
     let n = sym (c .before .is-served2 .ensures) ∙ not-true _ (c .if2 .taken) in (
       λ R bytes e x.
           let p = stage-passed _ (contextErrors s (a .image .now)) _ (omega arith) (b .before .before .context-status .ensures) (sym (b .before .is-served .ensures) ∙ not-false _ (b .if1 .left)) in
@@ -53,7 +53,7 @@ returns-3 c =
     let d = c .before .before .before in
     let b = d .before .before .before in
     let a = b .before .before .before .before .before .args in
-    let s = sessionOf (a .layout) (a .segments) (a .words .now) in
+    let s = sessionOf (a .layout) (a .segments) (a .words .now) (a .domain) in
     let n = sym (c .before .is-served3 .ensures) ∙ not-true _ (c .if3 .taken) in (
       λ R bytes e x.
           let p = stage-passed _ (contextErrors s (a .image .now)) _ (omega arith) (b .before .before .context-status .ensures) (sym (b .before .is-served .ensures) ∙ not-false _ (b .if1 .left)) in
@@ -77,7 +77,7 @@ returns-4 c =
     let d = f .before .before .before in
     let b = d .before .before .before in
     let a = b .before .before .before .before .before .args in
-    let s = sessionOf (a .layout) (a .segments) (a .words .now) in (
+    let s = sessionOf (a .layout) (a .segments) (a .words .now) (a .domain) in (
       λ R bytes e x.
           let p = stage-passed _ (contextErrors s (a .image .now)) _ (omega arith) (b .before .before .context-status .ensures) (sym (b .before .is-served .ensures) ∙ not-false _ (b .if1 .left)) in
           let k = stage-passed _ (clientErrors (a .layout) R (a .client)) _ (omega arith) (d .before .before .client-status .ensures .0 R e) (sym (d .before .is-served2 .ensures) ∙ not-false _ (d .if2 .left)) in
@@ -92,7 +92,7 @@ returns-5 c =
     let d = f .before .before .before in
     let b = d .before .before .before in
     let a = b .before .before .before .before .before .args in
-    let s = sessionOf (a .layout) (a .segments) (a .words .now) in (
+    let s = sessionOf (a .layout) (a .segments) (a .words .now) (a .domain) in (
       λ R bytes e x.
           let p = stage-passed _ (contextErrors s (a .image .now)) _ (omega arith) (b .before .before .context-status .ensures) (sym (b .before .is-served .ensures) ∙ not-false _ (b .if1 .left)) in
           let k = stage-passed _ (clientErrors (a .layout) R (a .client)) _ (omega arith) (d .before .before .client-status .ensures .0 R e) (sym (d .before .is-served2 .ensures) ∙ not-false _ (d .if2 .left)) in
