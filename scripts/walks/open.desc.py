@@ -2,7 +2,7 @@
 u64 = dict(kind='int', row='u64', w='w64')
 walk = dict(
     crate='open', call='crpm_open', work='open_run', says='OpenGives', done='OpenRun',
-    params=[dict(kind='shr', row='u8', w='w8'), u64, u64, u64, dict(kind='run'), dict(kind='mut', row='u64', w='w64')],
+    params=[dict(kind='shr', row='u8', w='w8'), u64, u64, u64, u64, dict(kind='run'), dict(kind='mut', row='u64', w='w64')],
     result=dict(field='answer', mod='An'),
     last=dict(name='clear_from', args=[dict(kind='int', field='from', row='usize', w='w64')]),
     left=lambda R, a: 'clearedFrom (%s .from) %s' % (a, R),

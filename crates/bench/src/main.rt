@@ -535,6 +535,7 @@ fn start(image: &mut [u8], layout: Layout, trace: &mut [u64]) -> Stand {
         layout.mains,
         layout.backups,
         layout.blocks,
+        Session::ADR,
         &mut clients,
         trace,
     );
@@ -683,6 +684,7 @@ fn keeps(before: [u8; IMAGE_LONG], layout: Layout, written: &[u64], n: u64) -> b
         layout.mains,
         layout.backups,
         layout.blocks,
+        Session::ADR,
         &mut clients,
         &mut trace,
     );

@@ -25,7 +25,7 @@ use Rattle.benches.specs.Sheets.{example, examplePrinted, twoBenches, tw
 abbrev withImage : Board → List ℕ → Board
 withImage b I =
     let d = b .device in
-    record { device = record { layout = d .layout; durable = d .durable; played = d .played; image = I; session = d .session }; clients = b .clients }
+    record { device = record { layout = d .layout; durable = d .durable; played = d .played; adrPlayed = d .adrPlayed; image = I; session = d .session }; clients = b .clients }
 
 abbrev knownBoard : {A : Type 0} → Board → (Board → A) → A
 knownBoard b k = known (b .device .image) (λ I. k (withImage b I))

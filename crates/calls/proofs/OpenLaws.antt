@@ -5,6 +5,7 @@ use mathlib.Core.Bool.{true}
 use mathlib.Core.List.{List, [], _∷_}
 use lib.ListN.{length}
 use borrow.Author.Tests.{eq-eqb}
+use Rattle.model.specs.Session.{adr}
 use Rattle.model.specs.declared.Layout.{Layout}
 use Rattle.model.specs.declared.Session.{Session}
 use Rattle.model.specs.Words.{Image}
@@ -30,11 +31,11 @@ formats l I J s e f = rw (s, eq-eqb (length I) (imageSize l) e) at f
 
 -- a module that stands at an image and a session, and the one client, which has taken nothing
 abbrev standing : Layout → Image → Session → Board
-standing l I s = record { device = record { layout = l; durable = I; played = []; image = I; session = s }; clients = alone l 0 }
+standing l I s = record { device = record { layout = l; durable = I; played = []; adrPlayed = []; image = I; session = s }; clients = alone l 0 }
 
 pub opened : (l : Layout) (I : Image) (a : Ran) (out out₁ out₂ : List ℕ) (I′ : Image) (w r : Ran) → I ≡ formatted l
     → a .place ≡ 0 → clientIn (a .client) ∷ [] ≡ alone l 0
-    → CallRan I a (openArgs l) "open=" out I′ out₁ w
+    → CallRan I a (openArgs l adr) "open=" out I′ out₁ w
     → Appended out₁ (w .place) (text "\n") out₂ (r .place)
     → Kept w r
     → Opened l out I′ out₂ r

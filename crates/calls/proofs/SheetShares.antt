@@ -4,6 +4,7 @@ use mathlib.Core.Path.{_≡_, refl, sym, ap, _∙_, subst}
 use mathlib.Core.List.{List, [], _∷_}
 use native.Mathlib.Omega.{arith}
 use borrow.Author.Tests.{eq-eqb}
+use Rattle.model.specs.Session.{adr}
 use Rattle.model.specs.declared.Layout.{Layout}
 use Rattle.model.specs.Clients.{Clients, cleared}
 use Rattle.model.specs.Outcome.{lent, outcomeOf}
@@ -47,17 +48,17 @@ made-permitted s R (c ∷ cs) h =
     ((h .0 .0, q .0), (h .0 .1, q .1))
 
 -- an opening that is served leaves a client that has taken nothing
-opened-clients : (l : Layout) → SheetSizes l → openedBoard l ≡ boardOf (start l (formatted l) (firstLent l)) (cleared (firstLent l .clients))
+opened-clients : (l : Layout) → SheetSizes l → openedBoard l ≡ boardOf (start l adr (formatted l) (firstLent l)) (cleared (firstLent l .clients))
 unfolding openedBoard openOutcome outcomeOf
 opened-clients l h = rw (eq-eqb _ _ (sheet-trace-suffices .opening l h))
 
 pub sheet-unhindered : SheetUnhindered
 sheet-unhindered l h cs of c own =
-    let s = start l (formatted l) (firstLent l) in
+    let s = start l adr (formatted l) (firstLent l) in
     let R = cleared (firstLent l .clients) in
     let all = made-permitted s R cs of in
     let k : Call = record { args = c; lends = lent (clientsLeft s R (made s R cs)) blank } in
-    let bytes = formatted-starts l (omega (arith, h .mains, h .backups, h .blocks)) (firstLent l) .0 in
+    let bytes = formatted-starts l (omega (arith, h .mains, h .backups, h .blocks)) adr (firstLent l) .0 in
     subst (λ (b : Board). NoShareRefuses (b .device) (callOn b c))
     (sym (ap (λ (b : Board). boardAfter b cs) (opened-clients l h) ∙ made-left s R cs))
-    (alone-unhindered l (formatted l) (firstLent l) 0 refl bytes (sheet-trace-suffices .opening l h) (made s R cs) (all .0) (all .1) (made-one s R cs) k (own .0) (own .1) refl)
+    (alone-unhindered l adr (formatted l) (firstLent l) 0 refl bytes (sheet-trace-suffices .opening l h) (made s R cs) (all .0) (all .1) (made-one s R cs) k (own .0) (own .1) refl)

@@ -4,6 +4,7 @@ use mathlib.Core.Path.{_≡_}
 use native.Mathlib.Omega.{arith}
 use native.Mathlib.Nat.{mul-le-mul}
 use lib.ListN.{length, length-replicate}
+use Rattle.model.specs.Session.{adr}
 use Rattle.model.specs.declared.Layout.{Layout}
 use Rattle.model.specs.Outcome.{lent}
 use Rattle.model.proofs.Laws.Format.{formatted-accepted}
@@ -22,7 +23,7 @@ blocks-most l h = mul-le-mul {n₁ = l .blocks} {m₁ = l .mains} {n₂ = mostSi
 
 pub sheet-trace-suffices : SheetTraceSuffices
 sheet-trace-suffices = record {
-  opening = λ l h. formatted-accepted l (omega (arith, h .mains, h .backups, h .blocks)) (firstLent l) (alone-ok l 0 (omega arith)) (omega (arith, blank-long, blocks-most l h));
+  opening = λ l h. formatted-accepted l (omega (arith, h .mains, h .backups, h .blocks)) (firstLent l) (alone-ok l 0 (omega arith)) (omega (arith, blank-long, blocks-most l h)) adr (omega arith);
   write = λ s I w R h. write-trace-suffices s I w (lent R blank) (omega (arith, blank-long, h .blocks));
   checkpoint = λ s I R h. checkpoint-trace-suffices s I (lent R blank) (omega (arith, blank-long, blocks-most (s .layout) h));
 }

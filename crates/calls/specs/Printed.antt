@@ -6,6 +6,7 @@ use Prim.Native.String.{String}
 use mathlib.Core.Bool.{Bool, cond}
 use mathlib.Core.List.{List, [], _∷_, _++_}
 use lib.ListN.{length, replicate}
+use Rattle.model.specs.Session.{adr}
 use Rattle.model.specs.declared.Layout.{Layout}
 use Rattle.model.specs.Layout.{blockOps}
 use Rattle.model.specs.Container.{committedEpoch}
@@ -93,11 +94,11 @@ firstLent l = lent (alone l 0) blank
 
 -- where the opening of a formatted image leaves the sheet
 unfoldable pub openedBoard : Layout → Board
-openedBoard l = record { device = start l (formatted l) (firstLent l) .device; clients = openOutcome l (formatted l) (firstLent l) .clients }
+openedBoard l = record { device = start l adr (formatted l) (firstLent l) .device; clients = openOutcome l adr (formatted l) (firstLent l) .clients }
 
 -- the first line: its answer
 unfoldable pub openText : Layout → List ℕ
-openText l = answerText "open=" (openOutcome l (formatted l) (firstLent l)) ++ text "\n"
+openText l = answerText "open=" (openOutcome l adr (formatted l) (firstLent l)) ++ text "\n"
 
 -- all that a sheet prints: a bad one only its number
 unfoldable pub scriptText : Script → List ℕ

@@ -3,6 +3,7 @@
 use Prim.Native.Nat.{_≤_}
 use mathlib.Core.Path.{_≡_}
 use mathlib.Core.Logic.{_≢_}
+use Rattle.model.specs.Session.{adr}
 use Rattle.model.specs.declared.Layout.{Layout}
 use Rattle.model.specs.declared.Session.{Session}
 use Rattle.model.specs.Words.{Image}
@@ -22,7 +23,7 @@ pub record SheetSizes (l : Layout) : Type 0 where
   pub blocks : (1 ≤ l .blocks) × (l .blocks ≤ mostSize)
 
 pub record SheetTraceSuffices : Type 0 where
-  pub opening : (l : Layout) → SheetSizes l → openStatus l (formatted l) (firstLent l) ≡ 0
+  pub opening : (l : Layout) → SheetSizes l → openStatus l adr (formatted l) (firstLent l) ≡ 0
   -- whatever records they are lent
   pub write : (s : Session) (I : Image) (w : WriteArgs) (R : Clients) → SheetSizes (s .layout) → writeStatus s I w (lent R blank) ≢ 11
   pub checkpoint : (s : Session) (I : Image) (R : Clients) → SheetSizes (s .layout) → checkpointStatus s I (lent R blank) ≢ 11

@@ -59,6 +59,7 @@ pub fn run_open(image: &mut [u8], layout: Layout, out: &mut [u8]) -> Ran
         layout.mains,
         layout.backups,
         layout.blocks,
+        Session::ADR,
         &mut clients,
         &mut trace,
     );

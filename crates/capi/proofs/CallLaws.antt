@@ -1,9 +1,10 @@
 -- Laws of the exported calls: an answer of the library, handed over, is what the call returns (crate interface,
 -- specs/Interface.antt); a read that finds a part is served; a truth value as a word.
-use Prim.Native.Nat.{ℕ, _+_}
+use Prim.Native.Nat.{ℕ, _+_, _<_}
 use mathlib.Core.Path.{_≡_, refl, sym, ap, _∙_, subst}
 use mathlib.Core.Logic.{_≢_}
 use mathlib.Core.Bool.{Bool, true, false, cond}
+use native.Mathlib.Omega.{arith}
 use lib.Dec.{eqb}
 use lib.ListN.{length, set}
 use mir.Val.{boolByte}
@@ -11,6 +12,7 @@ use borrow.Author.Tests.{eqb-true}
 use Rattle.model.specs.declared.Layout.{Layout}
 use Rattle.model.specs.declared.Session.{Session}
 use Rattle.model.specs.declared.Answer.{Answer}
+use Rattle.model.specs.Layout.{most}
 use Rattle.model.specs.Words.{Image}
 use Rattle.model.specs.Status.{codeOf, served}
 use Rattle.model.specs.Session.{withCheckpoint}
@@ -31,7 +33,7 @@ use Rattle.checkpoint.specs.declared.Checkpointed.{Checkpointed}
 use Rattle.checkpoint.specs.Checkpointed.{checkpointedAnswer, checkpointedClients}
 use Rattle.clients.specs.Words.{Words}
 use Rattle.interface.specs.Interface.{dirtySegmentsAt, dirtyBlocksAt, sessionWords, wordsOf, sessionIn, returned, writeReturned, discardReturned, checkpointReturned, Returns}
-use Rattle.interface.proofs.WordsLaws.{words-session, segments-stored, word-stored}
+use Rattle.interface.proofs.WordsLaws.{words-session, words-length, segments-stored, word-stored}
 
 -- ---- opening, write, discard and checkpoint
 
@@ -54,11 +56,11 @@ module _ (I : Image) (s : Words) (e : length s ≡ sessionWords) (x : Session) (
         answer-returned t (writtenAnswer (sessionIn s) (w .main) a) number s′ R″ t′ ops _ n p c q (writeOutcome (sessionIn s) I w (lent R t))
         (subst (λ (y : Session). Gives (writeOutcome y I w (lent R t)) t (writtenAnswer y (w .main) a) t′ (writtenClients R (w .client) a)) r g)
 
-    pub write-stored : served (codeOf (a .status)) ≡ true → R″ ≡ charged
+    pub write-stored : served (codeOf (a .status)) ≡ true → w .main < most → R″ ≡ charged
         → Returns (writeReturned I s R w t) number (set (set s dirtySegmentsAt (a .«dirty_segments»)) (dirtyBlocksAt + w .main) (a .word)) R″ t′ ops
-    write-stored z c =
+    write-stored z b c =
         write-returned _
-        (ap (λ (y : Words). set y (dirtyBlocksAt + w .main) (a .word)) (segments-stored s (a .«dirty_segments») e) ∙ word-stored _ (w .main) (a .word)
+        (ap (λ (y : Words). set y (dirtyBlocksAt + w .main) (a .word)) (segments-stored s (a .«dirty_segments») e) ∙ word-stored _ (w .main) (a .word) (omega (arith, words-length s e))
         ∙ ap (λ (b : Bool). wordsOf (cond b (writtenSession (sessionIn s) (w .main) a) (sessionIn s))) (sym z))
         (c ∙ ap (λ (b : Bool). cond b charged R) (sym z))
 

@@ -6,6 +6,7 @@
 use clients::CLIENT_WORDS;
 use interface::DIRTY_BLOCKS_AT;
 use interface::DIRTY_SEGMENTS_AT;
+use interface::DOMAIN_AT;
 use interface::SESSION_WORDS;
 use model::Layout;
 ghost use mathlib.Core.Path.{_≡_};
@@ -31,22 +32,23 @@ pub extern "C" fn crpm_format(image: &mut [u8], mains: u64, backups: u64, blocks
     status.code()
 }
 
-// Opening: the session that it answers, and the number of its operations.
+// Opening on a kind of module: the session that it answers, and the number of its operations.
 #[no_mangle]
 pub extern "C" fn crpm_open(
     image: &[u8],
     mains: u64,
     backups: u64,
     blocks: u64,
+    domain: u64,
     session: &mut [u64; SESSION_WORDS],
     clients: &mut [[u64; CLIENT_WORDS]],
     trace: &mut [u64],
     ops: &mut u64,
 ) -> u64
-    ensures { λ r. ⌜ Returns (openReturned (layoutOf mains backups blocks) (now (image .entry)) (clientsIn (now (clients .entry))) (now (trace .entry))) r (now (session .exit)) (clientsIn (now (clients .exit))) (now (trace .exit)) (now (ops .exit)) ⌝ }
+    ensures { λ r. ⌜ Returns (openReturned (layoutOf mains backups blocks) domain (now (image .entry)) (clientsIn (now (clients .entry))) (now (trace .entry))) r (now (session .exit)) (clientsIn (now (clients .exit))) (now (trace .exit)) (now (ops .exit)) ⌝ }
 {
     let run = clients::run_in(clients);
-    let done = open::open_run(image, mains, backups, blocks, run, trace);
+    let done = open::open_run(image, mains, backups, blocks, domain, run, trace);
     clients::clear_clients(clients, done.from);
     let opened = done.answer;
     interface::give_answer(session, ops, opened)
@@ -72,12 +74,14 @@ pub extern "C" fn crpm_write(
     let words = &session[..];
     let layout = interface::layout_in(words);
     let segments = words[DIRTY_SEGMENTS_AT];
-    let dirty_blocks = &words[DIRTY_BLOCKS_AT..SESSION_WORDS];
+    let dirty_blocks = &words[DIRTY_BLOCKS_AT..DOMAIN_AT];
+    let domain = words[DOMAIN_AT];
     let written = write::write_parts(
         image,
         layout,
         segments,
         dirty_blocks,
+        domain,
         run,
         client,
         main,
@@ -112,10 +116,11 @@ pub extern "C" fn crpm_discard(
     let words = &session[..];
     let layout = interface::layout_in(words);
     let segments = words[DIRTY_SEGMENTS_AT];
-    let dirty_blocks = &words[DIRTY_BLOCKS_AT..SESSION_WORDS];
-    let discarded = discard::discard_parts(image, layout, segments, dirty_blocks, main, trace);
-    *ops = discarded.ops;
-    let status = discarded.status;
+    let dirty_blocks = &words[DIRTY_BLOCKS_AT..DOMAIN_AT];
+    let domain = words[DOMAIN_AT];
+    let done = discard::discard_parts(image, layout, segments, dirty_blocks, domain, main, trace);
+    *ops = done.ops;
+    let status = done.status;
     status.code()
 }
 
@@ -134,9 +139,18 @@ pub extern "C" fn crpm_checkpoint(
     let words = &session[..];
     let layout = interface::layout_in(words);
     let segments = words[DIRTY_SEGMENTS_AT];
-    let dirty_blocks = &words[DIRTY_BLOCKS_AT..SESSION_WORDS];
+    let dirty_blocks = &words[DIRTY_BLOCKS_AT..DOMAIN_AT];
+    let domain = words[DOMAIN_AT];
     let judged = clients::clients_status(run, layout);
-    let done = checkpoint::checkpoint_parts(image, layout, segments, dirty_blocks, judged, trace);
+    let done = checkpoint::checkpoint_parts(
+        image,
+        layout,
+        segments,
+        dirty_blocks,
+        domain,
+        judged,
+        trace,
+    );
     let status = done.status;
     let code = status.code();
     *ops = done.ops;

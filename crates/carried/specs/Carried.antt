@@ -17,7 +17,7 @@ use Rattle.model.specs.History.{Call, callOpen, callWrite, callDiscard, callChe
 use Rattle.clients.specs.Words.{Words}
 use Rattle.interface.specs.Interface.{sessionIn, openReturned, writeReturned, discardReturned, checkpointReturned, Returns}
 use Rattle.driver.specs.Stepped.{Report}
-use Rattle.driver.specs.Driven.{DrivenHistories, DrivenSameBoard, DrivenSafety, DrivenOpeningSafety}
+use Rattle.driver.specs.Driven.{DrivenHistories, DrivenSameBoard, DrivenReads, DrivenSafety, DrivenOpeningSafety}
 
 -- what an exported call reports: the number that it returned, the session and the records of clients that stand in the words that it left,
 -- and the number of operations
@@ -28,8 +28,8 @@ reportIn number s R ops = record { number = number; session = sessionIn s; clien
 -- words in which the session s stands, of `crpm_write` (whose bytes are bytes), `crpm_discard` (which leaves the words, and records that it
 -- is not lent) and `crpm_checkpoint`
 pub data Exported (I : Image) (s : Session) : Call → Report → Trace → Type 0 where
-  opens : (l : Layout) (k : Lent) (number : ℕ) (v : Words) (R : Clients) (t : Trace) (ops : ℕ)
-      → Returns (openReturned l I (k .clients) (k .trace)) number v R t ops → Exported I s (callOpen l k) (reportIn number v R ops) t
+  opens : (l : Layout) (d : ℕ) (k : Lent) (number : ℕ) (v : Words) (R : Clients) (t : Trace) (ops : ℕ)
+      → Returns (openReturned l d I (k .clients) (k .trace)) number v R t ops → Exported I s (callOpen l d k) (reportIn number v R ops) t
   writes : (u : Words) → sessionIn u ≡ s → (w : WriteArgs) (k : Lent) (number : ℕ) (v : Words) (R : Clients) (t : Trace) (ops : ℕ) → Bytes (w .bytes)
       → Returns (writeReturned I u (k .clients) w (k .trace)) number v R t ops → Exported I s (callWrite w k) (reportIn number v R ops) t
   discards : (u : Words) → sessionIn u ≡ s → (i : ℕ) (k : Lent) (number : ℕ) (t : Trace) (ops : ℕ)
@@ -38,8 +38,8 @@ pub data Exported (I : Image) (s : Session) : Call → Report → Trace → Type
       → Returns (checkpointReturned I u (k .clients) (k .trace)) number v R t ops → Exported I s (callCheckpoint k) (reportIn number v R ops) t
 
 -- demands 2 and 3 of such programs; openings alone
-abbrev pub CarriedSafety : Type 0
-CarriedSafety = DrivenSafety Exported × DrivenOpeningSafety Exported
+abbrev pub CarriedSafety : Type 1
+CarriedSafety = DrivenReads Exported × DrivenSafety Exported × DrivenOpeningSafety Exported
 
 -- their calls are histories
 abbrev pub CarriedHistories : Type 0

@@ -18,14 +18,25 @@ pub fn exported_open(
     mains: u64,
     backups: u64,
     blocks: u64,
+    domain: u64,
     session: &mut [u64; SESSION_WORDS],
     clients: &mut [[u64; CLIENT_WORDS]],
     trace: &mut [u64],
     ops: &mut u64,
 ) -> u64
-    ensures { λ r. ⌜ ((s : Session) → Exported (now (image .entry)) s (callOpen (layoutOf mains backups blocks) (lent (clientsIn (now (clients .entry))) (now (trace .entry)))) (reportIn r (now (session .exit)) (clientsIn (now (clients .exit))) (now (ops .exit))) (now (trace .exit))) ⌝ }
+    ensures { λ r. ⌜ ((s : Session) → Exported (now (image .entry)) s (callOpen (layoutOf mains backups blocks) domain (lent (clientsIn (now (clients .entry))) (now (trace .entry)))) (reportIn r (now (session .exit)) (clientsIn (now (clients .exit))) (now (ops .exit))) (now (trace .exit))) ⌝ }
 {
-    capi::crpm_open(image, mains, backups, blocks, session, clients, trace, ops)
+    capi::crpm_open(
+        image,
+        mains,
+        backups,
+        blocks,
+        domain,
+        session,
+        clients,
+        trace,
+        ops,
+    )
 }
 
 // A write.

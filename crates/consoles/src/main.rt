@@ -24,6 +24,7 @@ ghost use Prim.Native.Nat.{_≤_};
 ghost use lib.ListN.{getD};
 ghost use Rattle.model.specs.Words.{byteAt};
 ghost use Rattle.model.specs.Layout.{layoutOf};
+ghost use Rattle.model.specs.Session.{adr};
 ghost use Rattle.model.specs.Clients.{clientOf};
 ghost use Rattle.model.specs.Outcome.{Gives, lent};
 ghost use Rattle.model.specs.Open.{openOutcome};
@@ -125,10 +126,10 @@ fn records(share: u64, limit: u64) -> [Client; lends::LENT]
 
 // An opening.
 fn play_open(image: &mut [u8], clients: [Client; lends::LENT], trace: &mut [u64]) -> Lend
-    ensures { λ r. ⌜ Gives (openOutcome (layoutOf 3 2 1) (now (image .entry)) (lent clients (now (trace .entry)))) (now (trace .entry)) (r .answer) (now (trace .exit)) (r .clients) ⌝ }
+    ensures { λ r. ⌜ Gives (openOutcome (layoutOf 3 2 1) adr (now (image .entry)) (lent clients (now (trace .entry)))) (now (trace .entry)) (r .answer) (now (trace .exit)) (r .clients) ⌝ }
     ensures { λ r. ⌜ now (image .exit) ≡ replayOutcome (now (image .entry)) (now (trace .exit)) (r .answer .ops) .image ⌝ }
 {
-    let lend = lends::lend_open(image, MAINS, BACKUPS, BLOCKS, clients, trace);
+    let lend = lends::lend_open(image, MAINS, BACKUPS, BLOCKS, Session::ADR, clients, trace);
     let answer = lend.answer;
     replay::crpm_replay(image, trace, answer.ops);
     lend
@@ -245,7 +246,7 @@ fn make(
 
 // C1 to C21: each call is lent the records that the last one left. The card afterwards.
 fn history(image: &mut [u8], trace: &mut [u64]) -> Session {
-    let mut session = Session::fresh(Layout::new(MAINS, BACKUPS, BLOCKS));
+    let mut session = Session::fresh(Layout::new(MAINS, BACKUPS, BLOCKS), Session::ADR);
     let mut clients = records(1, 2);
     let mut i = 0;
     while i < COUNT {

@@ -17,9 +17,9 @@ abbrev pub R : RattleType
 R = T.the-row
 
 -- the parameters in their order; the answer, the trace after it, and the records
-abbrev pub OpenGives : List ℕ → ℕ → ℕ → ℕ → Clients → List ℕ → Answer → List ℕ → Clients → Type 0
-OpenGives image mains backups blocks clients trace a after left =
-    Gives (openOutcome (layoutOf mains backups blocks) image (lent clients trace)) trace a after left
+abbrev pub OpenGives : List ℕ → ℕ → ℕ → ℕ → ℕ → Clients → List ℕ → Answer → List ℕ → Clients → Type 0
+OpenGives image mains backups blocks domain clients trace a after left =
+    Gives (openOutcome (layoutOf mains backups blocks) domain image (lent clients trace)) trace a after left
 
 abbrev pub WriteGives : List ℕ → Session → Clients → ℕ → ℕ → ℕ → ℕ → List ℕ → List ℕ → Answer → List ℕ → Clients → Type 0
 WriteGives image session clients client main block offset bytes trace a after left =

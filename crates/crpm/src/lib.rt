@@ -11,20 +11,21 @@ ghost use Rattle.model.specs.Open.{openOutcome};
 ghost use Rattle.model.specs.Write.{writeArgsOf, writeOutcome};
 ghost use Rattle.model.specs.Checkpoint.{checkpointOutcome};
 
-// Opening (SPECIFICATION 9): recovers the checkpoint after any crash, and answers a session in which nothing is dirty; no client has then
-// taken any backup segment. A refused opening answers a session of zeros.
+// Opening (SPECIFICATION 9) on a kind of module: recovers the checkpoint after any crash, and answers a session in which nothing is dirty; no
+// client has then taken any backup segment. A refused opening answers a session of zeros.
 pub fn crpm_open(
     image: &[u8],
     mains: u64,
     backups: u64,
     blocks: u64,
+    domain: u64,
     clients: &mut [Client],
     trace: &mut [u64],
 ) -> Answer
-    ensures { λ r. ⌜ Gives (openOutcome (layoutOf mains backups blocks) (now (image .entry)) (lent (now (clients .entry)) (now (trace .entry)))) (now (trace .entry)) r (now (trace .exit)) (now (clients .exit)) ⌝ }
+    ensures { λ r. ⌜ Gives (openOutcome (layoutOf mains backups blocks) domain (now (image .entry)) (lent (now (clients .entry)) (now (trace .entry)))) (now (trace .entry)) r (now (trace .exit)) (now (clients .exit)) ⌝ }
 {
     let run = clients::load(clients);
-    let done = open::open_run(image, mains, backups, blocks, run, trace);
+    let done = open::open_run(image, mains, backups, blocks, domain, run, trace);
     let from = done.from;
     clients::clear_from(clients, from);
     done.answer

@@ -58,7 +58,7 @@ module _ (o : Outcome) (T : Trace) (r : Report) (t : Trace) (g : Reports o T r t
 -- only an image of whole lines is served
 served-whole : (s : Session) (I : Image) (a : CallArgs) (t : Lent) → answers s I a t .status ≡ 0 → length I % lineSize ≡ 0
 unfolding openOutcome writeOutcome discardOutcome checkpointOutcome outcomeOf openStatus writeStatus discardStatus checkpointStatus
-served-whole s I (openArgs l) t h = omega (arith, container-then l I _ h .0 .long, image-lines l)
+served-whole s I (openArgs l d) t h = omega (arith, container-then l I _ h .0 .long, image-lines l)
 served-whole s I (writeArgs w) t h = omega (arith, container-then (s .layout) I _ h .0 .long, image-lines (s .layout))
 served-whole s I (discardArgs i) t h = omega (arith, container-then (s .layout) I _ h .0 .long, image-lines (s .layout))
 served-whole s I checkpointArgs t h = omega (arith, container-then (s .layout) I _ h .0 .long, image-lines (s .layout))
@@ -69,7 +69,7 @@ none-written e O h = rw (ne-eqb e 0 h) refl
 
 refused-none : (s : Session) (I : Image) (a : CallArgs) (t : Lent) → answers s I a t .status ≢ 0 → answers s I a t .ops ≡ []
 unfolding openOutcome writeOutcome discardOutcome checkpointOutcome outcomeOf
-refused-none s I (openArgs l) t h = none-written (openStatus l I t) _ h
+refused-none s I (openArgs l d) t h = none-written (openStatus l d I t) _ h
 refused-none s I (writeArgs w) t h = none-written (writeStatus s I w t) _ h
 refused-none s I (discardArgs i) t h = none-written (discardStatus s I i t) _ h
 refused-none s I checkpointArgs t h = none-written (checkpointStatus s I t) _ h
@@ -128,7 +128,7 @@ module _ (d : Device) (c : Call) (r : Report) (t : Trace) (k : Called (d .image)
 pub replayed-step : (I : Image) (s : Session) (c : Call) (r : Report) (t : Trace) (I′ : Image) → Called I s c r t
     → I′ ≡ replayOutcome I (take (opNumbers * r .ops) t) (r .ops) .image → Stepped Called I s c r t I′
 replayed-step I s c r t I′ k e =
-    device-replayed (record { layout = s .layout; durable = I; played = []; image = I; session = s }) c r t k I′ e
+    device-replayed (record { layout = s .layout; durable = I; played = []; adrPlayed = []; image = I; session = s }) c r t k I′ e
 
 pub stepped-device : (d : Device) (c : Call) (r : Report) (t : Trace) (I′ : Image) → Stepped Called (d .image) (d .session) c r t I′
     → (deviceStep d c .image ≡ I′) × (deviceStep d c .session ≡ r .session) × (deviceStep d c .played ≡ d .played ++ carried t (r .ops))

@@ -36,13 +36,14 @@ pub fn step_open(
     mains: u64,
     backups: u64,
     blocks: u64,
+    domain: u64,
     clients: &mut [[u64; CLIENT_WORDS]],
     trace: &mut [u64],
 ) -> Answer
-    ensures { λ r. ⌜ ((s : Session) → Stepped Called (now (image .entry)) s (callOpen (layoutOf mains backups blocks) (lent (clientsIn (now (clients .entry))) (now (trace .entry)))) (reportOf r (clientsIn (now (clients .exit)))) (now (trace .exit)) (now (image .exit))) ⌝ }
+    ensures { λ r. ⌜ ((s : Session) → Stepped Called (now (image .entry)) s (callOpen (layoutOf mains backups blocks) domain (lent (clientsIn (now (clients .entry))) (now (trace .entry)))) (reportOf r (clientsIn (now (clients .exit)))) (now (trace .exit)) (now (image .exit))) ⌝ }
 {
     let run = clients::run_in(clients);
-    let done = open::open_run(image, mains, backups, blocks, run, trace);
+    let done = open::open_run(image, mains, backups, blocks, domain, run, trace);
     clients::clear_clients(clients, done.from);
     let opened = done.answer;
     play_reported(image, trace, opened.ops);

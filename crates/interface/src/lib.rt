@@ -15,8 +15,11 @@ pub const DIRTY_SEGMENTS_AT: usize = 3;
 // Where the words of dirty blocks start: after the dirty segments.
 pub const DIRTY_BLOCKS_AT: usize = 4;
 
-// Words of a session: these, and a word of dirty blocks for each main segment.
-pub const SESSION_WORDS: usize = DIRTY_BLOCKS_AT + Layout::MOST_LEN;
+// Where the kind of module stands: after a word of dirty blocks for each main segment.
+pub const DOMAIN_AT: usize = DIRTY_BLOCKS_AT + Layout::MOST_LEN;
+
+// Words of a session: these, and the kind of module.
+pub const SESSION_WORDS: usize = DOMAIN_AT + 1;
 
 // The layout of the session that stands in words.
 pub fn layout_in(words: &[u64]) -> Layout
@@ -40,6 +43,7 @@ fn words_of(session: Session) -> [u64; SESSION_WORDS]
         words[DIRTY_BLOCKS_AT + i] = session.dirty_blocks[i];
         i += 1;
     }
+    words[DOMAIN_AT] = session.domain;
     words
 }
 

@@ -36,13 +36,14 @@ pub fn lend_open(
     mains: u64,
     backups: u64,
     blocks: u64,
+    domain: u64,
     clients: [Client; LENT],
     trace: &mut [u64],
 ) -> Lend
-    ensures { λ r. ⌜ Gives (openOutcome (layoutOf mains backups blocks) (now (image .entry)) (lent clients (now (trace .entry)))) (now (trace .entry)) (r .answer) (now (trace .exit)) (r .clients) ⌝ }
+    ensures { λ r. ⌜ Gives (openOutcome (layoutOf mains backups blocks) domain (now (image .entry)) (lent clients (now (trace .entry)))) (now (trace .entry)) (r .answer) (now (trace .exit)) (r .clients) ⌝ }
 {
     let mut records = clients;
-    let answer = crpm::crpm_open(image, mains, backups, blocks, &mut records, trace);
+    let answer = crpm::crpm_open(image, mains, backups, blocks, domain, &mut records, trace);
     lend_of(answer, records)
 }
 

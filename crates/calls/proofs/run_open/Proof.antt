@@ -3,7 +3,7 @@ use mathlib.Core.List.{[], _∷_}
 use native.Mathlib.Omega.{arith}
 use lib.ListN.{getD}
 use borrow.Author.Needs.{needs}
-use Rattle.model.specs.Session.{zeroSession}
+use Rattle.model.specs.Session.{zeroSession, adr}
 use Rattle.model.specs.Reference.{openArgs}
 use Rattle.printer.specs.Decimal.{Appended}
 use Rattle.printer.proofs.AppendedLaws.{appended-as}
@@ -64,12 +64,12 @@ returns c =
     let s = f .before .before .before .before in
     let l = s .args .layout in
     let a : Ran = record { session = zeroSession; client = l .backups ∷ l .backups ∷ 0 ∷ []; place = 0 } in
-    let r : Ran = record { session = o .step-open .result .session; client = getD (o .step-open .last .1 .1 .1 .1 .0) 0 []; place = p .append-answer .result } in
-    let m : Made (f .crpm-format .last .0) a (openArgs l) (o .step-open .result) (o .step-open .last .1 .1 .1 .1 .0) (o .step-open .last .1 .1 .1 .1 .1 .0) (o .step-open .last .0) r =
+    let r : Ran = record { session = o .step-open .result .session; client = getD (o .step-open .last .1 .1 .1 .1 .1 .0) 0 []; place = p .append-answer .result } in
+    let m : Made (f .crpm-format .last .0) a (openArgs l adr) (o .step-open .result) (o .step-open .last .1 .1 .1 .1 .1 .0) (o .step-open .last .1 .1 .1 .1 .1 .1 .0) (o .step-open .last .0) r =
     record { stepped = o .step-open .ensures zeroSession; session = refl; one = omega (arith, o .step-open .kept); client = refl } in
     let line : Appended (p .append-answer .last .0) (p .append-answer .result) lineEndBytes (e .append-text .last .0) (e .append-text .result) = e .append-text .ensures in (
       opened l _ a _ _ _ _ r _ (formats l (s .args .image .now) _ (s .pre .1) (s .pre .0) (f .crpm-format .ensures .1)) refl refl
-          (call-ran "open=" (openArgs l) _ a (o .step-open .result) _ _ _ _ _ _ (p .before .code .result) r m open-text (p .before .code .ensures) (p .append-answer .ensures .0))
+          (call-ran "open=" (openArgs l adr) _ a (o .step-open .result) _ _ _ _ _ _ (p .before .code .result) r m open-text (p .before .code .ensures) (p .append-answer .ensures .0))
           (appended-as line-end-text line) (refl, refl),
       omega (arith, p .append-answer .ensures .1),
     )

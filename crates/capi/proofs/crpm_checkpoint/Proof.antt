@@ -27,6 +27,9 @@ part-dirty-blocks-start c = search needs
 part-dirty-blocks-end : tie.Need-part-dirty-blocks-end
 part-dirty-blocks-end c = search needs
 
+shared-slice-read-domain : tie.Need-shared-slice-read-domain
+shared-slice-read-domain c = search needs
+
 clients-status-requires : tie.Need-clients-status-requires
 clients-status-requires c κs = search needs
 
@@ -54,7 +57,7 @@ same-length-2 c = search needs
 returns : tie.Need-returns
 returns c =
     let r = c .before .before .before .before .before .before .before .before in
-    let l = r .before .before .before .before .before in
+    let l = r .before .before .before .before .before .before in
     let k = l .before .before .before in
     let a = k .before .before .before .before .args in
     let e : length (a .session .now) ≡ sessionWords = search needs in
@@ -73,7 +76,7 @@ same-length-4 c = search needs
 returns-2 : tie.Need-returns-2
 returns-2 c =
     let r = c .before .before .before .before .before in
-    let l = r .before .before .before .before .before in
+    let l = r .before .before .before .before .before .before in
     let k = l .before .before .before in
     let a = k .before .before .before .before .args in
     let e : length (a .session .now) ≡ sessionWords = search needs in
@@ -93,6 +96,7 @@ crpm-checkpoint-spec =
     sub-dirty-blocks
     part-dirty-blocks-start
     part-dirty-blocks-end
+    shared-slice-read-domain
     clients-status-requires
     checkpoint-parts-requires
     code-requires

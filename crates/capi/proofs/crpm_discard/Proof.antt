@@ -22,6 +22,9 @@ part-dirty-blocks-start c = search needs
 part-dirty-blocks-end : tie.Need-part-dirty-blocks-end
 part-dirty-blocks-end c = search needs
 
+shared-slice-read-domain : tie.Need-shared-slice-read-domain
+shared-slice-read-domain c = search needs
+
 discard-parts-requires : tie.Need-discard-parts-requires
 discard-parts-requires c κs = search needs
 
@@ -34,7 +37,7 @@ same-length c = search needs
 returns : tie.Need-returns
 returns c = λ R.
     let r = c .before .before .before in
-    let l = r .before .before .before .before in
+    let l = r .before .before .before .before .before in
     let a = l .before .before .before .before .args in
     let e : length (a .session .now) ≡ sessionWords = search needs in
     discard-returned (a .image .now) (a .session .now) e _ (lent-session (a .session .now) (l .layout-in .result) e (l .layout-in .ensures)) R (a .trace .now) _ _ _ (a .main)
@@ -49,6 +52,7 @@ crpm-discard-spec =
     sub-dirty-blocks
     part-dirty-blocks-start
     part-dirty-blocks-end
+    shared-slice-read-domain
     discard-parts-requires
     code-requires
     same-length

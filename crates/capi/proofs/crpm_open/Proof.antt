@@ -33,7 +33,7 @@ returns c =
     let a = k .before .before .before .before .args in
     let R = clientsIn (a .clients .now) in
     answer-returned (a .trace .now) (w .open-run .result .answer) _ _ _ _ _ _ (e .0) (e .1 .0) (c .before .before .before .before .before .clear-clients .ensures) (e .1 .1)
-    (openOutcome (layoutOf (a .mains) (a .backups) (a .blocks)) (a .image .now) (lent R (a .trace .now))) (w .open-run .ensures R (k .run-in .ensures))
+    (openOutcome (layoutOf (a .mains) (a .backups) (a .blocks)) (a .domain) (a .image .now) (lent R (a .trace .now))) (w .open-run .ensures R (k .run-in .ensures))
 
 pub crpm-open-spec : {M : Type 1} → statement M
 crpm-open-spec =

@@ -28,6 +28,9 @@ part-dirty-blocks-start c = search needs
 part-dirty-blocks-end : tie.Need-part-dirty-blocks-end
 part-dirty-blocks-end c = search needs
 
+shared-slice-read-domain : tie.Need-shared-slice-read-domain
+shared-slice-read-domain c = search needs
+
 write-parts-requires : tie.Need-write-parts-requires
 write-parts-requires c κs = search needs
 
@@ -72,7 +75,7 @@ same-length-2 c = search needs
 returns : tie.Need-returns
 returns c =
     let r = c .before .before .before .before .before .before .before .before .before in
-    let l = r .before .before .before .before in
+    let l = r .before .before .before .before .before in
     let k = l .before .before .before in
     let a = k .before .before .before .before .before .args in
     let w = writeArgsOf (a .client) (a .main) (a .block) (a .offset) (a .bytes .now) in
@@ -81,7 +84,7 @@ returns c =
     let g = r .write-parts .ensures .0 R (k .run-in .ensures) in
     let z = sym (c .before .before .before .before .before .is-served .ensures) ∙ c .before .before .before .before .if1 .taken in
     write-stored (a .image .now) (a .session .now) e _ (lent-session (a .session .now) (l .layout-in .result) e (l .layout-in .ensures)) R _ (a .trace .now) _ _ _ w
-    (r .write-parts .result) (c .before .before .before .before .before .before .code .ensures) refl g z (c .before .put-client .ensures ∙ ap (set R (a .client)) (c .before .before .before .record-of .ensures R (k .run-in .ensures)))
+    (r .write-parts .result) (c .before .before .before .before .before .before .code .ensures) refl g z (r .write-parts .ensures .1 .1 z .0) (c .before .put-client .ensures ∙ ap (set R (a .client)) (c .before .before .before .record-of .ensures R (k .run-in .ensures)))
 
 same-length-3 : tie.Need-same-length-3
 same-length-3 c = search needs
@@ -92,7 +95,7 @@ same-length-4 c = search needs
 returns-2 : tie.Need-returns-2
 returns-2 c =
     let r = c .before .before .before .before .before in
-    let l = r .before .before .before .before in
+    let l = r .before .before .before .before .before in
     let k = l .before .before .before in
     let a = k .before .before .before .before .before .args in
     let w = writeArgsOf (a .client) (a .main) (a .block) (a .offset) (a .bytes .now) in
@@ -113,6 +116,7 @@ crpm-write-spec =
     sub-dirty-blocks
     part-dirty-blocks-start
     part-dirty-blocks-end
+    shared-slice-read-domain
     write-parts-requires
     code-requires
     is-served-requires

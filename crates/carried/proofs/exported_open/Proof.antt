@@ -19,7 +19,7 @@ returns : tie.Need-returns
 returns c =
     let e = c .before .before .before .crpm-open .ensures in
     let a = c .before .before .before .before .before .before .before .before .before .before .args in
-    λ s. opens (layoutOf (a .mains) (a .backups) (a .blocks)) (lent (clientsIn (a .clients .now)) (a .trace .now)) _ _ _ _ _ e
+    λ s. opens (layoutOf (a .mains) (a .backups) (a .blocks)) (a .domain) (lent (clientsIn (a .clients .now)) (a .trace .now)) _ _ _ _ _ e
 
 pub exported-open-spec : {M : Type 1} → statement M
 exported-open-spec = tie.close (tie.spec crpm-open-requires same-length same-length-2 returns)

@@ -28,7 +28,7 @@ play-reported-requires c κs =
     let a = k .before .before .before .before .args in
     let R = clientsIn (a .clients .now) in
     let r = w .open-run .result in
-    omega (arith, part-inside (openOutcome (layoutOf (a .mains) (a .backups) (a .blocks)) (a .image .now) (lent R (a .trace .now))) (a .trace .now) (reportOf (r .answer) (clearedFrom (r .from) R)) _ (w .open-run .ensures R (k .run-in .ensures)))
+    omega (arith, part-inside (openOutcome (layoutOf (a .mains) (a .backups) (a .blocks)) (a .domain) (a .image .now) (lent R (a .trace .now))) (a .trace .now) (reportOf (r .answer) (clearedFrom (r .from) R)) _ (w .open-run .ensures R (k .run-in .ensures)))
 
 same-length : tie.Need-same-length
 same-length c = search needs
@@ -47,7 +47,7 @@ returns c =
     let k = w .before .before .before in
     let a = k .before .before .before .before .args in
     let g = w .open-run .ensures (clientsIn (a .clients .now)) (k .run-in .ensures) in
-    λ s. replayed-step (a .image .now) s (callOpen (layoutOf (a .mains) (a .backups) (a .blocks)) (lent (clientsIn (a .clients .now)) (a .trace .now))) (reportOf (w .open-run .result .answer) _) _ _ (tt, (g .0, g .1, g .2, g .3, u .clear-clients .ensures ∙ g .4)) (p .play-reported .ensures .1 .1)
+    λ s. replayed-step (a .image .now) s (callOpen (layoutOf (a .mains) (a .backups) (a .blocks)) (a .domain) (lent (clientsIn (a .clients .now)) (a .trace .now))) (reportOf (w .open-run .result .answer) _) _ _ (tt, (g .0, g .1, g .2, g .3, u .clear-clients .ensures ∙ g .4)) (p .play-reported .ensures .1 .1)
 
 pub step-open-spec : {M : Type 1} → statement M
 step-open-spec =

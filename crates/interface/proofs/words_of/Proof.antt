@@ -1,16 +1,16 @@
 use Prim.Native.Nat.{ℕ, _+_, _-_, _≤_, _<_}
-use mathlib.Core.Path.{_≡_, refl}
+use mathlib.Core.Path.{_≡_, refl, _∙_}
 use native.Mathlib.Omega.{arith}
-use lib.ListN.{length, getD, length-set, length-map}
+use lib.ListN.{length, getD, set, length-set, length-map}
 use borrow.Author.Needs.{needs}
 use Rattle.interface.specs.Interface.{wordsOf}
-use Rattle.interface.proofs.WordsLaws.{word-at, first-words, words-are, stored-more}
+use Rattle.interface.proofs.WordsLaws.{word-at, domain-last, first-words, words-are, stored-more}
 use Rattle.interface.proofs.words_of.Statement.{statement}
 use Rattle.interface.proofs.words_of.Tie as tie
 
 abbrev Inv-loop : tie.InvT-loop
 Inv-loop session words₀ i₀ words i =
-    (i ≤ 64) × (length words ≡ 68) × ((k : ℕ) → k < 4 + i → getD words k 0 ≡ getD (wordsOf session) k 0)
+    (i ≤ 64) × (length words ≡ 69) × ((k : ℕ) → k < 4 + i → getD words k 0 ≡ getD (wordsOf session) k 0)
 
 abbrev μ-loop : tie.MeasureT-loop
 μ-loop session words₀ i₀ words i = 64 - i
@@ -58,14 +58,19 @@ loop-again c =
     let s = c .before .before .before .args .t1 in (
       search needs,
       simp length-set (search needs),
-      λ k h. stored-more (l .words) (4 + l .i) _ _ (omega arith) (word-at s (l .i)) (l .inv .2) k (omega arith),
+      λ k h. stored-more (l .words) (4 + l .i) _ _ (omega arith) (word-at s (l .i) (omega (arith, c .before .before .before, length-map (s .«dirty_blocks») (λ v. v)))) (l .inv .2) k (omega arith),
     )
+
+array-write-words-6 : tie.Need-array-write-words-6 Inv-loop μ-loop
+array-write-words-6 c = search needs
 
 returns : tie.Need-returns Inv-loop μ-loop
 returns c =
     let l = c .before .loop in
     let s = c .before .before .args .t1 in
-    words-are (l .words) s (l .inv .1) (omega (arith, c .before .before, length-map (s .«dirty_blocks») (λ v. v))) (λ k h. l .inv .2 k (omega arith))
+    let d : length (s .«dirty_blocks») ≡ 64 = omega (arith, c .before .before, length-map (s .«dirty_blocks») (λ v. v)) in
+    words-are (set (l .words) 68 (s .domain)) s (length-set (l .words) 68 (s .domain) ∙ l .inv .1) d
+    (stored-more (l .words) 68 _ _ (omega (arith, l .inv .1)) (domain-last s d) (λ k h. l .inv .2 k (omega arith)))
 
 pub words-of-spec : {M : Type 1} → statement M
 words-of-spec =
@@ -86,4 +91,5 @@ words-of-spec =
     add-i
     loop-less
     loop-again
+    array-write-words-6
     returns)
