@@ -139,9 +139,9 @@ unfolding replay
 recovered-idle l I line n J is e = recovered-next l I line n J J e (ap (λ (O : Ops). replay O J) is)
 
 -- all are done
-pub recovered-all : (l : Layout) (I : Image) (k : Lent) (line : ℕ) (J : Image) → openStatus l I k ≡ 0 → activeLine I ≡ line
-    → Recovered l I line (l .mains) J → openedImage l I k ≡ J
+pub recovered-all : (l : Layout) (d : ℕ) (I : Image) (k : Lent) (line : ℕ) (J : Image) → openStatus l d I k ≡ 0 → activeLine I ≡ line
+    → Recovered l I line (l .mains) J → openedImage l d I k ≡ J
 unfolding recoveryOps replay apply
-recovered-all l I k line J served active e =
-    opened-is l I k served ∙ ap (λ (x : ℕ). replay (recoveryOps l I x) I) active
+recovered-all l d I k line J served active e =
+    opened-is l d I k served ∙ ap (λ (x : ℕ). replay (recoveryOps l I x) I) active
     ∙ replay-append (cat (l .mains) (recoverSegment l I line)) (sfence ∷ []) I ∙ e

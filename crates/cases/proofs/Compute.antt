@@ -1,18 +1,18 @@
 -- What a computed case needs: a name that opens every definition of `model`, and tests which the checker computes in one pass: for equal
--- lists of numbers, for bytes, and for calls that a history may have.
+-- lists of numbers, for bytes, and for calls that demand 3 speaks of.
 use Prim.Native.Nat.{ℕ, zero, suc}
 use mathlib.Core.Path.{_≡_, refl, ap₂}
-use mathlib.Core.Bool.{Bool, true, false, _&&_}
+use mathlib.Core.Bool.{Bool, true, false, _&&_, _||_}
 use mathlib.Core.List.{List, [], _∷_}
 use lib.Dec.{eqb, ltb, lit<}
 use borrow.Author.Tests.{eqb-true, ltb-true}
 use Rattle.model.specs.Range.{cat, allB, anyB, orNext, firstB, sumTo}
 use Rattle.model.specs.Words.{Bytes, littleEndian, wordOf, bytesOf, storeWord, overlay}
 use Rattle.model.specs.Layout.{inRange, sizesOk, imageSize, stateLine}
-use Rattle.model.specs.Status.{firstError}
+use Rattle.model.specs.Status.{served, firstError}
 use Rattle.model.specs.Container.{isPaired, validMetadata, pairedBackup, isFree, anyFree, freeBackups, newBackup, byState, checkpointLocated, checkpointSegment, checkpointBytes, headerOk}
-use Rattle.model.specs.Session.{bit, setBit, setBits, dirtySegment, dirtyBlock, freshSession, zeroSession, withDirty, withCheckpoint, validSession}
-use Rattle.model.specs.Ops.{encode, opOf, decode, written, traceShort, apply, replay, stores, clwbs, putBlock, persistCopy, persistZero, copySegment, zeroSegment}
+use Rattle.model.specs.Session.{noDomain, bit, setBit, setBits, dirtySegment, dirtyBlock, freshSession, zeroSession, withDirty, withCheckpoint, validSession}
+use Rattle.model.specs.Ops.{encode, opOf, decode, written, traceShort, apply, replay, stores, clwbs, putBlock, persistCopy, persistZero, copySegment, zeroSegment, forDomain}
 use Rattle.model.specs.Clients.{charged, cleared, clientsBad}
 use Rattle.model.specs.Outcome.{outcomeOf}
 use Rattle.model.specs.Replay.{wellFormed, allWellFormed, replayCount, replayedOps, replayStatus, replayOutcome}
@@ -23,11 +23,13 @@ use Rattle.model.specs.Discard.{restoreDirty, discardOps, discardStatus, discar
 use Rattle.model.specs.Checkpoint.{flushDirty, nextState, statesOps, epochOps, checkpointOps, checkpointStatus, checkpointOutcome}
 use Rattle.model.specs.Reads.{readStatus, workingPart, checkpointPart}
 use Rattle.model.specs.Reference.{CallArgs, openArgs, writeArgs, discardArgs, checkpointArgs, modelStep}
-use Rattle.model.specs.History.{Call, reported, playedOps, replayedImage, deviceStep, step, run, openedImage, start, PermittedArgs, AllPermitted}
-use Rattle.model.proofs.Laws.Range.{and-left, and-right}
+use Rattle.model.specs.History.{Call, Device, answers, reported, playedOps, replayedImage, deviceStep, step, run, openedImage, start, PermittedArgs, GivenDomain, OwnDomain}
+use Rattle.cases.specs.Turns.{Point, Turn, callAt, turn, made, Supposed}
+use Rattle.model.proofs.Laws.Range.{and-left, and-right, or-else}
+use Rattle.model.proofs.Argument.Openings.{domain-known}
 
 unfoldable pub model-rules : Unit {0}
-unfolding cat allB anyB orNext firstB sumTo littleEndian wordOf bytesOf storeWord overlay inRange sizesOk imageSize stateLine firstError isPaired validMetadata pairedBackup isFree anyFree freeBackups newBackup byState checkpointLocated checkpointSegment checkpointBytes headerOk bit setBit setBits dirtySegment dirtyBlock freshSession zeroSession withDirty withCheckpoint validSession encode opOf decode written traceShort apply replay stores clwbs putBlock persistCopy persistZero copySegment zeroSegment charged cleared clientsBad outcomeOf wellFormed allWellFormed replayCount replayedOps replayStatus replayOutcome container formatted formatOutcome recoveryAction actionOps recoverSegment recoveryOps openStatus openOutcome needsCopy needsBackup copyPlan pairOps copyDirty backupOps stateOps copyOnWriteOps spanOps writeOps writeSession writeClients spanBad writeStatus writeOutcome restoreDirty discardOps discardStatus discardOutcome flushDirty nextState statesOps epochOps checkpointOps checkpointStatus checkpointOutcome readStatus workingPart checkpointPart modelStep reported playedOps replayedImage deviceStep step run openedImage start
+unfolding cat allB anyB orNext firstB sumTo littleEndian wordOf bytesOf storeWord overlay inRange sizesOk imageSize stateLine firstError isPaired validMetadata pairedBackup isFree anyFree freeBackups newBackup byState checkpointLocated checkpointSegment checkpointBytes headerOk bit setBit setBits dirtySegment dirtyBlock freshSession zeroSession withDirty withCheckpoint validSession encode opOf decode written traceShort apply replay stores clwbs putBlock persistCopy persistZero copySegment zeroSegment forDomain charged cleared clientsBad outcomeOf wellFormed allWellFormed replayCount replayedOps replayStatus replayOutcome container formatted formatOutcome recoveryAction actionOps recoverSegment recoveryOps openStatus openOutcome needsCopy needsBackup copyPlan pairOps copyDirty backupOps stateOps copyOnWriteOps spanOps writeOps writeSession writeClients spanBad writeStatus writeOutcome restoreDirty discardOps discardStatus discardOutcome flushDirty nextState statesOps epochOps checkpointOps checkpointStatus checkpointOutcome readStatus workingPart checkpointPart modelStep reported playedOps replayedImage deviceStep step run openedImage start
 model-rules = tt
 
 unfoldable pub same : List ℕ → List ℕ → Bool
@@ -54,29 +56,42 @@ small-bytes [] e i = lit< tt
 small-bytes (x ∷ xs) e zero = ltb-true x 256 (and-left (ltb x 256) (small xs) e)
 small-bytes (x ∷ xs) e (suc i) = small-bytes xs (and-right (ltb x 256) (small xs) e) i
 
--- what a call is given to write are bytes; so of every call of a list, and then all are permitted
-unfoldable pub smallArgs : CallArgs → Bool
-smallArgs (openArgs l) = true
-smallArgs (writeArgs w) = small (w .bytes)
-smallArgs (discardArgs i) = true
-smallArgs checkpointArgs = true
+-- what a call is given to write are bytes, and an opening is given the kind d of module, or one that there is not and so is refused; this of
+-- every call of a story, and then they are such as demand 3 supposes
+unfoldable pub fitArgs : ℕ → CallArgs → Bool
+fitArgs d (openArgs l k) = noDomain k || eqb k d
+fitArgs d (writeArgs w) = small (w .bytes)
+fitArgs d (discardArgs i) = true
+fitArgs d checkpointArgs = true
 
-unfoldable pub smallCalls : List Call → Bool
-smallCalls [] = true
-smallCalls (c ∷ cs) = smallArgs (c .args) && smallCalls cs
+unfoldable pub fitTurns : ℕ → List Turn → Bool
+fitTurns d [] = true
+fitTurns d (c ∷ cs) = fitArgs d (c .args) && fitTurns d cs
 
-small-permitted : (a : CallArgs) → smallArgs a ≡ true → PermittedArgs a
-unfolding smallArgs
-small-permitted (openArgs l) e = tt
-small-permitted (writeArgs w) e = small-bytes (w .bytes) e
-small-permitted (discardArgs i) e = tt
-small-permitted checkpointArgs e = tt
+fit-permitted : (d : ℕ) (a : CallArgs) → fitArgs d a ≡ true → PermittedArgs a
+unfolding fitArgs
+fit-permitted d (openArgs l k) e = tt
+fit-permitted d (writeArgs w) e = small-bytes (w .bytes) e
+fit-permitted d (discardArgs i) e = tt
+fit-permitted d checkpointArgs e = tt
 
-pub all-permitted : (cs : List Call) → smallCalls cs ≡ true → AllPermitted cs
-unfolding smallCalls
-all-permitted [] e = tt
-all-permitted (c ∷ cs) e =
-    (small-permitted (c .args) (and-left (smallArgs (c .args)) (smallCalls cs) e), all-permitted cs (and-right (smallArgs (c .args)) (smallCalls cs) e))
+fit-own : (d : ℕ) (v : Device) (c : Call) → fitArgs d (c .args) ≡ true → OwnDomain d v c
+unfolding fitArgs openOutcome outcomeOf
+fit-own d v c = go (c .args)
+  where
+    go : (a : CallArgs) → fitArgs d a ≡ true → served (answers (v .session) (v .image) a (c .lends) .status) ≡ true → GivenDomain d a
+    go (openArgs l k) e x = eqb-true k d (or-else (noDomain k) (eqb k d) e (domain-known l k (v .image) (c .lends) (eqb-true _ _ x)))
+    go (writeArgs w) e x = tt
+    go (discardArgs i) e x = tt
+    go checkpointArgs e x = tt
+
+pub all-supposed : (d : ℕ) (p : Point) (cs : List Turn) → fitTurns d cs ≡ true → Supposed d p cs
+unfolding fitTurns made turn
+all-supposed d p [] e = (tt, tt)
+all-supposed d p (c ∷ cs) e =
+    let here = and-left (fitArgs d (c .args)) (fitTurns d cs) e in
+    let later = all-supposed d (turn p c) cs (and-right (fitArgs d (c .args)) (fitTurns d cs) e) in
+    ((fit-permitted d (c .args) here, later .0), (fit-own d (p .state .device) (callAt p c) here, later .1))
 
 -- a list computed before it is handed on
 unfoldable pub known : {A : Type 0} → List ℕ → (List ℕ → A) → A

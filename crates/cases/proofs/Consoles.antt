@@ -7,6 +7,7 @@ use lib.Dec.{T, leb, lit<}
 use lib.ListN.{length, getD, replicate}
 use Rattle.model.specs.Words.{Image, Bytes}
 use Rattle.model.specs.Layout.{mainAt, unpaired}
+use Rattle.model.specs.Session.{adr}
 use Rattle.model.specs.Ops.{zeroSegment}
 use Rattle.model.specs.Container.{activeLine, checkpointBytes}
 use Rattle.model.specs.Clients.{Clients, clientOf, cleared}
@@ -15,20 +16,20 @@ use Rattle.model.specs.Format.{container, formatted}
 use Rattle.model.specs.Open.{recoverSegment, openStatus, openOutcome}
 use Rattle.model.specs.Write.{writeArgsOf}
 use Rattle.model.specs.Reference.{Page}
-use Rattle.model.specs.History.{openedImage, AllPermitted}
-use Rattle.model.specs.CrashSafety.{between}
+use Rattle.model.specs.History.{openedImage}
+use Rattle.model.specs.CrashSafety.{between, adrModule}
 use Rattle.model.specs.Shares.{BelowShare, SharesHold}
-use Rattle.cases.specs.Turns.{Point, pointOf, begin, turn, turns, made}
+use Rattle.cases.specs.Turns.{Point, pointOf, begin, turn, turns, Supposed}
 use Rattle.cases.specs.Table.{Row, answer, longTrace, follow, AsExpected, calls}
 use Rattle.cases.specs.Cut.{MayLeave}
 use Rattle.cases.specs.Restored.{segments, boardOf}
 use Rattle.cases.specs.Consoles.{l321, twoClients, lentOpening, opened, bothTaken, freedAgain, inUse, leftInUse, restarted, afterRestart, limited, atLimit, ConsolesStory}
 use Rattle.model.proofs.Laws.Range.{and-left, and-right}
-use Rattle.cases.proofs.Compute.{model-rules, same, same-equal, small, small-bytes, smallArgs, smallCalls, all-permitted, known}
+use Rattle.cases.proofs.Compute.{model-rules, same, same-equal, small, small-bytes, fitArgs, fitTurns, all-supposed, known}
 use Rattle.cases.proofs.Blocks.{laid, Recovered, recovered-none, recovered-copy, recovered-zero, recovered-idle, recovered-all}
 use Rattle.cases.proofs.Quick.{quickWrite, quickArgs}
 use Rattle.cases.proofs.Follow.{agree, followKnown, follow-test, as-expected}
-use Rattle.cases.proofs.Starts.{standing, started, turns-stand}
+use Rattle.cases.proofs.Starts.{standing, started, turns-hold}
 use Rattle.cases.proofs.Shown.{may-leave}
 
 -- ---- the first life
@@ -43,23 +44,23 @@ first-bytes : Bytes F
 unfolding model-rules small
 first-bytes = small-bytes F refl
 
-first-answers : answer (openOutcome l321 F k0) ≡ 0 ∷ 109 ∷ []
+first-answers : answer (openOutcome l321 adr F k0) ≡ 0 ∷ 109 ∷ []
 unfolding model-rules
 first-answers = refl
 
 -- an opening that answers so is served
-answers-served : (R : Clients) (I : Image) {n : ℕ} → answer (openOutcome l321 I (lentOpening R)) ≡ 0 ∷ n ∷ [] → openStatus l321 I (lentOpening R) ≡ 0
+answers-served : (R : Clients) (I : Image) {n : ℕ} → answer (openOutcome l321 adr I (lentOpening R)) ≡ 0 ∷ n ∷ [] → openStatus l321 adr I (lentOpening R) ≡ 0
 unfolding openOutcome outcomeOf
 answers-served R I e = ap (λ (ns : List ℕ). getD ns 0 0) e
 
-first-opens : openStatus l321 F k0 ≡ 0
+first-opens : openStatus l321 adr F k0 ≡ 0
 first-opens = answers-served (twoClients 0 0) F first-answers
 
 -- the zeros that the opening writes stand there already
-first-opened : openedImage l321 F k0 ≡ F
+first-opened : openedImage l321 adr F k0 ≡ F
 unfolding model-rules same
 first-opened =
-    recovered-all l321 F k0 128 F refl refl
+    recovered-all l321 adr F k0 128 F refl refl
     (zeros 2 refl tt refl (zeros 1 refl tt refl (zeros 0 refl tt refl (recovered-none l321 F 128))))
   where
     zeros : (n : ℕ) → recoverSegment l321 F 128 n ≡ zeroSegment l321 (mainAt l321 n) → T (leb (mainAt l321 n + 256) (length F))
@@ -67,11 +68,11 @@ first-opened =
     zeros n = recovered-zero l321 F 128 n F F
 
 abbrev firstPoint : Point
-firstPoint = pointOf (standing l321 F (segments (replicate 3 0))) (twoClients 0 0)
+firstPoint = pointOf (standing l321 adr F (segments (replicate 3 0))) (twoClients 0 0)
 
 first-starts : opened ≡ firstPoint
 unfolding model-rules same
-first-starts = started l321 F F k0 (segments (replicate 3 0)) first-opens first-opened (same-equal _ _ refl)
+first-starts = started l321 adr F F k0 (segments (replicate 3 0)) first-opens first-opened (same-equal _ _ refl)
 
 -- the rows until both backup segments are in use, the image that stands then, and the rows from there on
 abbrev firstTest : List Row → Point → Bool
@@ -102,17 +103,17 @@ freed =
     as-expected in-use freedAgain
     (follow-test freedAgain usedPoint (λ rs last. agree rs) (and-right (same (usedPoint .state .device .image) leftInUse) _ used-tested))
 
-freed-permitted : AllPermitted (made inUse (calls freedAgain))
-unfolding made freedAgain small smallArgs smallCalls
-freed-permitted = all-permitted (made inUse (calls freedAgain)) refl
+freed-permitted : Supposed adr inUse (calls freedAgain)
+unfolding freedAgain small fitArgs fitTurns
+freed-permitted = all-supposed adr inUse (calls freedAgain) refl
 
-taking-permitted : AllPermitted (made opened (calls bothTaken))
-unfolding made bothTaken small smallArgs smallCalls
-taking-permitted = all-permitted (made opened (calls bothTaken)) refl
+taking-permitted : Supposed adr opened (calls bothTaken)
+unfolding bothTaken small fitArgs fitTurns
+taking-permitted = all-supposed adr opened (calls bothTaken) refl
 
-left : MayLeave (inUse .state) between leftInUse
+left : MayLeave adrModule (inUse .state) between leftInUse
 left =
-    may-leave (inUse .state) (turns-stand l321 F k0 first-bytes first-opens (calls bothTaken) taking-permitted) leftInUse
+    may-leave (inUse .state) (turns-hold l321 F k0 first-bytes first-opens (calls bothTaken) taking-permitted .stands) leftInUse
     (ap (λ (p : Point). p .state .device .image) in-use ∙ same-equal _ _ (and-left (same (usedPoint .state .device .image) leftInUse) _ used-tested))
 
 -- ---- the openings of what is left
@@ -146,20 +147,20 @@ unfolding model-rules same
 page = same-equal _ _ refl
 
 -- with any records that are served
-starts : (R : Clients) → openStatus l321 leftInUse (lentOpening R) ≡ 0
-    → begin l321 leftInUse (lentOpening R) ≡ pointOf (standing l321 (holding 10 11) savedPage) (cleared R)
+starts : (R : Clients) → openStatus l321 adr leftInUse (lentOpening R) ≡ 0
+    → begin l321 adr leftInUse (lentOpening R) ≡ pointOf (standing l321 adr (holding 10 11) savedPage) (cleared R)
 starts R opens =
-    started l321 leftInUse (holding 10 11) (lentOpening R) savedPage opens
-    (recovered-all l321 leftInUse (lentOpening R) 192 (holding 10 11) opens active recovered) page
+    started l321 adr leftInUse (holding 10 11) (lentOpening R) savedPage opens
+    (recovered-all l321 adr leftInUse (lentOpening R) 192 (holding 10 11) opens active recovered) page
 
 -- ---- the second life
 
-answers : answer (openOutcome l321 leftInUse (lentOpening (twoClients 1 1))) ≡ 0 ∷ 73 ∷ []
+answers : answer (openOutcome l321 adr leftInUse (lentOpening (twoClients 1 1))) ≡ 0 ∷ 73 ∷ []
 unfolding model-rules
 answers = refl
 
 abbrev secondPoint : Point
-secondPoint = pointOf (standing l321 (holding 10 11) savedPage) (twoClients 0 0)
+secondPoint = pointOf (standing l321 adr (holding 10 11) savedPage) (twoClients 0 0)
 
 restarts : restarted ≡ secondPoint
 unfolding cleared
@@ -177,18 +178,18 @@ restart-tested : followKnown afterRestart secondPoint (λ rs last. agree rs) ≡
 unfolding model-rules turn afterRestart quickWrite quickArgs followKnown known small same agree
 restart-tested = refl
 
-permitted : AllPermitted (made restarted (calls afterRestart))
-unfolding made afterRestart small smallArgs smallCalls
-permitted = all-permitted (made restarted (calls afterRestart)) refl
+permitted : Supposed adr restarted (calls afterRestart)
+unfolding afterRestart small fitArgs fitTurns
+permitted = all-supposed adr restarted (calls afterRestart) refl
 
 -- ---- the third
 
-limited-answers : answer (openOutcome l321 leftInUse (lentOpening (clientOf 0 1 0 ∷ []))) ≡ 0 ∷ 73 ∷ []
+limited-answers : answer (openOutcome l321 adr leftInUse (lentOpening (clientOf 0 1 0 ∷ []))) ≡ 0 ∷ 73 ∷ []
 unfolding model-rules
 limited-answers = refl
 
 abbrev thirdPoint : Point
-thirdPoint = pointOf (standing l321 (holding 10 11) savedPage) (clientOf 0 1 0 ∷ [])
+thirdPoint = pointOf (standing l321 adr (holding 10 11) savedPage) (clientOf 0 1 0 ∷ [])
 
 limited-starts : limited ≡ thirdPoint
 unfolding cleared
@@ -198,9 +199,9 @@ limit-tested : followKnown atLimit thirdPoint (λ rs last. agree rs) ≡ true
 unfolding model-rules turn atLimit quickWrite quickArgs followKnown known small same agree
 limit-tested = refl
 
-limited-permitted : AllPermitted (made limited (calls atLimit))
-unfolding made atLimit small smallArgs smallCalls
-limited-permitted = all-permitted (made limited (calls atLimit)) refl
+limited-permitted : Supposed adr limited (calls atLimit)
+unfolding atLimit small fitArgs fitTurns
+limited-permitted = all-supposed adr limited (calls atLimit) refl
 
 -- THE STORY
 pub consoles-story : ConsolesStory

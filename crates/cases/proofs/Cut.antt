@@ -5,18 +5,18 @@ use mathlib.Core.List.{[], _∷_, _++_}
 use lib.Dec.{lit≤}
 use lib.ListN.{replicate}
 use Rattle.model.specs.Words.{Image, Bytes}
+use Rattle.model.specs.Session.{adr}
 use Rattle.model.specs.Ops.{Ops, store, replay}
 use Rattle.model.specs.Outcome.{Lent}
 use Rattle.model.specs.Format.{container, formatted}
 use Rattle.model.specs.Open.{openStatus}
-use Rattle.model.specs.History.{State, openedImage}
+use Rattle.model.specs.History.{State}
 use Rattle.model.specs.Shares.{alone}
-use Rattle.cases.specs.Turns.{Point, pointOf, turn, turns, made}
+use Rattle.cases.specs.Turns.{Point, pointOf, turn, turns}
 use Rattle.cases.specs.Table.{l211, fresh, longTrace, lentAlone, fourBytes, writeFour, opened}
 use Rattle.cases.specs.Cut.{CutCheckpoint, beforeP4, zeros, newBytes, CutP4}
-use Rattle.model.proofs.Argument.Stands.{Stands}
-use Rattle.cases.proofs.Compute.{model-rules, same, same-equal, small, small-bytes}
-use Rattle.cases.proofs.Starts.{standing, started, turns-stand}
+use Rattle.cases.proofs.Compute.{model-rules, same, small, small-bytes, fitArgs, fitTurns, all-supposed}
+use Rattle.cases.proofs.Starts.{standing, started-by, Holds, turns-hold}
 use Rattle.cases.proofs.Shown.{shows, storesEpoch, cut-checkpoint}
 
 abbrev opsP3 : Ops
@@ -29,8 +29,9 @@ stateBeforeP4 = record {
     layout = l211;
     durable = formatted l211;
     played = opsP3;
+    adrPlayed = opsP3;
     image = replay opsP3 (formatted l211);
-    session = record { layout = l211; «dirty_segments» = 1; «dirty_blocks» = 1 ∷ replicate 63 0 };
+    session = record { layout = l211; «dirty_segments» = 1; «dirty_blocks» = 1 ∷ replicate 63 0; domain = adr };
   };
   model = record { working = newBytes; checkpoint = zeros };
 }
@@ -41,15 +42,11 @@ pointBeforeP4 = pointOf stateBeforeP4 (alone l211 0)
 abbrev k211 : Lent
 k211 = lentAlone l211 longTrace
 
-replayed : openedImage l211 fresh k211 ≡ formatted l211
+starts : opened ≡ pointOf (standing l211 adr (formatted l211) zeros) (alone l211 0)
 unfolding model-rules same
-replayed = same-equal (openedImage l211 fresh k211) (formatted l211) refl
+starts = started-by l211 adr fresh (formatted l211) k211 zeros refl refl refl
 
-starts : opened ≡ pointOf (standing l211 (formatted l211) zeros) (alone l211 0)
-unfolding model-rules same
-starts = started l211 fresh (formatted l211) k211 zeros refl replayed (same-equal _ _ refl)
-
-writes-four : turn (pointOf (standing l211 (formatted l211) zeros) (alone l211 0)) writeFour ≡ pointBeforeP4
+writes-four : turn (pointOf (standing l211 adr (formatted l211) zeros) (alone l211 0)) writeFour ≡ pointBeforeP4
 unfolding model-rules turn
 writes-four = refl
 
@@ -62,15 +59,15 @@ fresh-bytes : Bytes fresh
 unfolding model-rules small
 fresh-bytes = small-bytes fresh refl
 
-opens : openStatus l211 fresh k211 ≡ 0
+opens : openStatus l211 adr fresh k211 ≡ 0
 unfolding model-rules
 opens = refl
 
-holds : Stands stateBeforeP4
-unfolding turns made small
+holds : Holds stateBeforeP4
+unfolding turns small fitArgs fitTurns
 holds =
-    subst (λ (p : Point). Stands (p .state)) stands
-    (turns-stand l211 fresh k211 fresh-bytes opens (writeFour ∷ []) (small-bytes fourBytes refl, tt))
+    subst (λ (p : Point). Holds (p .state)) stands
+    (turns-hold l211 fresh k211 fresh-bytes opens (writeFour ∷ []) (all-supposed adr opened (writeFour ∷ []) refl))
 
 -- ---- the two images that a crash after 16 or 17 operations may leave: before the epoch's store, and after it
 

@@ -9,20 +9,19 @@ use lib.ListN.{length, replicate}
 use borrow.Author.Tests.{eqb-true}
 use Rattle.model.specs.Words.{Bytes}
 use Rattle.model.specs.Reads.{checkpointBlock}
+use Rattle.model.specs.Session.{adr}
 use Rattle.model.specs.Open.{openStatus}
-use Rattle.model.specs.History.{AllPermitted}
 use Rattle.model.specs.EpochCounts.{isCheckpoint}
-use Rattle.model.specs.CrashSafety.{during}
-use Rattle.cases.specs.Turns.{Point, callAt, answerAt, turn, turns, made}
+use Rattle.model.specs.CrashSafety.{during, adrModule}
+use Rattle.cases.specs.Turns.{Point, callAt, answerAt, turn, turns, Supposed}
 use Rattle.cases.specs.Table.{Row, Case, l211, fresh, longTrace, lentAlone, follow, opened, calls}
 use Rattle.cases.specs.Cut.{OnlyShows}
 use Rattle.cases.specs.Discards.{discard, edits, drops, edited, dropped, savedPage, DiscardStory}
 use Rattle.model.proofs.Laws.Range.{and-left, and-right}
-use Rattle.model.proofs.Argument.Stands.{Stands}
-use Rattle.cases.proofs.Compute.{model-rules, same, same-equal, small, small-bytes, smallArgs, smallCalls, all-permitted, known}
+use Rattle.cases.proofs.Compute.{model-rules, same, same-equal, small, small-bytes, fitArgs, fitTurns, all-supposed, known}
 use Rattle.cases.proofs.Quick.{quickWrite, quickArgs}
 use Rattle.cases.proofs.Follow.{agree, agree-equal, knownPoint, known-point, followKnown, follow-test}
-use Rattle.cases.proofs.Starts.{turns-stand}
+use Rattle.cases.proofs.Starts.{Holds, turns-hold}
 use Rattle.cases.proofs.Shown.{shows-during, shows-between}
 
 -- ---- the calls
@@ -57,13 +56,13 @@ dropped-tested = refl
 dropped-is : droppedTest (follow (edits ++ drops) opened) dropped ≡ true
 dropped-is = from-opening (edits ++ drops) droppedTest dropped-tested
 
-permitted : AllPermitted (made opened (calls (edits ++ drops)))
-unfolding made edits drops small smallArgs smallCalls
-permitted = all-permitted (made opened (calls (edits ++ drops))) refl
+permitted : Supposed adr opened (calls (edits ++ drops))
+unfolding edits drops small fitArgs fitTurns
+permitted = all-supposed adr opened (calls (edits ++ drops)) refl
 
-edits-permitted : AllPermitted (made opened (calls edits))
-unfolding made edits small smallArgs smallCalls
-edits-permitted = all-permitted (made opened (calls edits)) refl
+edits-permitted : Supposed adr opened (calls edits)
+unfolding edits small fitArgs fitTurns
+edits-permitted = all-supposed adr opened (calls edits) refl
 
 -- ---- crashes
 
@@ -71,21 +70,21 @@ fresh-bytes : Bytes fresh
 unfolding model-rules small
 fresh-bytes = small-bytes fresh refl
 
-opens : openStatus l211 fresh (lentAlone l211 longTrace) ≡ 0
+opens : openStatus l211 adr fresh (lentAlone l211 longTrace) ≡ 0
 unfolding model-rules
 opens = refl
 
-edited-stands : Stands (edited .state)
-edited-stands = turns-stand l211 fresh (lentAlone l211 longTrace) fresh-bytes opens (calls edits) edits-permitted
+edited-holds : Holds (edited .state)
+edited-holds = turns-hold l211 fresh (lentAlone l211 longTrace) fresh-bytes opens (calls edits) edits-permitted
 
-dropped-stands : Stands (dropped .state)
-dropped-stands = turns-stand l211 fresh (lentAlone l211 longTrace) fresh-bytes opens (calls (edits ++ drops)) permitted
+dropped-holds : Holds (dropped .state)
+dropped-holds = turns-hold l211 fresh (lentAlone l211 longTrace) fresh-bytes opens (calls (edits ++ drops)) permitted
 
-cut : (n : ℕ) → n < 32 → OnlyShows (edited .state) (during (callAt edited (discard 0)) n) savedPage
+cut : (n : ℕ) → n < 32 → OnlyShows adrModule (edited .state) (during (callAt edited (discard 0)) n) savedPage
 cut n h =
     let ops : ℕ = length (answerAt edited (discard 0) .ops) in
     let count : ops ≡ 32 = eqb-true _ _ (and-left (eqb ops 32) _ edited-is) in
-    shows-during (edited .state) edited-stands (callAt edited (discard 0)) tt n savedPage (omega (arith, count, h))
+    shows-during (edited .state) edited-holds (callAt edited (discard 0)) tt (λ x. tt) n savedPage (omega (arith, count, h))
     (λ w. false≢true (ap isCheckpoint (w .0))) (same-equal _ _ (and-left _ _ (and-right (eqb ops 32) _ edited-is)))
 
 -- THE STORY
@@ -94,7 +93,7 @@ discard-story = record {
   permitted = permitted;
   answered = agree-equal (follow (edits ++ drops) opened) (and-left (agree (follow (edits ++ drops) opened)) _ dropped-is);
   cut = cut;
-  after = shows-between (dropped .state) dropped-stands savedPage (same-equal _ _ (and-left _ _ (and-right (agree (follow (edits ++ drops) opened)) _ dropped-is)));
+  after = shows-between (dropped .state) dropped-holds savedPage (same-equal _ _ (and-left _ _ (and-right (agree (follow (edits ++ drops) opened)) _ dropped-is)));
   before = same-equal _ _ (and-right (same (edited .state .model .checkpoint) savedPage) _ (and-right (eqb (length (answerAt edited (discard 0) .ops)) 32) _ edited-is));
   silent = same-equal _ _ (and-right (same (dropped .state .model .checkpoint) savedPage) _ (and-right (agree (follow (edits ++ drops) opened)) _ dropped-is));
 }

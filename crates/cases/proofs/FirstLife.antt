@@ -7,21 +7,22 @@ use lib.Dec.{T, leb}
 use lib.ListN.{length, replicate}
 use Rattle.model.specs.Words.{Image, Bytes}
 use Rattle.model.specs.Layout.{mainAt, unpaired}
+use Rattle.model.specs.Session.{adr}
 use Rattle.model.specs.Ops.{zeroSegment}
 use Rattle.model.specs.Outcome.{Lent}
 use Rattle.model.specs.Format.{container, formatted}
 use Rattle.model.specs.Open.{recoverSegment, openStatus}
-use Rattle.model.specs.History.{openedImage, AllPermitted}
-use Rattle.model.specs.CrashSafety.{between}
+use Rattle.model.specs.History.{openedImage}
+use Rattle.model.specs.CrashSafety.{between, adrModule}
 use Rattle.model.specs.Shares.{alone}
-use Rattle.cases.specs.Turns.{Point, pointOf, turn, turns, made}
+use Rattle.cases.specs.Turns.{Point, pointOf, turn, turns, Supposed}
 use Rattle.cases.specs.Table.{lentAlone}
 use Rattle.cases.specs.Cut.{MayLeave}
 use Rattle.cases.specs.Restored.{l641, boardTrace, formattedBoard, firstLife, segments, leftBoard}
-use Rattle.cases.proofs.Compute.{model-rules, same, same-equal, small, small-bytes, smallArgs, smallCalls, all-permitted, known}
+use Rattle.cases.proofs.Compute.{model-rules, same, same-equal, small, small-bytes, fitArgs, fitTurns, all-supposed, known}
 use Rattle.cases.proofs.Quick.{quickWrite, quickArgs}
 use Rattle.cases.proofs.Follow.{followKnown, leaves, leaves-equal}
-use Rattle.cases.proofs.Starts.{standing, started, turns-stand}
+use Rattle.cases.proofs.Starts.{standing, started, turns-hold}
 use Rattle.cases.proofs.Shown.{may-leave}
 use Rattle.cases.proofs.Blocks.{laid, Recovered, recovered-none, recovered-zero, recovered-all}
 
@@ -30,7 +31,7 @@ use Rattle.cases.proofs.Blocks.{laid, Recovered, recovered-none, recove
 abbrev pub k641 : Lent
 k641 = lentAlone l641 boardTrace
 
-pub opens : openStatus l641 (formatted l641) k641 ≡ 0
+pub opens : openStatus l641 adr (formatted l641) k641 ≡ 0
 unfolding model-rules
 opens = refl
 
@@ -42,10 +43,10 @@ unfolding model-rules small
 bytes = small-bytes F refl
 
 -- the zeros that it writes stand there already
-opened : openedImage l641 F k641 ≡ F
+opened : openedImage l641 adr F k641 ≡ F
 unfolding model-rules same
 opened =
-    recovered-all l641 F k641 128 F refl refl
+    recovered-all l641 adr F k641 128 F refl refl
     (zeros 5 refl tt refl (zeros 4 refl tt refl (zeros 3 refl tt refl (zeros 2 refl tt refl (zeros 1 refl tt refl (zeros 0 refl tt refl (recovered-none l641 F 128)))))))
   where
     zeros : (n : ℕ) → recoverSegment l641 F 128 n ≡ zeroSegment l641 (mainAt l641 n) → T (leb (mainAt l641 n + 256) (length F))
@@ -53,11 +54,11 @@ opened =
     zeros n = recovered-zero l641 F 128 n F F
 
 abbrev firstPoint : Point
-firstPoint = pointOf (standing l641 F (segments (replicate 6 0))) (alone l641 0)
+firstPoint = pointOf (standing l641 adr F (segments (replicate 6 0))) (alone l641 0)
 
 starts : formattedBoard ≡ firstPoint
 unfolding model-rules same
-starts = started l641 F F k641 (segments (replicate 6 0)) opens opened (same-equal _ _ refl)
+starts = started l641 adr F F k641 (segments (replicate 6 0)) opens opened (same-equal _ _ refl)
 
 -- ---- its calls
 
@@ -73,9 +74,9 @@ leaves-board = refl
 life : turns formattedBoard firstLife .state .device .image ≡ leftBoard
 life = ap (λ (p : Point). turns p firstLife .state .device .image) starts ∙ leaves-equal firstLife firstPoint leftBoard leaves-board
 
-pub permitted : AllPermitted (made formattedBoard firstLife)
-unfolding made small smallArgs smallCalls
-permitted = all-permitted (made formattedBoard firstLife) refl
+pub permitted : Supposed adr formattedBoard firstLife
+unfolding small fitArgs fitTurns
+permitted = all-supposed adr formattedBoard firstLife refl
 
-pub left : MayLeave (turns formattedBoard firstLife .state) between leftBoard
-left = may-leave (turns formattedBoard firstLife .state) (turns-stand l641 F k641 bytes opens firstLife permitted) leftBoard life
+pub left : MayLeave adrModule (turns formattedBoard firstLife .state) between leftBoard
+left = may-leave (turns formattedBoard firstLife .state) (turns-hold l641 F k641 bytes opens firstLife permitted .stands) leftBoard life

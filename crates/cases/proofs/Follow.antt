@@ -31,6 +31,7 @@ withImage p I = pointOf (record {
     layout = p .state .device .layout;
     durable = p .state .device .durable;
     played = p .state .device .played;
+    adrPlayed = p .state .device .adrPlayed;
     image = I;
     session = p .state .device .session;
   };

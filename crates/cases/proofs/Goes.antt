@@ -17,14 +17,14 @@ use Rattle.model.specs.Container.{activeState, backupToMain, freeBackups, segme
 use Rattle.model.specs.Session.{dirtyWord, withCheckpoint}
 use Rattle.model.specs.Status.{firstError, served}
 use Rattle.model.specs.Clients.{Clients, cleared, shareErrors}
-use Rattle.model.specs.Ops.{opNumbers, Ops, sfence, traceShort, apply, replay, copySegment}
+use Rattle.model.specs.Ops.{opNumbers, Ops, sfence, traceShort, apply, replay, copySegment, forDomain}
 use Rattle.model.specs.Outcome.{Lent, lent, Outcome, outcomeOf}
 use Rattle.model.specs.Write.{WriteArgs, copyPlan, copies, pairOps, backupOps, stateOps, copyOnWriteOps, spanOps, writeOps, writeSession, writeClients, earlyErrors, backupErrors, writeStatus, writeOutcome}
 use Rattle.model.specs.Checkpoint.{checkpointOps, checkpointStatus, checkpointOutcome}
 use Rattle.model.specs.History.{answers, deviceStep, step}
 use Rattle.cases.specs.Turns.{Point, Turn, callAt, answerAt, turn}
 use Rattle.model.proofs.Laws.Ops.{replayed-image}
-use Rattle.model.proofs.Laws.Counts.Write.{copyCount, spanCount, length-write}
+use Rattle.model.proofs.Laws.Counts.Write.{copyCount, spanCount, count-write}
 use Rattle.model.proofs.Laws.Replay.{call-ok}
 use Rattle.model.proofs.Argument.Persist.{length-replay, replay-append}
 use Rattle.cases.proofs.Blocks.{laid, copied}
@@ -105,7 +105,7 @@ copying x I w j plan bytes has room =
 
 -- how many operations a write has
 abbrev pub countOf : Session → Image → WriteArgs → ℕ
-countOf x I w = copyCount (x .layout) (dirtyWord x (w .main)) (copyPlan x I (w .main)) + spanCount (x .layout) w
+countOf x I w = copyCount (x .domain) (x .layout) (dirtyWord x (w .main)) (copyPlan x I (w .main)) + spanCount (x .layout) w
 
 -- its status if it has n
 abbrev pub statusOf : Session → Image → WriteArgs → Lent → ℕ → ℕ
@@ -117,12 +117,12 @@ statusOf x I w k n =
 pub write-status : (x : Session) (I : Image) (w : WriteArgs) (k : Lent) (n e : ℕ) → countOf x I w ≡ n → statusOf x I w k n ≡ e
     → writeStatus x I w k ≡ e
 unfolding writeStatus traceShort
-write-status x I w k n e count test = rw (length-write x I w ∙ count) test
+write-status x I w k n e count test = rw (count-write (x .domain) x I w ∙ count) test
 
 -- served, and refused
 pub write-served : (x : Session) (I : Image) (w : WriteArgs) (k : Lent) → writeStatus x I w k ≡ 0
     → writeOutcome x I w k
-    ≡ record { status = 0; session = writeSession x I w; clients = writeClients x I w (k .clients); ops = writeOps x I w }
+    ≡ record { status = 0; session = writeSession x I w; clients = writeClients x I w (k .clients); ops = forDomain (x .domain) (writeOps x I w) }
 unfolding writeOutcome outcomeOf
 write-served x I w k h = rw h
 
@@ -132,6 +132,6 @@ unfolding writeOutcome outcomeOf
 write-refused x I w k e not h = rw (h, not)
 
 pub checkpoint-served : (x : Session) (I : Image) (k : Lent) → checkpointStatus x I k ≡ 0
-    → checkpointOutcome x I k ≡ record { status = 0; session = withCheckpoint x; clients = cleared (k .clients); ops = checkpointOps x I }
+    → checkpointOutcome x I k ≡ record { status = 0; session = withCheckpoint x; clients = cleared (k .clients); ops = forDomain (x .domain) (checkpointOps x I) }
 unfolding checkpointOutcome outcomeOf
 checkpoint-served x I k h = rw h

@@ -1,5 +1,5 @@
 -- The bench cases, computed: one run, what lets the checker compute, what a call leaves, the table, how a history starts, what is shown after
--- a crash inside a checkpoint, that of P4, the first checkpoint after a restart, long registrations, and two clients.
+-- a crash inside a checkpoint, that of P4, the first checkpoint after a restart, long registrations, two clients, edits dropped, and kind 1.
 pub mod Turns
 pub mod Compute
 pub mod Blocks
@@ -15,3 +15,4 @@ pub mod Restored
 pub mod Long
 pub mod Consoles
 pub mod Discards
+pub mod Eadr

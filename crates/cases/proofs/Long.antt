@@ -1,6 +1,6 @@
 -- The long writes, call by call: image, session, what the client has taken, and pages before each of them and after it. What a checkpoint answers and
 -- leaves is computed. Of a write its words are not: its status and its number of operations follow from the law that counts them
--- (`length-write`), what it leaves from the laws of copies and of spans, and only the numbers and the lists that these speak of are computed.
+-- (`count-write`), what it leaves from the laws of copies and of spans, and only the numbers and the lists that these speak of are computed.
 -- The crashes follow from demand 3, and in the window from two computed images.
 use Prim.Native.Nat.{ℕ, _+_, _*_, _%_, _<_, _≤_}
 use mathlib.Core.Path.{_≡_, refl, sym, ap, ap₂, subst, subst₂, _∙_}
@@ -17,9 +17,9 @@ use Rattle.model.specs.Range.{cat, sumTo}
 use Rattle.model.specs.Words.{Image, Bytes, byteAt, wordOf, bytesOf, overlay}
 use Rattle.model.specs.Layout.{lineSize, unpaired}
 use Rattle.model.specs.Container.{segmentBytes}
-use Rattle.model.specs.Session.{bit, dirtyWord, freshSession, withCheckpoint}
+use Rattle.model.specs.Session.{adr, bit, dirtyWord, freshSession, withCheckpoint}
 use Rattle.model.specs.Clients.{Clients, cleared}
-use Rattle.model.specs.Ops.{Ops, encode, replay, stores, copySegment}
+use Rattle.model.specs.Ops.{Ops, encode, replay, stores, copySegment, forDomain}
 use Rattle.model.specs.Outcome.{Lent, lent, Outcome}
 use Rattle.model.specs.Format.{container, formatted}
 use Rattle.model.specs.Open.{openStatus, openOutcome}
@@ -27,20 +27,20 @@ use Rattle.model.specs.Write.{WriteArgs, copyPlan, spanOps, stateOps, pairOps, 
 use Rattle.model.specs.Counts.{dirtyCount}
 use Rattle.model.specs.Checkpoint.{checkpointOps, checkpointStatus, checkpointOutcome}
 use Rattle.model.specs.Reference.{Page, pageAt, modelStep}
-use Rattle.model.specs.History.{State, deviceStep, step, run, openedImage, AllPermitted}
-use Rattle.model.specs.CrashSafety.{Reads, Recovers, during}
+use Rattle.model.specs.History.{State, deviceStep, step, run, openedImage}
+use Rattle.model.specs.CrashSafety.{Reads, Recovers, during, adrModule}
 use Rattle.model.specs.Shares.{alone}
-use Rattle.cases.specs.Turns.{Point, pointOf, Turn, callAt, answerAt, turn, turns, made}
+use Rattle.cases.specs.Turns.{Point, pointOf, Turn, callAt, answerAt, turn, turns, made, Supposed}
 use Rattle.cases.specs.Table.{answer, sizes, longTrace, turnWrite, checkpoint, follow, AsExpected, calls}
 use Rattle.cases.specs.Cut.{OnlyShows, CutCheckpoint}
 use Rattle.cases.specs.Long.{l114, longestTrace, filling, fill, marks, operation, marksAndEnds, story, opened, afterL2, afterL3, afterL4, afterL5, noBytes, firstBytes, secondBytes, LongStory}
-use Rattle.model.proofs.Laws.Counts.Write.{length-write}
-use Rattle.model.proofs.Argument.Stands.{Stands}
+use Rattle.model.proofs.Laws.Domain.{domain-stores, domain-replay}
+use Rattle.model.proofs.Laws.Counts.Write.{count-write}
 use Rattle.model.proofs.Argument.SpanWords.{SpanOk}
 use Rattle.model.proofs.Argument.Write.{span-ok}
 use Rattle.model.proofs.Sisters.{reads-follow-model}
-use Rattle.cases.proofs.Compute.{model-rules, same, same-equal, small, small-bytes, smallArgs, smallCalls, all-permitted}
-use Rattle.cases.proofs.Starts.{standing, started, turns-stand}
+use Rattle.cases.proofs.Compute.{model-rules, same, same-equal, small, small-bytes, fitArgs, fitTurns, all-supposed}
+use Rattle.cases.proofs.Starts.{standing, started, Holds, turns-hold}
 use Rattle.cases.proofs.Blocks.{laid, copied, spanned, recovered-none, recovered-zero, recovered-all}
 use Rattle.cases.proofs.Goes.{At, answers-at, goes, uncopied, backed, copying, countOf, statusOf, write-status, write-served, write-refused, checkpoint-served}
 use Rattle.cases.proofs.Shown.{shows, storesEpoch, no-checkpoint, shows-during, shows-between, cut-checkpoint}
@@ -60,13 +60,13 @@ Goes p c o n J y taken W P = (answerAt p c ≡ o) × (length (o .ops) ≡ n) × 
 
 -- what a served write answers, a refused one, and a checkpoint
 abbrev wrote : Session → ℕ → Session → Image → WriteArgs → Outcome
-wrote y taken x I w = record { status = 0; session = y; clients = alone l114 taken; ops = writeOps x I w }
+wrote y taken x I w = record { status = 0; session = y; clients = alone l114 taken; ops = forDomain (x .domain) (writeOps x I w) }
 
 abbrev refused : Session → ℕ → Outcome
 refused x taken = record { status = 8; session = x; clients = alone l114 taken; ops = [] }
 
 abbrev saved : Session → Session → Image → Outcome
-saved y x I = record { status = 0; session = y; clients = alone l114 0; ops = checkpointOps x I }
+saved y x I = record { status = 0; session = y; clients = alone l114 0; ops = forDomain (x .domain) (checkpointOps x I) }
 
 -- where a write stands in a page
 abbrev placeOf : WriteArgs → ℕ
@@ -88,13 +88,13 @@ writes-on I x m W P w n J y m′ X whole bytes given count status answered charg
     let served : writeStatus x I w (having m) ≡ 0 = write-status x I w (having m) n 0 count status in
     let o : writeOutcome x I w (having m) ≡ wrote y m′ x I w =
     write-served x I w (having m) served
-    ∙ ap₂ (λ (z : Session) (R : Clients). record { status = 0; session = z; clients = R; ops = writeOps x I w }) answered charge in
+    ∙ ap₂ (λ (z : Session) (R : Clients). record { status = 0; session = z; clients = R; ops = forDomain (x .domain) (writeOps x I w) }) answered charge in
     let g = goes (turnWrite w longestTrace) whole (ap (λ (a : Outcome). a .session) o) (ap (λ (a : Outcome). a .clients) o)
-    (ap (λ (a : Outcome). replay (a .ops) I) o
+    (ap (λ (a : Outcome). replay (a .ops) I) o ∙ domain-replay (x .domain) (writeOps x I w) I
     ∙ leaves (small-bytes I bytes) (span-ok x I w (having m) (small-bytes (w .bytes) given) served)) p (h .here) in
     let e : answerAt p (turnWrite w longestTrace) ≡ wrote y m′ x I w = answers-at (turnWrite w longestTrace) p (h .here) ∙ o in (
       e,
-      length-write x I w ∙ count,
+      count-write (x .domain) x I w ∙ count,
       record {
         here = g;
         sized = h .sized;
@@ -119,14 +119,14 @@ refuses I x m W P w n whole count status p h =
 -- a checkpoint
 saves : (I : Image) (x : Session) (m : ℕ) (W P : Page) (n : ℕ) (J : Image) (y : Session) → length I % lineSize ≡ 0
     → checkpointStatus x I (lent (alone l114 m) longTrace) ≡ 0
-    → length (checkpointOps x I) ≡ n → withCheckpoint x ≡ y → same (replay (checkpointOps x I) I) J ≡ true
+    → length (forDomain (x .domain) (checkpointOps x I)) ≡ n → withCheckpoint x ≡ y → same (replay (checkpointOps x I) I) J ≡ true
     → (p : Point) → Has p I x m W P → Goes p checkpoint (saved y x I) n J y 0 W W
 unfolding turn step deviceStep modelStep cleared
 saves I x m W P n J y whole served count answered leaves p h =
     let o : checkpointOutcome x I (lent (alone l114 m) longTrace) ≡ saved y x I =
     checkpoint-served x I (lent (alone l114 m) longTrace) served ∙ ap (λ (z : Session). saved z x I) answered in
     let g = goes checkpoint whole (ap (λ (a : Outcome). a .session) o) (ap (λ (a : Outcome). a .clients) o)
-    (ap (λ (a : Outcome). replay (a .ops) I) o ∙ same-equal _ _ leaves) p (h .here) in
+    (ap (λ (a : Outcome). replay (a .ops) I) o ∙ domain-replay (x .domain) (checkpointOps x I) I ∙ same-equal _ _ leaves) p (h .here) in
     let e : answerAt p checkpoint ≡ saved y x I = answers-at checkpoint p (h .here) ∙ o in
     (e, count, record { here = g; sized = h .sized; working = rw e (h .working); checkpoint = rw e (h .working) })
 
@@ -145,7 +145,7 @@ image epoch even odd pair main backup =
     container l114 epoch (even ∷ replicate 63 0) (odd ∷ replicate 63 0) (pair ∷ replicate 63 unpaired) (main ++ backup)
 
 abbrev session : ℕ → ℕ → Session
-session segments blocks = record { layout = l114; «dirty_segments» = segments; «dirty_blocks» = blocks ∷ replicate 63 0 }
+session segments blocks = record { layout = l114; «dirty_segments» = segments; «dirty_blocks» = blocks ∷ replicate 63 0; domain = adr }
 
 -- what stands after L1, L2, ..
 abbrev I1 : Image
@@ -174,7 +174,7 @@ I7 = image 2 2 2 0 lastBytes secondBytes
 abbrev F : Image
 F = formatted l114
 
-opens : openStatus l114 F (having 0) ≡ 0
+opens : openStatus l114 adr F (having 0) ≡ 0
 unfolding model-rules
 opens = refl
 
@@ -183,15 +183,15 @@ unfolding model-rules small
 bytes = small-bytes F refl
 
 -- the zeros that the opening writes stand there already
-reopened : openedImage l114 F (having 0) ≡ I1
+reopened : openedImage l114 adr F (having 0) ≡ I1
 unfolding model-rules same
 reopened =
-    recovered-all l114 F (having 0) 128 I1 refl refl
+    recovered-all l114 adr F (having 0) 128 I1 refl refl
     (recovered-zero l114 F 128 0 F I1 refl tt refl (recovered-none l114 F 128))
 
-starts : opened ≡ pointOf (standing l114 I1 noBytes) (alone l114 0)
+starts : opened ≡ pointOf (standing l114 adr I1 noBytes) (alone l114 0)
 unfolding model-rules same
-starts = started l114 F I1 (having 0) noBytes opens reopened (same-equal _ _ refl)
+starts = started l114 adr F I1 (having 0) noBytes opens reopened (same-equal _ _ refl)
 
 has-1 : Has opened I1 (session 0 0) 0 noBytes noBytes
 unfolding freshSession
@@ -202,7 +202,7 @@ has-1 = subst (λ (p : Point). Has p I1 (session 0 0) 0 noBytes noBytes) (sym st
   checkpoint = refl;
 })
 
-answered-1 : answer (openOutcome l114 F (having 0)) ≡ 0 ∷ 145 ∷ []
+answered-1 : answer (openOutcome l114 adr F (having 0)) ≡ 0 ∷ 145 ∷ []
 unfolding model-rules
 answered-1 = refl
 
@@ -364,7 +364,8 @@ row-2 =
     ap (λ (a : Outcome). answer a ++ marksAndEnds a (afterL2 .state)) (goes-2 .0)
     ∙ ap (λ (k : ℕ). 0 ∷ k ∷ 7 ∷ operation 0 (wrote (session 1 7) 0 (session 0 0) I1 first) ++ operation 88 (wrote (session 1 7) 0 (session 0 0) I1 first))
     (goes-2 .1)
-    ∙ ap (λ (O : Ops). 0 ∷ 89 ∷ 7 ∷ take 2 (encode O) ++ take 2 (drop 264 (encode O))) (uncopied (session 0 0) I1 first plan-2)
+    ∙ ap (λ (O : Ops). 0 ∷ 89 ∷ 7 ∷ take 2 (encode O) ++ take 2 (drop 264 (encode O)))
+    (ap (forDomain adr) (uncopied (session 0 0) I1 first plan-2) ∙ domain-stores adr 89 536 _)
     ∙ ap (λ (ns : List ℕ). 0 ∷ 89 ∷ 7 ∷ ns) (ends (λ k. wordOf (overlay (byteAt I1) 542 (first .bytes)) (536 + 8 * k)))
 
 answered : AsExpected opened story
@@ -380,9 +381,9 @@ answered =
     (ap₂ _∷_ (row-is after72 (fill 0 30 994 8) _ 125 (goes-73 .0) (goes-73 .1))
     (ap₂ _∷_ (row-is after73 (fill 0 30 995 8) _ 0 (goes-74 .0) (goes-74 .1)) refl))))))))
 
-permitted : AllPermitted (made opened (calls story))
-unfolding made story small smallArgs smallCalls
-permitted = all-permitted (made opened (calls story)) refl
+permitted : Supposed adr opened (calls story)
+unfolding story small fitArgs fitTurns
+permitted = all-supposed adr opened (calls story) refl
 
 -- ---- the crashes
 
@@ -395,28 +396,33 @@ given-4 : Bytes (second .bytes)
 unfolding small
 given-4 = small-bytes (second .bytes) refl
 
-stands-2 : Stands (afterL2 .state)
-unfolding turns made
-stands-2 = turns-stand l114 F (having 0) bytes opens (fill 0 30 700 5 ∷ []) (given-2, tt)
+-- the calls of the story up to some of them
+holds : (cs : List Turn) → Supposed adr opened cs → Holds (turns opened cs .state)
+holds = turns-hold l114 F (having 0) bytes opens
 
-stands-3 : Stands (afterL3 .state)
+holds-2 : Holds (afterL2 .state)
 unfolding turns made
-stands-3 = turns-stand l114 F (having 0) bytes opens (fill 0 30 700 5 ∷ checkpoint ∷ []) (given-2, (tt, tt))
+holds-2 = holds (fill 0 30 700 5 ∷ []) ((given-2, tt), ((λ x. tt), tt))
 
-stands-4 : Stands (afterL4 .state)
+holds-3 : Holds (afterL3 .state)
 unfolding turns made
-stands-4 =
-    turns-stand l114 F (having 0) bytes opens (fill 0 30 700 5 ∷ checkpoint ∷ fill 1 30 700 6 ∷ []) (given-2, (tt, (given-4, tt)))
+holds-3 = holds (fill 0 30 700 5 ∷ checkpoint ∷ []) ((given-2, (tt, tt)), ((λ x. tt), ((λ x. tt), tt)))
+
+holds-4 : Holds (afterL4 .state)
+unfolding turns made
+holds-4 =
+    holds (fill 0 30 700 5 ∷ checkpoint ∷ fill 1 30 700 6 ∷ [])
+    ((given-2, (tt, (given-4, tt))), ((λ x. tt), ((λ x. tt), ((λ x. tt), tt))))
 
 -- what the checkpoint of L3 leaves before the epoch's store, and after it
 abbrev cutImage : ℕ → Image
 cutImage epoch = image epoch 0 1 255 firstBytes noBytes
 
-shows-old : Recovers l114 (cutImage 0) (having 0) noBytes
+shows-old : Recovers l114 adr (cutImage 0) (having 0) noBytes
 unfolding model-rules same small
 shows-old = shows l114 (cutImage 0) (having 0) noBytes refl refl refl
 
-shows-new : Recovers l114 (cutImage 1) (having 0) firstBytes
+shows-new : Recovers l114 adr (cutImage 1) (having 0) firstBytes
 unfolding model-rules same small
 shows-new = shows l114 (cutImage 1) (having 0) firstBytes refl refl refl
 
@@ -424,14 +430,14 @@ cut : CutCheckpoint 26 afterL2 noBytes firstBytes
 unfolding model-rules same storesEpoch
 cut =
     let h = goes-2 .2 in
-    cut-checkpoint afterL2 stands-2 I2 (session 1 7) (alone l114 0) 26 (h .here) refl (lit≤ tt)
+    cut-checkpoint afterL2 holds-2 I2 (session 1 7) (alone l114 0) 26 (h .here) refl (lit≤ tt)
     noBytes firstBytes (cutImage 0) (cutImage 1) refl refl refl refl refl (having 0)
-    (subst (λ (l : Layout). Recovers l (cutImage 0) (having 0) noBytes) (sym (h .sized)) shows-old)
-    (subst (λ (l : Layout). Recovers l (cutImage 1) (having 0) firstBytes) (sym (h .sized)) shows-new) (h .checkpoint) (h .working)
+    (subst (λ (l : Layout). Recovers l adr (cutImage 0) (having 0) noBytes) (sym (h .sized)) shows-old)
+    (subst (λ (l : Layout). Recovers l adr (cutImage 1) (having 0) firstBytes) (sym (h .sized)) shows-new) (h .checkpoint) (h .working)
 
-copies-safely : (p : ℕ) → p < 239 → OnlyShows (afterL3 .state) (during (callAt afterL3 (fill 1 30 700 6)) p) firstBytes
+copies-safely : (p : ℕ) → p < 239 → OnlyShows adrModule (afterL3 .state) (during (callAt afterL3 (fill 1 30 700 6)) p) firstBytes
 copies-safely p more =
-    shows-during (afterL3 .state) stands-3 (callAt afterL3 (fill 1 30 700 6)) given-4 p firstBytes
+    shows-during (afterL3 .state) holds-3 (callAt afterL3 (fill 1 30 700 6)) given-4 (λ x. tt) p firstBytes
     (omega (arith, more, ap (λ (o : Outcome). length (o .ops)) (goes-4 .0) ∙ goes-4 .1)) (λ w. no-checkpoint (w .0)) (goes-3 .2 .checkpoint)
 
 -- ---- the reads after L5
@@ -442,7 +448,7 @@ reads =
     let h = goes-5 .2 in
     let s : State = afterL5 .state in
     let r : Reads (s .device .layout) (s .device .image) (s .model .working) (s .model .checkpoint) =
-    reads-follow-model l114 F (having 0) bytes opens (made opened (fill 0 30 700 5 ∷ checkpoint ∷ fill 1 30 700 6 ∷ checkpoint ∷ []))
+    reads-follow-model l114 adr F (having 0) bytes opens (made opened (fill 0 30 700 5 ∷ checkpoint ∷ fill 1 30 700 6 ∷ checkpoint ∷ []))
     (given-2, (tt, (given-4, (tt, tt)))) in
     subst (λ (l : Layout). Reads l (s .device .image) secondBytes secondBytes) (h .sized)
     (subst₂ (λ (W P : Page). Reads (s .device .layout) (s .device .image) W P) (h .working) (h .checkpoint) r)
@@ -456,6 +462,6 @@ long-story = record {
   answered = answered;
   cut = cut;
   copying = copies-safely;
-  copied = shows-between (afterL4 .state) stands-4 firstBytes (goes-4 .2 .checkpoint);
+  copied = shows-between (afterL4 .state) holds-4 firstBytes (goes-4 .2 .checkpoint);
   reads = reads;
 }

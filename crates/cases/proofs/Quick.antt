@@ -13,11 +13,12 @@ use Rattle.model.specs.Words.{Image}
 use Rattle.model.specs.Layout.{lineSize, segmentSize, mainAt, backupAt}
 use Rattle.model.specs.Ops.{Trace, replay}
 use Rattle.model.specs.Outcome.{Lent, lent, Outcome}
-use Rattle.model.specs.Write.{WriteArgs, copyPlan, writeStatus}
+use Rattle.model.specs.Write.{WriteArgs, copyPlan, writeOps, writeStatus}
 use Rattle.model.specs.Reference.{CallArgs, openArgs, writeArgs, discardArgs, checkpointArgs}
 use Rattle.cases.specs.Turns.{Point, Turn, turn}
 use Rattle.cases.specs.Table.{turnWrite}
 use Rattle.model.proofs.Laws.Range.{and-left, and-right}
+use Rattle.model.proofs.Laws.Domain.{domain-replay}
 use Rattle.cases.proofs.Compute.{small, small-bytes}
 use Rattle.cases.proofs.Goes.{turn-image, copyImage, copying, write-served}
 
@@ -38,7 +39,7 @@ quickWrite p w t (OwnBackup j) = turn p (turnWrite w t) .state .device .image
 quickWrite p w t NoneFree = turn p (turnWrite w t) .state .device .image
 
 unfoldable pub quickArgs : Point → Trace → CallArgs → Image
-quickArgs p t (openArgs l) = turn p (record { args = openArgs l; trace = t }) .state .device .image
+quickArgs p t (openArgs l d) = turn p (record { args = openArgs l d; trace = t }) .state .device .image
 quickArgs p t (writeArgs w) = quickWrite p w t (copyPlan (p .state .device .session) (p .state .device .image) (w .main))
 quickArgs p t (discardArgs i) = turn p (record { args = discardArgs i; trace = t }) .state .device .image
 quickArgs p t checkpointArgs = turn p (record { args = checkpointArgs; trace = t }) .state .device .image
@@ -69,7 +70,7 @@ quick-write p w t (NewBackup j) plan = go (eqb (writeStatus x I w k) 0 && hasPla
         let later = and-right (eqb (length I % lineSize) 0) _ places in
         let inside = and-right (small I) _ later in
         sym (turn-image (turnWrite w t) p (eqb-true _ _ (and-left (eqb (length I % lineSize) 0) _ places))
-        ∙ ap (λ (a : Outcome). replay (a .ops) I) (write-served x I w k served)
+        ∙ ap (λ (a : Outcome). replay (a .ops) I) (write-served x I w k served) ∙ domain-replay (x .domain) (writeOps x I w) I
         ∙ copying x I w j plan (small-bytes I (and-left (small I) _ later))
         (leb-true _ _ (and-left (leb (mainAt (x .layout) (w .main) + segmentSize (x .layout)) (length I)) _ inside))
         (leb-true _ _ (and-right (leb (mainAt (x .layout) (w .main) + segmentSize (x .layout)) (length I)) _ inside)))
@@ -79,7 +80,7 @@ unfolding quickArgs
 quick-same p c = go (c .args)
   where
     go : (a : CallArgs) → quickArgs p (c .trace) a ≡ turn p (record { args = a; trace = c .trace }) .state .device .image
-    go (openArgs l) = refl
+    go (openArgs l d) = refl
     go (writeArgs w) = quick-write p w (c .trace) _ refl
     go (discardArgs i) = refl
     go checkpointArgs = refl

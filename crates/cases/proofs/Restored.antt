@@ -9,23 +9,23 @@ use Rattle.model.specs.Range.{anyB, orNext, firstB}
 use Rattle.model.specs.Words.{Image, Bytes, bytesOf}
 use Rattle.model.specs.Layout.{mainAt, backupAt, unpaired}
 use Rattle.model.specs.Container.{activeLine, segmentBytes, isPaired, pairedBackup, byState}
+use Rattle.model.specs.Session.{adr}
 use Rattle.model.specs.Ops.{store, replay, copySegment}
 use Rattle.model.specs.Format.{container}
 use Rattle.model.specs.Open.{recoveryAction, actionOps, recoverSegment, openStatus}
 use Rattle.model.specs.Reads.{checkpointBlock}
-use Rattle.model.specs.History.{State, openedImage, AllPermitted}
+use Rattle.model.specs.History.{State, openedImage}
 use Rattle.model.specs.CrashSafety.{Recovers}
 use Rattle.model.specs.Shares.{alone}
-use Rattle.cases.specs.Turns.{Point, pointOf, turn, turns, made}
+use Rattle.cases.specs.Turns.{Point, pointOf, turn, turns, Supposed}
 use Rattle.cases.specs.Table.{Row, follow, calls}
 use Rattle.cases.specs.Cut.{CutCheckpoint}
 use Rattle.cases.specs.Restored.{l641, put, segments, leftBoard, restoredBoard, board, story, shorter, beforeCheckpoint, oldPage, newPage, RestoredStory}
 use Rattle.model.proofs.Laws.Range.{and-left, and-right}
-use Rattle.model.proofs.Argument.Stands.{Stands}
-use Rattle.cases.proofs.Compute.{model-rules, same, same-equal, small, small-bytes, smallArgs, smallCalls, all-permitted, known}
+use Rattle.cases.proofs.Compute.{model-rules, same, same-equal, small, small-bytes, fitArgs, fitTurns, all-supposed, known}
 use Rattle.cases.proofs.Quick.{quickWrite, quickArgs}
 use Rattle.cases.proofs.Follow.{agree, followKnown, follow-test, as-expected}
-use Rattle.cases.proofs.Starts.{standing, started, turns-stand}
+use Rattle.cases.proofs.Starts.{standing, started, Holds, turns-hold}
 use Rattle.cases.proofs.Blocks.{laid, Recovered, recovered-none, recovered-copy, recovered-zero, recovered-idle, recovered-all}
 use Rattle.cases.proofs.Shown.{shows, storesEpoch, cut-checkpoint}
 use Rattle.cases.proofs.FirstLife.{k641, later}
@@ -33,7 +33,7 @@ use Rattle.cases.proofs.FirstLife as first
 
 -- ---- its opening
 
-opens : openStatus l641 leftBoard k641 ≡ 0
+opens : openStatus l641 adr leftBoard k641 ≡ 0
 unfolding model-rules
 opens = refl
 
@@ -67,16 +67,16 @@ active : activeLine leftBoard ≡ 192
 unfolding model-rules
 active = refl
 
-opened : openedImage l641 leftBoard k641 ≡ restored
-opened = recovered-all l641 leftBoard k641 192 restored opens active recovered
+opened : openedImage l641 adr leftBoard k641 ≡ restored
+opened = recovered-all l641 adr leftBoard k641 192 restored opens active recovered
 
 -- where it starts
 abbrev firstPoint : Point
-firstPoint = pointOf (standing l641 restored oldPage) (alone l641 0)
+firstPoint = pointOf (standing l641 adr restored oldPage) (alone l641 0)
 
 starts : restoredBoard ≡ firstPoint
 unfolding model-rules same
-starts = started l641 leftBoard restored k641 oldPage opens opened (same-equal _ _ refl)
+starts = started l641 adr leftBoard restored k641 oldPage opens opened (same-equal _ _ refl)
 
 -- ---- its calls
 
@@ -95,13 +95,13 @@ shorter-tested = refl
 shorter-is : shorterTest (follow shorter firstPoint) (turns firstPoint (calls shorter)) ≡ true
 shorter-is = follow-test shorter firstPoint shorterTest shorter-tested
 
-story-permitted : AllPermitted (made restoredBoard (calls story))
-unfolding made story small smallArgs smallCalls
-story-permitted = all-permitted (made restoredBoard (calls story)) refl
+story-permitted : Supposed adr restoredBoard (calls story)
+unfolding story small fitArgs fitTurns
+story-permitted = all-supposed adr restoredBoard (calls story) refl
 
-shorter-permitted : AllPermitted (made restoredBoard (calls shorter))
-unfolding made shorter small smallArgs smallCalls
-shorter-permitted = all-permitted (made restoredBoard (calls shorter)) refl
+shorter-permitted : Supposed adr restoredBoard (calls shorter)
+unfolding shorter small fitArgs fitTurns
+shorter-permitted = all-supposed adr restoredBoard (calls shorter) refl
 
 board-is : board (firstPoint .state) ≡ 2 ∷ 2 ∷ 2 ∷ 2 ∷ 1 ∷ 0 ∷ [] ++ 0 ∷ 1 ∷ 2 ∷ 3 ∷ []
 unfolding model-rules
@@ -119,8 +119,9 @@ before = record {
     layout = l641;
     durable = restored;
     played = store 1792 35 ∷ [];
+    adrPlayed = store 1792 35 ∷ [];
     image = replay (store 1792 35 ∷ []) restored;
-    session = record { layout = l641; «dirty_segments» = 32; «dirty_blocks» = 0 ∷ 0 ∷ 0 ∷ 0 ∷ 0 ∷ 1 ∷ replicate 58 0 };
+    session = record { layout = l641; «dirty_segments» = 32; «dirty_blocks» = 0 ∷ 0 ∷ 0 ∷ 0 ∷ 0 ∷ 1 ∷ replicate 58 0; domain = adr };
   };
   model = record { working = newPage; checkpoint = oldPage };
 }
@@ -139,11 +140,11 @@ served = refl
 stands : beforeCheckpoint ≡ lastPoint
 stands = ap (λ (p : Point). turn (turn p (put 4 34)) (put 5 35)) starts ∙ ap (λ (p : Point). turn p (put 5 35)) refused ∙ served
 
-holds : Stands before
-unfolding turns made small smallArgs smallCalls
+holds : Holds before
+unfolding turns small fitArgs fitTurns
 holds =
-    subst (λ (p : Point). Stands (p .state)) stands
-    (turns-stand l641 leftBoard k641 bytes opens (put 4 34 ∷ put 5 35 ∷ []) (all-permitted (made restoredBoard (put 4 34 ∷ put 5 35 ∷ [])) refl))
+    subst (λ (p : Point). Holds (p .state)) stands
+    (turns-hold l641 leftBoard k641 bytes opens (put 4 34 ∷ put 5 35 ∷ []) (all-supposed adr restoredBoard (put 4 34 ∷ put 5 35 ∷ []) refl))
 
 -- the images with the old epoch and with the new
 abbrev cutImage : ℕ → Image
@@ -151,11 +152,11 @@ cutImage epoch =
     container l641 epoch (replicate 6 1 ++ replicate 58 0) (2 ∷ 2 ∷ 2 ∷ 2 ∷ 1 ∷ 0 ∷ replicate 58 0) (0 ∷ 1 ∷ 2 ∷ 3 ∷ replicate 60 unpaired)
     (segments (10 ∷ 11 ∷ 12 ∷ 13 ∷ 14 ∷ 35 ∷ []) ++ segments (10 ∷ 11 ∷ 12 ∷ 13 ∷ []))
 
-shows-old : Recovers l641 (cutImage 1) k641 oldPage
+shows-old : Recovers l641 adr (cutImage 1) k641 oldPage
 unfolding model-rules same small
 shows-old = shows l641 (cutImage 1) k641 oldPage refl refl refl
 
-shows-new : Recovers l641 (cutImage 2) k641 newPage
+shows-new : Recovers l641 adr (cutImage 2) k641 newPage
 unfolding model-rules same small
 shows-new = shows l641 (cutImage 2) k641 newPage refl refl refl
 
@@ -166,7 +167,7 @@ shown =
     (record { image = refl; session = refl; clients = refl }) refl (lit≤ tt)
     oldPage newPage (cutImage 1) (cutImage 2) refl refl refl refl refl k641 shows-old shows-new refl refl
 
-shows-left : Recovers l641 leftBoard k641 oldPage
+shows-left : Recovers l641 adr leftBoard k641 oldPage
 unfolding model-rules same small
 shows-left = shows l641 leftBoard k641 oldPage refl refl refl
 

@@ -23,16 +23,17 @@ use lib.ListN.{replicate}
 use Rattle.model.specs.declared.Layout.{Layout}
 use Rattle.model.specs.Words.{Image, Bytes}
 use Rattle.model.specs.Layout.{lineSize, unpaired}
+use Rattle.model.specs.Session.{adr}
 use Rattle.model.specs.Container.{activeState, backupToMain, freeBackups}
 use Rattle.model.specs.Clients.{Clients, clientOf}
 use Rattle.model.specs.Outcome.{Lent, lent, Outcome}
 use Rattle.model.specs.Format.{container, formatted}
 use Rattle.model.specs.Open.{openOutcome}
 use Rattle.model.specs.Write.{writeArgsOf}
-use Rattle.model.specs.History.{State, AllPermitted}
-use Rattle.model.specs.CrashSafety.{between}
+use Rattle.model.specs.History.{State}
+use Rattle.model.specs.CrashSafety.{between, adrModule}
 use Rattle.model.specs.Shares.{BelowShare, SharesHold}
-use Rattle.cases.specs.Turns.{Point, begin, Turn, turns, made}
+use Rattle.cases.specs.Turns.{Point, begin, Turn, turns, Supposed}
 use Rattle.cases.specs.Table.{Case, answer, sizes, longTrace, turnWrite, checkpoint, case, AsExpected, calls}
 use Rattle.cases.specs.Cut.{MayLeave}
 use Rattle.cases.specs.Restored.{segments, boardOf}
@@ -63,7 +64,7 @@ onBoard o s = counts o s ++ boardOf l321 s
 -- ---- the first life
 
 abbrev pub opened : Point
-opened = begin l321 (formatted l321) (lentOpening (twoClients 0 0))
+opened = begin l321 adr (formatted l321) (lentOpening (twoClients 0 0))
 
 -- its calls, until both backup segments are in use: status and number of operations; taken by client 0, by client 1, free; states; pairs
 unfoldable pub bothTaken : List Case
@@ -99,7 +100,7 @@ leftInUse =
 -- ---- the second life
 
 abbrev pub restarted : Point
-restarted = begin l321 leftInUse (lentOpening (twoClients 1 1))
+restarted = begin l321 adr leftInUse (lentOpening (twoClients 1 1))
 
 unfoldable pub afterRestart : List Case
 afterRestart =
@@ -113,7 +114,7 @@ afterRestart =
 -- ---- one client whose share is 0 and whose limit is 1
 
 abbrev pub limited : Point
-limited = begin l321 leftInUse (lentOpening (clientOf 0 1 0 ∷ []))
+limited = begin l321 adr leftInUse (lentOpening (clientOf 0 1 0 ∷ []))
 
 -- taken by it, free
 unfoldable pub atLimit : List Case
@@ -128,24 +129,24 @@ atLimit =
 pub record ConsolesStory : Type 0 where
   -- the first life is a history that demand 3 speaks of; its calls answer so
   pub firstBytes : Bytes (formatted l321)
-  pub firstOpens : answer (openOutcome l321 (formatted l321) (lentOpening (twoClients 0 0))) ≡ 0 ∷ 109 ∷ []
-  pub takingPermitted : AllPermitted (made opened (calls bothTaken))
+  pub firstOpens : answer (openOutcome l321 adr (formatted l321) (lentOpening (twoClients 0 0))) ≡ 0 ∷ 109 ∷ []
+  pub takingPermitted : Supposed adr opened (calls bothTaken)
   pub greedyRefused : AsExpected opened bothTaken
-  pub freedPermitted : AllPermitted (made inUse (calls freedAgain))
+  pub freedPermitted : Supposed adr inUse (calls freedAgain)
   pub freed : AsExpected inUse freedAgain
   -- a crash when both backup segments are in use may leave this image
-  pub left : MayLeave (inUse .state) between leftInUse
+  pub left : MayLeave adrModule (inUse .state) between leftInUse
   -- so is the second life; its opening restores two main segments and sets what each has taken to 0
   pub bytes : Bytes leftInUse
-  pub opens : answer (openOutcome l321 leftInUse (lentOpening (twoClients 1 1))) ≡ 0 ∷ 73 ∷ []
+  pub opens : answer (openOutcome l321 adr leftInUse (lentOpening (twoClients 1 1))) ≡ 0 ∷ 73 ∷ []
   pub cleared : restarted .clients ≡ twoClients 0 0
   pub restored : boardOf l321 (restarted .state) ≡ (2 ∷ 2 ∷ 1 ∷ []) ++ (0 ∷ 1 ∷ [])
   -- client 1 is below its share there, which is not sure yet
   pub below : BelowShare (restarted .clients) 1
   pub notYetSure : SharesHold (restarted .state .device) (restarted .clients) → ⊥
-  pub permitted : AllPermitted (made restarted (calls afterRestart))
+  pub permitted : Supposed adr restarted (calls afterRestart)
   pub sureAgain : AsExpected restarted afterRestart
   -- the third
-  pub limitedOpens : answer (openOutcome l321 leftInUse (lentOpening (clientOf 0 1 0 ∷ []))) ≡ 0 ∷ 73 ∷ []
-  pub limitedPermitted : AllPermitted (made limited (calls atLimit))
+  pub limitedOpens : answer (openOutcome l321 adr leftInUse (lentOpening (clientOf 0 1 0 ∷ []))) ≡ 0 ∷ 73 ∷ []
+  pub limitedPermitted : Supposed adr limited (calls atLimit)
   pub limitReached : AsExpected limited atLimit

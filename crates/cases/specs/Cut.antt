@@ -6,38 +6,38 @@ use mathlib.Core.List.{_++_}
 use lib.ListN.{length, replicate}
 use Rattle.model.specs.Words.{Image}
 use Rattle.model.specs.Outcome.{Lent}
-use Rattle.model.specs.Crash.{CrashImage}
+use Rattle.model.specs.Session.{adr}
 use Rattle.model.specs.Reference.{Page}
 use Rattle.model.specs.History.{State}
-use Rattle.model.specs.CrashSafety.{Recovers, Moment, between, during, playedAt, Enough}
+use Rattle.model.specs.CrashSafety.{Recovers, Moment, between, during, playedAt, Module, Enough, adrModule}
 use Rattle.cases.specs.Turns.{Point, callAt, answerAt, turn}
 use Rattle.cases.specs.Table.{fourBytes, writeFour, checkpoint, opened}
 
--- a crash at this moment of the state s may leave H
-abbrev pub MayLeave : State → Moment → Image → Type 0
-MayLeave s m H = CrashImage (s .device .durable) (playedAt (s .device) m) H
+-- a crash of the module at this moment of the state s may leave H
+abbrev pub MayLeave : Module → State → Moment → Image → Type 0
+MayLeave M s m H = M .leaves (s .device .durable) (playedAt (s .device) m) H
 
--- some crash there is followed by an opening that shows the page Q
+-- some crash there, of kind 0, is followed by an opening that shows the page Q
 abbrev pub CanShow : State → Moment → Page → Type 0
-CanShow s m Q = (H : Image) × MayLeave s m H × (k : Lent) × Recovers (s .device .layout) H k Q
+CanShow s m Q = (H : Image) × MayLeave adrModule s m H × (k : Lent) × Recovers (s .device .layout) adr H k Q
 
 -- every crash there is followed by openings that show the page Q, with any trace and any records that are not refused
-abbrev pub OnlyShows : State → Moment → Page → Type 0
-OnlyShows s m Q =
-    (H : Image) → MayLeave s m H → (k : Lent) → Enough (s .device .layout) H k → Recovers (s .device .layout) H k Q
+abbrev pub OnlyShows : Module → State → Moment → Page → Type 0
+OnlyShows M s m Q =
+    (H : Image) → MayLeave M s m H → (k : Lent) → Enough (s .device .layout) (M .domain) H k → Recovers (s .device .layout) (M .domain) H k Q
 
 pub record EitherPage (s : State) (m : Moment) (old new : Page) : Type 0 where
   pub canOld : CanShow s m old
   pub canNew : CanShow s m new
 
--- a checkpoint of n operations made at the point p: just before the store of the epoch, which is the last but two, only the old page is
--- shown, from there on up to the last fence either can be, and once it is played whole only the new one
+-- a checkpoint of n operations made at the point p, on a module of kind 0: just before the store of the epoch, which is the last but two,
+-- only the old page is shown, from there on up to the last fence either can be, and once it is played whole only the new one
 pub record CutCheckpoint (n : ℕ) (p : Point) (old new : Page) : Type 0 where
   pub count : length (answerAt p checkpoint .ops) ≡ n
-  pub before : OnlyShows (p .state) (during (callAt p checkpoint) (n - 3)) old
+  pub before : OnlyShows adrModule (p .state) (during (callAt p checkpoint) (n - 3)) old
   pub stored : EitherPage (p .state) (during (callAt p checkpoint) (n - 2)) old new
   pub flushed : EitherPage (p .state) (during (callAt p checkpoint) (n - 1)) old new
-  pub after : OnlyShows (turn p checkpoint .state) between new
+  pub after : OnlyShows adrModule (turn p checkpoint .state) between new
 
 -- ---- P4
 

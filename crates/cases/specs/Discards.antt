@@ -9,14 +9,14 @@ use mathlib.Core.List.{List, [], _∷_, _++_}
 use lib.ListN.{take, drop, replicate}
 use Rattle.model.specs.Layout.{blockSize}
 use Rattle.model.specs.Container.{activeLine}
-use Rattle.model.specs.Session.{dirtyWord}
+use Rattle.model.specs.Session.{adr, dirtyWord}
 use Rattle.model.specs.Ops.{Trace}
 use Rattle.model.specs.Outcome.{Outcome}
 use Rattle.model.specs.Reads.{workingBlock, checkpointBlock}
 use Rattle.model.specs.Reference.{Page, discardArgs}
-use Rattle.model.specs.History.{State, AllPermitted}
-use Rattle.model.specs.CrashSafety.{between, during}
-use Rattle.cases.specs.Turns.{Point, Turn, callAt, turns, made}
+use Rattle.model.specs.History.{State}
+use Rattle.model.specs.CrashSafety.{between, during, adrModule}
+use Rattle.cases.specs.Turns.{Point, Turn, callAt, turns, Supposed}
 use Rattle.cases.specs.Table.{Case, l211, longTrace, write, checkpoint, case, AsExpected, calls, opened}
 use Rattle.cases.specs.Cut.{OnlyShows}
 
@@ -72,12 +72,12 @@ savedPage = 10 ∷ 11 ∷ replicate 510 0
 -- ---- the story
 
 pub record DiscardStory : Type 0 where
-  pub permitted : AllPermitted (made opened (calls (edits ++ drops)))
+  pub permitted : Supposed adr opened (calls (edits ++ drops))
   pub answered : AsExpected opened (edits ++ drops)
   -- a cut after any number of the first discard's operations
-  pub cut : (n : ℕ) → n < 32 → OnlyShows (edited .state) (during (callAt edited (discard 0)) n) savedPage
+  pub cut : (n : ℕ) → n < 32 → OnlyShows adrModule (edited .state) (during (callAt edited (discard 0)) n) savedPage
   -- and one at the end
-  pub after : OnlyShows (dropped .state) between savedPage
+  pub after : OnlyShows adrModule (dropped .state) between savedPage
   -- the checkpoint read of main segment 1: nothing before its checkpoint, and zeros then
   pub before : checkpointBlock l211 (edited .state .device .image) 1 0 ≡ []
   pub silent : checkpointBlock l211 (dropped .state .device .image) 1 0 ≡ replicate blockSize 0

@@ -1,5 +1,5 @@
 -- The bench cases of SPECIFICATION 17: how a history shares one run of records, the table, the crash inside P4, the first checkpoint
--- after a restart, long registrations, two clients on one board, and edits dropped.
+-- after a restart, long registrations, two clients on one board, edits dropped, and the bench on a module of kind 1.
 pub mod Turns
 pub mod Table
 pub mod Cut
@@ -7,3 +7,4 @@ pub mod Restored
 pub mod Long
 pub mod Consoles
 pub mod Discards
+pub mod Eadr

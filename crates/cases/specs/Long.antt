@@ -11,16 +11,16 @@ use mathlib.Core.List.{List, [], _∷_, _++_}
 use lib.ListN.{take, drop, replicate}
 use Rattle.model.specs.declared.Layout.{Layout}
 use Rattle.model.specs.Words.{Bytes}
-use Rattle.model.specs.Session.{dirtyWord}
+use Rattle.model.specs.Session.{adr, dirtyWord}
 use Rattle.model.specs.Ops.{opNumbers, Trace, encode}
 use Rattle.model.specs.Outcome.{Outcome}
 use Rattle.model.specs.Format.{formatted}
 use Rattle.model.specs.Open.{openOutcome}
 use Rattle.model.specs.Write.{WriteArgs, writeArgsOf}
 use Rattle.model.specs.Reference.{Page}
-use Rattle.model.specs.History.{State, AllPermitted}
-use Rattle.model.specs.CrashSafety.{Reads, between, during}
-use Rattle.cases.specs.Turns.{Point, begin, Turn, callAt, turn, made}
+use Rattle.model.specs.History.{State}
+use Rattle.model.specs.CrashSafety.{Reads, between, during, adrModule}
+use Rattle.cases.specs.Turns.{Point, begin, Turn, callAt, turn, Supposed}
 use Rattle.cases.specs.Table.{Case, answer, sizes, lentAlone, turnWrite, checkpoint, case, AsExpected, calls}
 use Rattle.cases.specs.Cut.{OnlyShows, CutCheckpoint}
 
@@ -66,7 +66,7 @@ story =
 
 -- where it stands after L1, L2, L3, L4 and L5
 abbrev pub opened : Point
-opened = begin l114 (formatted l114) (lentAlone l114 longestTrace)
+opened = begin l114 adr (formatted l114) (lentAlone l114 longestTrace)
 
 abbrev pub afterL2 : Point
 afterL2 = turn opened (fill 0 30 700 5)
@@ -95,13 +95,13 @@ secondBytes = replicate 30 0 ++ replicate 256 5 ++ replicate 700 6 ++ replicate 
 pub record LongStory : Type 0 where
   -- it is a history that demand 3 speaks of, and its calls answer so
   pub bytes : Bytes (formatted l114)
-  pub opens : answer (openOutcome l114 (formatted l114) (lentAlone l114 longestTrace)) ≡ 0 ∷ 145 ∷ []
-  pub permitted : AllPermitted (made opened (calls story))
+  pub opens : answer (openOutcome l114 adr (formatted l114) (lentAlone l114 longestTrace)) ≡ 0 ∷ 145 ∷ []
+  pub permitted : Supposed adr opened (calls story)
   pub answered : AsExpected opened story
   -- the crash inside L3
   pub cut : CutCheckpoint 26 afterL2 noBytes firstBytes
   -- a crash after any of the 239 operations of L4
-  pub copying : (p : ℕ) → p < 239 → OnlyShows (afterL3 .state) (during (callAt afterL3 (fill 1 30 700 6)) p) firstBytes
-  pub copied : OnlyShows (afterL4 .state) between firstBytes
+  pub copying : (p : ℕ) → p < 239 → OnlyShows adrModule (afterL3 .state) (during (callAt afterL3 (fill 1 30 700 6)) p) firstBytes
+  pub copied : OnlyShows adrModule (afterL4 .state) between firstBytes
   -- both reads after L5
   pub reads : Reads l114 (afterL5 .state .device .image) secondBytes secondBytes

@@ -14,6 +14,7 @@ use lib.ListN.{take, drop, replicate}
 use Rattle.model.specs.declared.Layout.{Layout}
 use Rattle.model.specs.Words.{Image, Bytes}
 use Rattle.model.specs.Layout.{lineSize, pairsAt, unpaired}
+use Rattle.model.specs.Session.{adr}
 use Rattle.model.specs.Container.{activeLine}
 use Rattle.model.specs.Ops.{Trace}
 use Rattle.model.specs.Outcome.{Outcome}
@@ -21,9 +22,9 @@ use Rattle.model.specs.Format.{container, formatted}
 use Rattle.model.specs.Open.{openStatus}
 use Rattle.model.specs.Reads.{checkpointBlock}
 use Rattle.model.specs.Reference.{Page}
-use Rattle.model.specs.History.{State, AllPermitted}
-use Rattle.model.specs.CrashSafety.{between, Recovers}
-use Rattle.cases.specs.Turns.{Point, begin, Turn, turn, turns, made}
+use Rattle.model.specs.History.{State}
+use Rattle.model.specs.CrashSafety.{between, Recovers, adrModule}
+use Rattle.cases.specs.Turns.{Point, begin, Turn, turn, turns, Supposed}
 use Rattle.cases.specs.Table.{Case, sizes, longTrace, lentAlone, writes, turnWrite, checkpoint, case, AsExpected, calls}
 use Rattle.cases.specs.Cut.{MayLeave, CutCheckpoint}
 
@@ -41,7 +42,7 @@ put i x = turnWrite (writes i 0 (x ∷ [])) longTrace
 -- ---- the first life
 
 abbrev pub formattedBoard : Point
-formattedBoard = begin l641 (formatted l641) (lentAlone l641 boardTrace)
+formattedBoard = begin l641 adr (formatted l641) (lentAlone l641 boardTrace)
 
 abbrev pub firstLife : List Turn
 firstLife =
@@ -62,7 +63,7 @@ leftBoard =
 -- ---- the second life
 
 abbrev pub restoredBoard : Point
-restoredBoard = begin l641 leftBoard (lentAlone l641 boardTrace)
+restoredBoard = begin l641 adr leftBoard (lentAlone l641 boardTrace)
 
 -- the active states of the main segments, and the pairs of the backup segments: six and four here
 abbrev pub boardOf : Layout → State → List ℕ
@@ -106,18 +107,18 @@ newPage = segments (10 ∷ 11 ∷ 12 ∷ 13 ∷ 14 ∷ 35 ∷ [])
 pub record RestoredStory : Type 0 where
   -- the first life is a history that demand 3 speaks of, and a crash after it may leave this image
   pub firstBytes : Bytes (formatted l641)
-  pub firstOpens : openStatus l641 (formatted l641) (lentAlone l641 boardTrace) ≡ 0
-  pub firstPermitted : AllPermitted (made formattedBoard firstLife)
-  pub left : MayLeave (turns formattedBoard firstLife .state) between leftBoard
+  pub firstOpens : openStatus l641 adr (formatted l641) (lentAlone l641 boardTrace) ≡ 0
+  pub firstPermitted : Supposed adr formattedBoard firstLife
+  pub left : MayLeave adrModule (turns formattedBoard firstLife .state) between leftBoard
   -- so is the second; its opening shows the checkpoint of the first, and leaves these states and pairs
   pub bytes : Bytes leftBoard
-  pub opens : Recovers l641 leftBoard (lentAlone l641 boardTrace) oldPage
+  pub opens : Recovers l641 adr leftBoard (lentAlone l641 boardTrace) oldPage
   pub restored : board (restoredBoard .state) ≡ (2 ∷ 2 ∷ 2 ∷ 2 ∷ 1 ∷ 0 ∷ []) ++ (0 ∷ 1 ∷ 2 ∷ 3 ∷ [])
   -- its calls are permitted and answer so; the crash inside its checkpoint
-  pub permitted : AllPermitted (made restoredBoard (calls story))
+  pub permitted : Supposed adr restoredBoard (calls story)
   pub answered : AsExpected restoredBoard story
   pub cut : CutCheckpoint 18 beforeCheckpoint oldPage newPage
   -- without the write to main segment 5
-  pub untouchedPermitted : AllPermitted (made restoredBoard (calls shorter))
+  pub untouchedPermitted : Supposed adr restoredBoard (calls shorter)
   pub untouched : AsExpected restoredBoard shorter
   pub empty : checkpointBlock l641 (turns restoredBoard (calls shorter) .state .device .image) 5 0 ≡ []

@@ -1,7 +1,8 @@
 -- The bench cases P1 to P10 of SPECIFICATION 17 as one table. Each row holds the numbers that the definitions of `model` give
 -- and those that are expected; `TableHolds` says that they agree in every row. P2's two rows are openings of one fresh image,
 -- each made alone; P3 to P9 are one history from there, each call made by the step of model's histories. There is one client, whose
--- share and limit are all backup segments (the trade: one console with share and limit S), and the history is one run (Turns.antt).
+-- share and limit are all backup segments (the trade: one console with share and limit S), the history is one run (Turns.antt), and the
+-- module is of kind 0 (specs/Eadr.antt has one of kind 1).
 -- Expected are the numbers that the specification states in these cases and, beside them, what its rules give: 0 for a served call, no
 -- operations of a refused one, the two words of P3, the two operations of P3, 43 and 1 of P8 and P9, and in P8 that the backup
 -- segment is free after the checkpoint and no more after the write that takes it. Proved in proofs/Table.antt.
@@ -14,6 +15,7 @@ use Rattle.model.specs.declared.Layout.{Layout}
 use Rattle.model.specs.declared.Session.{Session}
 use Rattle.model.specs.Words.{Image}
 use Rattle.model.specs.Layout.{lineSize, unpaired, imageSize}
+use Rattle.model.specs.Session.{adr}
 use Rattle.model.specs.Container.{activeLine, segState, backupToMain, isFree}
 use Rattle.model.specs.Ops.{Trace, encode}
 use Rattle.model.specs.Outcome.{Lent, lent, Outcome}
@@ -120,7 +122,7 @@ history =
 
 -- where P3 starts
 abbrev pub opened : Point
-opened = begin l211 fresh (lentAlone l211 longTrace)
+opened = begin l211 adr fresh (lentAlone l211 longTrace)
 
 -- the row of a call that is made at the point p and leaves the history at the point after
 abbrev pub rowOf : Point → Case → Point → Row
@@ -144,13 +146,13 @@ calls cs = map (λ (c : Case). c .call) cs
 unfoldable pub sizeCases : List Row
 sizeCases =
     row 1 (imageSize l211 ∷ imageSize (sizes 64 64 64) ∷ []) (1280 ∷ 2097664 ∷ [])
-    ∷ row 1 (formatOutcome (sizes 65 1 1) [] .status ∷ openOutcome (sizes 65 1 1) [] (lentAlone (sizes 65 1 1) []) .status ∷ []) (1 ∷ 1 ∷ [])
+    ∷ row 1 (formatOutcome (sizes 65 1 1) [] .status ∷ openOutcome (sizes 65 1 1) adr [] (lentAlone (sizes 65 1 1) []) .status ∷ []) (1 ∷ 1 ∷ [])
     ∷ []
 
 unfoldable pub openCases : List Row
 openCases =
-    row 2 (answer (openOutcome l211 fresh (lentAlone l211 (replicate 218 0)))) (11 ∷ 0 ∷ [])
-    ∷ row 2 (answer (openOutcome l211 fresh (lentAlone l211 (replicate 219 0)))) (0 ∷ 73 ∷ [])
+    row 2 (answer (openOutcome l211 adr fresh (lentAlone l211 (replicate 218 0)))) (11 ∷ 0 ∷ [])
+    ∷ row 2 (answer (openOutcome l211 adr fresh (lentAlone l211 (replicate 219 0)))) (0 ∷ 73 ∷ [])
     ∷ []
 
 -- state 1, paired, no segment dirty, one block dirty
@@ -159,7 +161,7 @@ image10 =
     container (sizes 1 1 4) 0 (1 ∷ replicate 63 0) (replicate lineSize 0) (0 ∷ replicate 63 unpaired) (replicate 2048 0)
 
 abbrev pub session10 : Session
-session10 = record { layout = sizes 1 1 4; «dirty_segments» = 0; «dirty_blocks» = 4 ∷ replicate 63 0 }
+session10 = record { layout = sizes 1 1 4; «dirty_segments» = 0; «dirty_blocks» = 4 ∷ replicate 63 0; domain = adr }
 
 unfoldable pub copyCase : List Row
 copyCase = row 10 (answer (writeOutcome session10 image10 (writes 0 0 aWord) (lentAlone (sizes 1 1 4) longTrace))) (0 ∷ 41 ∷ []) ∷ []

@@ -7,41 +7,41 @@ use lib.Dec.{lit<}
 use lib.ListN.{replicate}
 use Rattle.model.specs.Words.{Image}
 use Rattle.model.specs.Layout.{unpaired}
+use Rattle.model.specs.Session.{adr}
 use Rattle.model.specs.Ops.{Ops, store, clwb, sfence, replay, persistCopy}
 use Rattle.model.specs.Format.{container}
 use Rattle.model.specs.Open.{openStatus, openOutcome}
 use Rattle.model.specs.Crash.{CrashImage}
 use Rattle.model.specs.CrashExact.{hasFence, floorFrom}
 use Rattle.model.specs.Reference.{Page}
-use Rattle.model.specs.History.{deviceStep, step, AllPermitted}
+use Rattle.model.specs.History.{deviceStep, step}
 use Rattle.model.specs.CrashSafety.{PermittedAt, playedAt, Recovers}
 use Rattle.model.specs.FlushDurable.{imageAt}
 use Rattle.model.proofs.Laws.Crash.Images.{crash-after}
 use Rattle.model.proofs.Argument.Persist.{replay-append}
 use Rattle.model.specs.Shares.{alone}
-use Rattle.cases.specs.Turns.{Point, pointOf, begin, turn, turns, made}
+use Rattle.cases.specs.Turns.{Point, pointOf, begin, turn, turns, Supposed}
 use Rattle.cases.specs.Table.{l211, aWord}
-use Rattle.cases.proofs.Compute.{model-rules, same, same-equal, small}
+use Rattle.cases.proofs.Compute.{model-rules, same, same-equal, small, fitArgs, fitTurns, all-supposed}
 use Rattle.cases.proofs.Shown.{shows}
-use Rattle.cases.proofs.Starts.{standing, started}
+use Rattle.cases.proofs.Starts.{standing, started-by}
 use Rattle.faults.specs.Faults.{lentLong}
 use Rattle.faults.specs.Unflushed.{once, twoWrites, edited, ended, BrokenOff}
 use Rattle.faults.proofs.Alone.{elsewhere, avoids, first-lost}
-use Rattle.faults.proofs.TwoCalls.{a-word}
 
 abbrev old : Page
 old = replicate 256 40 ++ replicate 256 0
 
-opens : openStatus l211 once (lentLong l211) ≡ 0
+opens : openStatus l211 adr once (lentLong l211) ≡ 0
 unfolding model-rules
 opens = refl
 
 abbrev opened : Point
-opened = pointOf (standing l211 once old) (alone l211 0)
+opened = pointOf (standing l211 adr once old) (alone l211 0)
 
-begins : begin l211 once (lentLong l211) ≡ opened
+begins : begin l211 adr once (lentLong l211) ≡ opened
 unfolding model-rules same
-begins = started l211 once once (lentLong l211) old opens (same-equal _ _ refl) (same-equal _ _ refl)
+begins = started-by l211 adr once once (lentLong l211) old opens refl refl
 
 -- where the program stands before its checkpoint
 abbrev before : Point
@@ -85,11 +85,11 @@ ends =
 abbrev renewed : Ops
 renewed = persistCopy (board 2 (replicate 256 40)) 512 1024 ++ sfence ∷ []
 
-reopens : openStatus l211 (board 2 (replicate 256 40)) (lentLong l211) ≡ 0
+reopens : openStatus l211 adr (board 2 (replicate 256 40)) (lentLong l211) ≡ 0
 unfolding model-rules
 reopens = refl
 
-reopening : openOutcome l211 (board 2 (replicate 256 40)) (lentLong l211) .ops ≡ renewed
+reopening : openOutcome l211 adr (board 2 (replicate 256 40)) (lentLong l211) .ops ≡ renewed
 unfolding model-rules
 reopening = refl
 
@@ -110,13 +110,13 @@ lost =
 
 -- ---- what the calls are
 
-permitted : AllPermitted (made (begin l211 once (lentLong l211)) twoWrites)
-unfolding made
-permitted = (a-word, (a-word, tt))
+permitted : Supposed adr (begin l211 adr once (lentLong l211)) twoWrites
+unfolding small fitArgs fitTurns
+permitted = all-supposed adr (begin l211 adr once (lentLong l211)) twoWrites refl
 
-more : PermittedAt (before .state .device) (ended before)
+more : PermittedAt adr (before .state .device) (ended before)
 unfolding model-rules turn turns
-more = (tt, lit< tt)
+more = (tt, (λ x. tt), lit< tt)
 
 old-page : before .state .model .checkpoint ≡ old
 unfolding model-rules turn turns
@@ -128,33 +128,33 @@ new-page = refl
 
 -- all of it together, in the order in which it was carried out
 carried-out : first ++ store 0 2 ∷ renewed
-    ≡ playedAt (before .state .device) (ended before) ++ openOutcome l211 (imageAt (before .state .device) (ended before)) (lentLong l211) .ops
+    ≡ playedAt (before .state .device) (ended before) ++ openOutcome l211 adr (imageAt (before .state .device) (ended before)) (lentLong l211) .ops
 carried-out =
     sym (append-assoc first (store 0 2 ∷ []) renewed)
-    ∙ ap₂ (λ (X Y : Ops). X ++ Y) (sym parts) (sym (ap (λ (J : Image). openOutcome l211 J (lentLong l211) .ops) ends ∙ reopening))
+    ∙ ap₂ (λ (X Y : Ops). X ++ Y) (sym parts) (sym (ap (λ (J : Image). openOutcome l211 adr J (lentLong l211) .ops) ends ∙ reopening))
 
 crash : CrashImage (before .state .device .durable)
-    (playedAt (before .state .device) (ended before) ++ openOutcome l211 (imageAt (before .state .device) (ended before)) (lentLong l211) .ops)
+    (playedAt (before .state .device) (ended before) ++ openOutcome l211 adr (imageAt (before .state .device) (ended before)) (lentLong l211) .ops)
     (board 1 (aWord ++ replicate 248 40))
 unfolding turn turns step deviceStep
 crash = subst (λ (X : Ops). CrashImage once X (board 1 (aWord ++ replicate 248 40))) carried-out lost
 
-mixed : Recovers l211 (board 1 (aWord ++ replicate 248 40)) (lentLong l211) ((aWord ++ replicate 248 40) ++ replicate 256 0)
+mixed : Recovers l211 adr (board 1 (aWord ++ replicate 248 40)) (lentLong l211) ((aWord ++ replicate 248 40) ++ replicate 256 0)
 unfolding model-rules same small
 mixed = shows l211 (board 1 (aWord ++ replicate 248 40)) (lentLong l211) _ refl refl refl
 
 pub broken-off : BrokenOff
 broken-off = record {
   opens = opens;
-  permitted = (permitted, subst (λ (p : Point). PermittedAt (p .state .device) (ended p)) (sym stands) more);
+  permitted = (permitted, subst (λ (p : Point). PermittedAt adr (p .state .device) (ended p)) (sym stands) more);
   old = ap (λ (p : Point). p .state .model .checkpoint) stands ∙ old-page;
   new = ap (λ (p : Point). p .state .model .working) stands ∙ new-page;
   served =
-      ap (λ (p : Point). openStatus l211 (imageAt (p .state .device) (ended p)) (lentLong l211)) stands
-      ∙ ap (λ (J : Image). openStatus l211 J (lentLong l211)) ends ∙ reopens;
+      ap (λ (p : Point). openStatus l211 adr (imageAt (p .state .device) (ended p)) (lentLong l211)) stands
+      ∙ ap (λ (J : Image). openStatus l211 adr J (lentLong l211)) ends ∙ reopens;
   left = board 1 (aWord ++ replicate 248 40);
   crash = subst (λ (p : Point). CrashImage (p .state .device .durable)
-      (playedAt (p .state .device) (ended p) ++ openOutcome l211 (imageAt (p .state .device) (ended p)) (lentLong l211) .ops) (board 1 (aWord ++ replicate 248 40)))
+      (playedAt (p .state .device) (ended p) ++ openOutcome l211 adr (imageAt (p .state .device) (ended p)) (lentLong l211) .ops) (board 1 (aWord ++ replicate 248 40)))
       (sym stands) crash;
   shown = mixed;
 }

@@ -9,7 +9,7 @@ use lib.Dec.{lit<}
 use lib.ListN.{getD}
 use Rattle.model.specs.Words.{Image}
 use Rattle.model.specs.Ops.{Ops}
-use Rattle.model.specs.Session.{freshSession}
+use Rattle.model.specs.Session.{adr, freshSession}
 use Rattle.model.specs.Reference.{Page}
 use Rattle.model.specs.History.{calledOps}
 use Rattle.model.specs.Crash.{CrashImage}
@@ -22,9 +22,9 @@ use Rattle.cases.proofs.Shown.{no-checkpoint}
 use Rattle.faults.proofs.TwoCalls.{image, old, new, before, saved, stands, a-word, calls-permitted, old-shown}
 
 abbrev cleared : Point
-cleared = saved (image 1 2 1 new) (freshSession l111)
+cleared = saved (image 1 2 1 new) (freshSession l111 adr)
 
-clears : marksCleared (turns (begin l111 (one 0) (lentLong l111)) twoCalls) ≡ cleared
+clears : marksCleared (turns (begin l111 adr (one 0) (lentLong l111)) twoCalls) ≡ cleared
 unfolding marksCleared
 clears = ap marksCleared stands
 
@@ -34,7 +34,7 @@ played = before ++ calledOps (cleared .state .device) (callAt cleared (write 0 8
 wrong : ShowsStale cleared
 unfolding model-rules same
 wrong = record {
-  permitted = (a-word, lit< tt);
+  permitted = (a-word, (λ x. tt), lit< tt);
   left = image 1 2 2 new;
   crash = subst (λ (H : Image). CrashImage (image 0 1 0 old) played H) (same-equal _ _ refl) (newest (image 0 1 0 old) played);
   accepted = refl;
@@ -43,5 +43,5 @@ wrong = record {
   wrong = ⊎-elim (λ e. let z : _≡_ {A = ℕ} 40 1 = ap (λ (P : Page). getD P 0 0) e in omega arith) (λ w. no-checkpoint (w .0 .0));
 }
 
-pub cleared-marks : ClearedMarks (begin l111 (one 0) (lentLong l111))
-cleared-marks = (calls-permitted (begin l111 (one 0) (lentLong l111)), subst ShowsStale (sym clears) wrong)
+pub cleared-marks : ClearedMarks (begin l111 adr (one 0) (lentLong l111))
+cleared-marks = (calls-permitted (begin l111 adr (one 0) (lentLong l111)), subst ShowsStale (sym clears) wrong)

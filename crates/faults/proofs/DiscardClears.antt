@@ -9,16 +9,17 @@ use native.Mathlib.Decide.{decLt}
 use lib.ListN.{length, getD, replicate}
 use Rattle.model.specs.Words.{Image}
 use Rattle.model.specs.Layout.{unpaired}
+use Rattle.model.specs.Session.{adr}
 use Rattle.model.specs.Ops.{Ops, store, clwb, sfence, replay, putBlock}
 use Rattle.model.specs.Format.{container, formatted}
 use Rattle.model.specs.Open.{openStatus}
 use Rattle.model.specs.Crash.{KeepsDurable, CrashImage}
 use Rattle.model.specs.CrashExact.{hasFence, floorFrom}
 use Rattle.model.specs.Reference.{Page}
-use Rattle.model.specs.History.{deviceStep, step, AllPermitted}
+use Rattle.model.specs.History.{deviceStep, step}
 use Rattle.model.specs.CrashSafety.{Recovers}
 use Rattle.model.specs.Shares.{alone}
-use Rattle.cases.specs.Turns.{Point, pointOf, begin, Turn, answerAt, turn, turns, made}
+use Rattle.cases.specs.Turns.{Point, pointOf, begin, Turn, answerAt, turn, turns, Supposed}
 use Rattle.cases.specs.Table.{checkpoint, aWord}
 use Rattle.faults.specs.Faults.{lentLong, l111, wordDropped, clearsMarks, DiscardClearsMarks, DiscardKeepsMarks, clearsTouch, DiscardClearsTouch}
 use Rattle.model.proofs.Laws.Words.{byte-of-zero}
@@ -26,10 +27,9 @@ use Rattle.model.proofs.Laws.Crash.Floor.{floor-durable}
 use Rattle.model.proofs.Laws.Crash.Images.{crash-after}
 use Rattle.model.proofs.Argument.Settled.{Off}
 use Rattle.model.proofs.Argument.Runs.{puts-block, puts-off}
-use Rattle.cases.proofs.Compute.{model-rules, same, same-equal, small, small-bytes}
+use Rattle.cases.proofs.Compute.{model-rules, same, same-equal, small, small-bytes, fitArgs, fitTurns, all-supposed}
 use Rattle.cases.proofs.Shown.{shows, shows-between}
-use Rattle.cases.proofs.Starts.{standing, started, turns-stand}
-use Rattle.faults.proofs.TwoCalls.{a-word}
+use Rattle.cases.proofs.Starts.{standing, started-by, turns-hold}
 use Rattle.faults.proofs.Alone.{elsewhere, avoids, avoids-off, arrives-alone}
 
 abbrev F : Image
@@ -42,20 +42,20 @@ zeros = replicate 256 0
 abbrev word : Page
 word = aWord ++ replicate 248 0
 
-opens : openStatus l111 F (lentLong l111) ≡ 0
+opens : openStatus l111 adr F (lentLong l111) ≡ 0
 unfolding model-rules
 opens = refl
 
 abbrev opened : Point
-opened = pointOf (standing l111 F zeros) (alone l111 0)
+opened = pointOf (standing l111 adr F zeros) (alone l111 0)
 
-starts : begin l111 F (lentLong l111) ≡ opened
+starts : begin l111 adr F (lentLong l111) ≡ opened
 unfolding model-rules same
-starts = started l111 F F (lentLong l111) zeros opens (same-equal _ _ refl) (same-equal _ _ refl)
+starts = started-by l111 adr F F (lentLong l111) zeros opens refl refl
 
-permitted : (p : Point) → AllPermitted (made p wordDropped)
-unfolding made
-permitted p = (a-word, (tt, tt))
+permitted : (p : Point) → Supposed adr p wordDropped
+unfolding small fitArgs fitTurns
+permitted p = all-supposed adr p wordDropped refl
 
 -- ---- with the fault
 
@@ -118,13 +118,13 @@ lost =
     crash-after F left edit (restored ++ later)
     (subst (CrashImage (replay edit F) (restored ++ later)) leaves (arrives-alone (replay edit F) restored later apart))
 
-shows-word : Recovers l111 left (lentLong l111) word
+shows-word : Recovers l111 adr left (lentLong l111) word
 unfolding model-rules same small
 shows-word = shows l111 left (lentLong l111) word refl refl refl
 
 saves-zeros : saved .state .model .checkpoint ≡ zeros
 unfolding model-rules turn turns clearsMarks same
-saves-zeros = same-equal _ _ refl
+saves-zeros = same-equal (saved .state .model .checkpoint) zeros refl
 
 wrong : DiscardClearsMarks opened
 unfolding turn turns clearsMarks step deviceStep
@@ -144,7 +144,7 @@ wrong = record {
   saved = saves-zeros;
 }
 
-pub discard-clears-marks : DiscardClearsMarks (begin l111 F (lentLong l111))
+pub discard-clears-marks : DiscardClearsMarks (begin l111 adr F (lentLong l111))
 discard-clears-marks = subst DiscardClearsMarks (sym starts) wrong
 
 -- ---- with the marks kept
@@ -158,17 +158,17 @@ bytes = refl
 
 page : turns opened kept .state .model .checkpoint ≡ zeros
 unfolding model-rules turn turns same
-page = same-equal _ _ refl
+page = same-equal (turns opened kept .state .model .checkpoint) zeros refl
 
-kept-permitted : (p : Point) → AllPermitted (made p kept)
-unfolding made
-kept-permitted p = (a-word, (tt, (tt, tt)))
+kept-permitted : (p : Point) → Supposed adr p kept
+unfolding small fitArgs fitTurns
+kept-permitted p = all-supposed adr p kept refl
 
-pub discard-keeps-marks : DiscardKeepsMarks (begin l111 F (lentLong l111))
+pub discard-keeps-marks : DiscardKeepsMarks (begin l111 adr F (lentLong l111))
 discard-keeps-marks =
-    let p : Point = begin l111 F (lentLong l111) in (
+    let p : Point = begin l111 adr F (lentLong l111) in (
       kept-permitted p,
-      shows-between (turns p kept .state) (turns-stand l111 F (lentLong l111) (small-bytes F bytes) opens kept (kept-permitted p)) zeros
+      shows-between (turns p kept .state) (turns-hold l111 F (lentLong l111) (small-bytes F bytes) opens kept (kept-permitted p)) zeros
           (ap (λ (p : Point). turns p kept .state .model .checkpoint) starts ∙ page),
     )
 
@@ -178,5 +178,5 @@ touched : DiscardClearsTouch opened
 unfolding model-rules turn turns clearsTouch
 touched = (refl, refl)
 
-pub discard-clears-touch : DiscardClearsTouch (begin l111 F (lentLong l111))
+pub discard-clears-touch : DiscardClearsTouch (begin l111 adr F (lentLong l111))
 discard-clears-touch = subst DiscardClearsTouch (sym starts) touched

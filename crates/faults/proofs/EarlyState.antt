@@ -10,6 +10,7 @@ use lib.Dec.{lit<}
 use lib.ListN.{take, getD, replicate}
 use Rattle.model.specs.Words.{Image}
 use Rattle.model.specs.Layout.{wordSize, lineSize, unpaired}
+use Rattle.model.specs.Session.{adr}
 use Rattle.model.specs.Ops.{Ops, store, apply, replay}
 use Rattle.model.specs.Reference.{Page}
 use Rattle.model.specs.Crash.{KeepsDurable, CrashImage}
@@ -22,7 +23,7 @@ use Rattle.model.proofs.Argument.Settled.{Off}
 use Rattle.model.proofs.Laws.Crash.Images.{durable-unfenced, crash-after}
 use Rattle.cases.proofs.Compute.{model-rules, same, same-equal}
 use Rattle.cases.proofs.Shown.{no-checkpoint}
-use Rattle.cases.proofs.Starts.{standing, started}
+use Rattle.cases.proofs.Starts.{standing, started-by}
 use Rattle.faults.proofs.Alone.{arrives-alone, elsewhere, avoids, avoids-off}
 use Rattle.faults.proofs.TwoCalls.{image, old, new, marked, before, saved, stands, replayed, a-word, calls-permitted, old-shown}
 
@@ -38,11 +39,11 @@ last-alone I A p w unfenced a whole = arrives-alone I A (store p w ∷ []) (λ �
 -- ---- from an unpaired main segment
 
 abbrev opened : Point
-opened = pointOf (standing l111 (one unpaired) (replicate 256 40)) (alone l111 0)
+opened = pointOf (standing l111 adr (one unpaired) (replicate 256 40)) (alone l111 0)
 
-starts : begin l111 (one unpaired) (lentLong l111) ≡ opened
+starts : begin l111 adr (one unpaired) (lentLong l111) ≡ opened
 unfolding model-rules same
-starts = started l111 (one unpaired) (one unpaired) (lentLong l111) (replicate 256 40) refl (same-equal _ _ refl) (same-equal _ _ refl)
+starts = started-by l111 adr (one unpaired) (one unpaired) (lentLong l111) (replicate 256 40) refl refl refl
 
 refused : EarlyState opened
 unfolding model-rules earlyWriteOps earlyStateOps hasFence avoids elsewhere
@@ -56,7 +57,7 @@ refused = (
   },
 )
 
-pub early-state : EarlyState (begin l111 (one unpaired) (lentLong l111))
+pub early-state : EarlyState (begin l111 adr (one unpaired) (lentLong l111))
 early-state = subst EarlyState (sym starts) refused
 
 -- ---- from a paired one
@@ -76,7 +77,7 @@ left-behind =
 unseen : ShowsBackup (saved (image 1 2 1 new) marked)
 unfolding model-rules
 unseen = record {
-  permitted = (a-word, lit< tt);
+  permitted = (a-word, (λ x. tt), lit< tt);
   left = image 1 2 2 new;
   crash = left-behind;
   accepted = refl;
@@ -85,5 +86,5 @@ unseen = record {
   wrong = ⊎-elim (λ e. let z : _≡_ {A = ℕ} 40 1 = ap (λ (P : Page). getD P 0 0) e in omega arith) (λ w. no-checkpoint (w .0 .0));
 }
 
-pub early-state-unseen : EarlyStateUnseen (begin l111 (one 0) (lentLong l111))
-early-state-unseen = (calls-permitted (begin l111 (one 0) (lentLong l111)), subst ShowsBackup (sym stands) unseen)
+pub early-state-unseen : EarlyStateUnseen (begin l111 adr (one 0) (lentLong l111))
+early-state-unseen = (calls-permitted (begin l111 adr (one 0) (lentLong l111)), subst ShowsBackup (sym stands) unseen)

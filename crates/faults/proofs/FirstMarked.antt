@@ -7,6 +7,7 @@ use native.Mathlib.Omega.{arith}
 use lib.ListN.{length, getD, replicate}
 use Rattle.model.specs.Words.{Image}
 use Rattle.model.specs.Layout.{unpaired}
+use Rattle.model.specs.Session.{adr}
 use Rattle.model.specs.Ops.{Ops, store, clwb, sfence, replay}
 use Rattle.model.specs.Format.{container, formatted}
 use Rattle.model.specs.Open.{openStatus}
@@ -16,13 +17,13 @@ use Rattle.model.specs.Reference.{Page}
 use Rattle.model.specs.History.{Permitted}
 use Rattle.model.specs.CrashSafety.{Recovers}
 use Rattle.model.specs.Shares.{alone}
-use Rattle.cases.specs.Turns.{Point, pointOf, begin, callAt, answerAt, turn, turns, made}
+use Rattle.cases.specs.Turns.{Point, pointOf, begin, callAt, answerAt, turn, turns, Supposed}
 use Rattle.cases.specs.Table.{checkpoint, aWord}
 use Rattle.faults.specs.Faults.{lentLong, l112, writeTwo, firstSession, firstMarked, FirstMarked, BothMarked}
 use Rattle.model.proofs.Laws.Crash.Images.{crash-after}
-use Rattle.cases.proofs.Compute.{model-rules, same, same-equal, small, small-bytes}
+use Rattle.cases.proofs.Compute.{model-rules, same, same-equal, small, small-bytes, fitArgs, fitTurns, all-supposed}
 use Rattle.cases.proofs.Shown.{shows, shows-between}
-use Rattle.cases.proofs.Starts.{standing, started, turns-stand}
+use Rattle.cases.proofs.Starts.{standing, started-by, turns-hold}
 use Rattle.faults.proofs.Alone.{elsewhere, avoids, first-lost}
 
 abbrev F : Image
@@ -38,16 +39,16 @@ new = replicate 248 0 ++ aWord ++ aWord ++ replicate 248 0
 abbrev half : Page
 half = replicate 248 0 ++ aWord ++ replicate 256 0
 
-opens : openStatus l112 F (lentLong l112) ≡ 0
+opens : openStatus l112 adr F (lentLong l112) ≡ 0
 unfolding model-rules
 opens = refl
 
 abbrev opened : Point
-opened = pointOf (standing l112 F zeros) (alone l112 0)
+opened = pointOf (standing l112 adr F zeros) (alone l112 0)
 
-starts : begin l112 F (lentLong l112) ≡ opened
+starts : begin l112 adr F (lentLong l112) ≡ opened
 unfolding model-rules same
-starts = started l112 F F (lentLong l112) zeros opens (same-equal _ _ refl) (same-equal _ _ refl)
+starts = started-by l112 adr F F (lentLong l112) zeros opens refl refl
 
 permitted : (p : Point) → Permitted (callAt p writeTwo)
 unfolding small
@@ -93,7 +94,7 @@ lost =
     (subst (CrashImage (replay word F) (store 768 0x0807060504030201 ∷ later)) leaves
     (first-lost (replay word F) 768 0x0807060504030201 later refl refl refl))
 
-shows-half : Recovers l112 left (lentLong l112) half
+shows-half : Recovers l112 adr left (lentLong l112) half
 unfolding model-rules same small
 shows-half = shows l112 left (lentLong l112) half refl refl refl
 
@@ -118,7 +119,7 @@ wrong = record {
   mixed = λ e. let z : _≡_ {A = ℕ} 1 0 = ap (λ (P : Page). getD P 248 0) e in omega arith;
 }
 
-pub first-marked : FirstMarked (begin l112 F (lentLong l112))
+pub first-marked : FirstMarked (begin l112 adr F (lentLong l112))
 first-marked = subst FirstMarked (sym starts) wrong
 
 -- ---- with both blocks dirty
@@ -131,12 +132,15 @@ page : turns opened (writeTwo ∷ checkpoint ∷ []) .state .model .checkpoint �
 unfolding model-rules turn turns
 page = refl
 
-pub both-marked : BothMarked (begin l112 F (lentLong l112))
-unfolding made
+both-permitted : (p : Point) → Supposed adr p (writeTwo ∷ checkpoint ∷ [])
+unfolding small fitArgs fitTurns
+both-permitted p = all-supposed adr p (writeTwo ∷ checkpoint ∷ []) refl
+
+pub both-marked : BothMarked (begin l112 adr F (lentLong l112))
 both-marked =
-    let p : Point = begin l112 F (lentLong l112) in (
-      (permitted p, (tt, tt)),
+    let p : Point = begin l112 adr F (lentLong l112) in (
+      both-permitted p,
       shows-between (turns p (writeTwo ∷ checkpoint ∷ []) .state)
-          (turns-stand l112 F (lentLong l112) (small-bytes F bytes) opens (writeTwo ∷ checkpoint ∷ []) (permitted p, (tt, tt))) new
+          (turns-hold l112 F (lentLong l112) (small-bytes F bytes) opens (writeTwo ∷ checkpoint ∷ []) (both-permitted p)) new
           (ap (λ (p : Point). turns p (writeTwo ∷ checkpoint ∷ []) .state .model .checkpoint) starts ∙ page),
     )

@@ -4,6 +4,7 @@ use mathlib.Core.List.{[], _∷_, _++_}
 use lib.ListN.{replicate}
 use Rattle.model.specs.Words.{Image}
 use Rattle.model.specs.Layout.{unpaired}
+use Rattle.model.specs.Session.{adr}
 use Rattle.model.specs.Ops.{store, apply}
 use Rattle.model.specs.Format.{container}
 use Rattle.model.specs.Reference.{Page}
@@ -12,8 +13,8 @@ use Rattle.cases.specs.Turns.{Point, pointOf, begin}
 use Rattle.cases.specs.Table.{l211}
 use Rattle.faults.specs.Faults.{lentLong, two, inactivePlan, inactiveOps, inactiveStatus, inactiveWriteOps, InactiveLine}
 use Rattle.model.proofs.Laws.Crash.Images.{newest}
-use Rattle.cases.proofs.Compute.{model-rules, same, same-equal}
-use Rattle.cases.proofs.Starts.{standing, started}
+use Rattle.cases.proofs.Compute.{model-rules, same}
+use Rattle.cases.proofs.Starts.{standing, started-by}
 
 -- what opening leaves of `two`, and the page that it shows
 abbrev opened : Image
@@ -25,11 +26,11 @@ abbrev page : Page
 page = replicate 256 90 ++ replicate 256 41
 
 abbrev restored : Point
-restored = pointOf (standing l211 opened page) (alone l211 0)
+restored = pointOf (standing l211 adr opened page) (alone l211 0)
 
-starts : begin l211 two (lentLong l211) ≡ restored
+starts : begin l211 adr two (lentLong l211) ≡ restored
 unfolding model-rules same
-starts = started l211 two opened (lentLong l211) page refl (same-equal _ _ refl) (same-equal _ _ refl)
+starts = started-by l211 adr two opened (lentLong l211) page refl refl refl
 
 refused : InactiveLine restored
 unfolding model-rules inactivePlan inactiveOps inactiveStatus inactiveWriteOps
@@ -43,5 +44,5 @@ refused = (
   },
 )
 
-pub inactive-line : InactiveLine (begin l211 two (lentLong l211))
+pub inactive-line : InactiveLine (begin l211 adr two (lentLong l211))
 inactive-line = subst InactiveLine (sym starts) refused

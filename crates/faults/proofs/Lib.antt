@@ -1,4 +1,4 @@
--- The counterexamples: what they share, one file a fault, and all of them together; and what was not flushed.
+-- The counterexamples: what they share, one file a fault, and all of them together; what was not flushed; and a wrong kind of module.
 pub mod Shown
 pub mod Alone
 pub mod TwoCalls
@@ -11,3 +11,4 @@ pub mod DiscardClears
 pub mod Faults
 pub mod BrokenOff
 pub mod Unflushed
+pub mod WrongKind

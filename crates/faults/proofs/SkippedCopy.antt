@@ -8,6 +8,7 @@ use lib.Dec.{lit<}
 use lib.ListN.{getD, replicate}
 use Rattle.model.specs.Words.{Image}
 use Rattle.model.specs.Layout.{unpaired}
+use Rattle.model.specs.Session.{adr}
 use Rattle.model.specs.Ops.{store, apply}
 use Rattle.model.specs.Format.{container}
 use Rattle.model.specs.Reference.{Page}
@@ -25,7 +26,7 @@ use Rattle.faults.proofs.Shown.{only-block}
 use Rattle.faults.proofs.TwoCalls.{a-word}
 
 abbrev stale : Point
-stale = pointOf (standing l111 (one 0) (replicate 256 40)) (alone l111 0)
+stale = pointOf (standing l111 adr (one 0) (replicate 256 40)) (alone l111 0)
 
 starts : skippingStart l111 (one 0) ≡ stale
 unfolding model-rules skippingAction skippingOps skippingStart
@@ -49,7 +50,7 @@ shown = only-block (record { status = refl; working = refl; checkpoint = inl ref
 wrong : SkippedCopy stale
 unfolding model-rules
 wrong = record {
-  permitted = (a-word, lit< tt);
+  permitted = (a-word, (λ x. tt), lit< tt);
   left = left;
   crash = newest (one 0) (calledOps (stale .state .device) (callAt stale (write 0 0 aWord)) 2);
   accepted = refl;

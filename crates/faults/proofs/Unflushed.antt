@@ -12,6 +12,7 @@ use Rattle.model.specs.Words.{Image, byteAt, wordOf, wordAt, littleEndian}
 use Rattle.model.specs.Layout.{mainsAt, unpaired, inRange, sizesOk, imageSize}
 use Rattle.model.specs.Status.{firstError}
 use Rattle.model.specs.Container.{headerOk}
+use Rattle.model.specs.Session.{adr}
 use Rattle.model.specs.Ops.{Ops, store, clwb, sfence, replay, stores}
 use Rattle.model.specs.Format.{container, formatted, formatOutcome}
 use Rattle.model.specs.Open.{openStatus, openOutcome}
@@ -33,7 +34,7 @@ use Rattle.model.proofs.Argument.Runs.{each-cat}
 use Rattle.model.proofs.FlushDurable.{format-by-stores}
 use Rattle.cases.proofs.Compute.{model-rules, same, same-equal, small}
 use Rattle.cases.proofs.Shown.{shows}
-use Rattle.cases.proofs.Starts.{standing, started}
+use Rattle.cases.proofs.Starts.{standing, started-by}
 use Rattle.faults.proofs.Alone.{arrives-alone}
 use Rattle.faults.proofs.TwoCalls.{calls-permitted}
 use Rattle.faults.proofs.BrokenOff.{broken-off}
@@ -65,16 +66,16 @@ formats : formatOutcome l211 all255 .status ≡ 0
 unfolding model-rules
 formats = refl
 
-opens : openStatus l211 (formatted l211) (lentLong l211) ≡ 0
+opens : openStatus l211 adr (formatted l211) (lentLong l211) ≡ 0
 unfolding model-rules
 opens = refl
 
 abbrev opened : Point
-opened = pointOf (standing l211 (formatted l211) zeros) (alone l211 0)
+opened = pointOf (standing l211 adr (formatted l211) zeros) (alone l211 0)
 
 starts : firstOpening ≡ opened
 unfolding model-rules same
-starts = started l211 (formatted l211) (formatted l211) (lentLong l211) zeros opens (same-equal _ _ refl) (same-equal _ _ refl)
+starts = started-by l211 adr (formatted l211) (formatted l211) (lentLong l211) zeros opens refl refl
 
 plays : turns opened twoCalls .state .device .played ≡ called
 unfolding model-rules turn turns
@@ -85,7 +86,7 @@ unfolding model-rules turn turns
 saves = refl
 
 abbrev played : Ops
-played = formatStores l211 ++ openOutcome l211 (formatted l211) (lentLong l211) .ops ++ called
+played = formatStores l211 ++ openOutcome l211 adr (formatted l211) (lentLong l211) .ops ++ called
 
 sizes-lost : floor 1 played ≡ 0
 unfolding model-rules formatStores floorFrom hasFence
@@ -96,7 +97,7 @@ unfolding wordOf littleEndian
 other-sizes = refl
 
 -- what the line of the sizes holds decides, wherever the rest stands
-refused : (H : Image) → length H ≡ 1280 → AgreeOn 1 H all255 → openStatus l211 H (lentLong l211) ≡ 3
+refused : (H : Image) → length H ≡ 1280 → AgreeOn 1 H all255 → openStatus l211 adr H (lentLong l211) ≡ 3
 unfolding openStatus firstError sizesOk inRange imageSize headerOk
 refused H long lost =
     let sizes : wordAt H mainsAt ≡ 0xffffffffffffffff = word-cong (byteAt H) (byteAt all255) mainsAt (λ i low high. lost i (omega arith)) ∙ other-sizes in
@@ -109,7 +110,7 @@ refused-later = record {
   permitted = calls-permitted firstOpening;
   saved = ap (λ (p : Point). turns p twoCalls .state .model .checkpoint) starts ∙ saves;
   left = oldest all255 played .0;
-  crash = subst (λ (X : Ops). CrashImage all255 (formatStores l211 ++ openOutcome l211 (formatted l211) (lentLong l211) .ops ++ X) (oldest all255 played .0))
+  crash = subst (λ (X : Ops). CrashImage all255 (formatStores l211 ++ openOutcome l211 adr (formatted l211) (lentLong l211) .ops ++ X) (oldest all255 played .0))
       (sym (ap (λ (p : Point). turns p twoCalls .state .device .played) starts ∙ plays)) (oldest all255 played .1);
   refused = refused (oldest all255 played .0) (oldest all255 played .1 .long) (line-lost all255 played 1 sizes-lost);
 }

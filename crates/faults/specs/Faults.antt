@@ -1,7 +1,7 @@
 -- Faults that a reader could mistake for good work (SPECIFICATION 18.1). Each fault is model's own definition with one change,
 -- and each statement says that demand 3 then fails: a crash may leave an image that opening refuses, or of which it shows a
 -- page that is not permitted, which nobody notices. (`DiscardClearsTouch`, beside the last, breaks demand 2 alone.) One client writes, whose share and limit are all backup segments, and what a faulty
--- call does with its record is right. Proved in proofs/.
+-- call does with its record is right. The module is of kind 0. Proved in proofs/.
 use Prim.Native.Nat.{ℕ, _+_}
 use mathlib.Core.Path.{_≡_}
 use mathlib.Core.Bool.{Bool, true, false, cond}
@@ -18,18 +18,18 @@ use Rattle.model.specs.Words.{Image}
 use Rattle.model.specs.Layout.{lineSize, unpaired, ssInitial, ssMain, ssBackup}
 use Rattle.model.specs.Status.{firstError, served}
 use Rattle.model.specs.Container.{activeLine, activeState, inactiveLine, segState, backupToMain, isPaired, pairedBackup, anyFree, freeBackups, newBackup, byState, checkpointBytes}
-use Rattle.model.specs.Session.{dirtyWord, freshSession, withDirty}
-use Rattle.model.specs.Ops.{clwb, sfence, Ops, replay, storeByte}
+use Rattle.model.specs.Session.{adr, dirtyWord, freshSession, withDirty}
+use Rattle.model.specs.Ops.{clwb, sfence, Ops, replay, storeByte, forDomain}
 use Rattle.model.specs.Outcome.{Lent, lent}
 use Rattle.model.specs.Format.{container, formatted}
 use Rattle.model.specs.Open.{actionOps, openStatus}
 use Rattle.model.specs.Write.{WriteArgs, needsCopy, copyPlan, copies, backupOps, copyOnWriteOps, spanOps, earlyErrors, lateErrors, writeStatus}
 use Rattle.model.specs.Crash.{CrashImage}
 use Rattle.model.specs.Reference.{Page}
-use Rattle.model.specs.History.{Device, State, openedImage, Permitted, AllPermitted}
-use Rattle.model.specs.CrashSafety.{Reads, Moment, between, during, PermittedAt, playedAt, MayShow}
+use Rattle.model.specs.History.{Device, State, openedImage, Permitted}
+use Rattle.model.specs.CrashSafety.{Reads, Moment, between, during, PermittedAt, playedAt, MayShow, adrModule}
 use Rattle.model.specs.Shares.{alone}
-use Rattle.cases.specs.Turns.{Point, pointOf, begin, Turn, callAt, answerAt, turn, turns, made}
+use Rattle.cases.specs.Turns.{Point, pointOf, begin, Turn, callAt, answerAt, turn, turns, Supposed}
 use Rattle.cases.specs.Table.{sizes, l211, longTrace, lentAlone, writes, write, checkpoint, aWord}
 use Rattle.cases.specs.Cut.{OnlyShows}
 use Rattle.cases.specs.Discards.{discard}
@@ -42,18 +42,18 @@ lentLong l = lentAlone l longTrace
 
 -- what was durable on the device d is accepted, and a crash after the operations O may leave an image that opening refuses
 pub record Refuses (d : Device) (O : Ops) : Type 0 where
-  pub accepted : openStatus (d .layout) (d .durable) (lentLong (d .layout)) ≡ 0
+  pub accepted : openStatus (d .layout) adr (d .durable) (lentLong (d .layout)) ≡ 0
   pub left : Image
   pub crash : CrashImage (d .durable) (d .played ++ O) left
-  pub refused : openStatus (d .layout) left (lentLong (d .layout)) ≡ 4
+  pub refused : openStatus (d .layout) adr left (lentLong (d .layout)) ≡ 4
 
 -- a crash at this moment of the state s, where O was played since all was durable, may leave an image that opening accepts and
 -- `recover` takes to one whose reads show a page, and it is none of those that demand 3 permits
 pub record ShowsOther (recover : Image → Image) (s : State) (m : Moment) (O : Ops) : Type 0 where
-  pub permitted : PermittedAt (s .device) m
+  pub permitted : PermittedAt adr (s .device) m
   pub left : Image
   pub crash : CrashImage (s .device .durable) O left
-  pub accepted : openStatus (s .device .layout) left (lentLong (s .device .layout)) ≡ 0
+  pub accepted : openStatus (s .device .layout) adr left (lentLong (s .device .layout)) ≡ 0
   pub page : Page
   pub shown : Reads (s .device .layout) (recover left) page page
   pub wrong : MayShow s m page → ⊥
@@ -69,6 +69,7 @@ withSession p x = pointOf (record {
     layout = p .state .device .layout;
     durable = p .state .device .durable;
     played = p .state .device .played;
+    adrPlayed = p .state .device .adrPlayed;
     image = p .state .device .image;
     session = x;
   };
@@ -95,7 +96,7 @@ earlyStateOps l I word i p =
 unfoldable pub earlyWriteOps : Session → Image → WriteArgs → Lent → Ops
 earlyWriteOps s I w k =
     cond (served (writeStatus s I w k))
-    (earlyStateOps (s .layout) I (dirtyWord s (w .main)) (w .main) (copyPlan s I (w .main)) ++ spanOps (s .layout) I w)
+    (forDomain (s .domain) (earlyStateOps (s .layout) I (dirtyWord s (w .main)) (w .main) (copyPlan s I (w .main)) ++ spanOps (s .layout) I w))
     []
 
 -- so where a history stands
@@ -114,24 +115,24 @@ twoCalls = write 0 0 aWord ∷ checkpoint ∷ []
 -- after 37 of its 41 operations: opening accepts what is left and shows the backup's old bytes
 abbrev pub ShowsBackup : Point → Type 0
 ShowsBackup p =
-    ShowsOther (λ H. openedImage l111 H (lentLong l111)) (p .state) (during (callAt p (write 0 8 aWord)) 37)
+    ShowsOther (λ H. openedImage l111 adr H (lentLong l111)) (p .state) (during (callAt p (write 0 8 aWord)) 37)
     (p .state .device .played ++ take 37 (earlyAt p (writes 0 8 aWord)))
 
 abbrev pub EarlyStateUnseen : Point → Type 0
-EarlyStateUnseen p = AllPermitted (made p twoCalls) × ShowsBackup (turns p twoCalls)
+EarlyStateUnseen p = Supposed adr p twoCalls × ShowsBackup (turns p twoCalls)
 
 -- ---- 2. marks cleared at a checkpoint
 
 unfoldable pub marksCleared : Point → Point
-marksCleared p = withSession p (freshSession (p .state .device .session .layout))
+marksCleared p = withSession p (freshSession (p .state .device .session .layout) (p .state .device .session .domain))
 
 -- another word written and cut after 2 of its 5 operations: opening accepts what is left and shows the backup's old bytes
 abbrev pub ShowsStale : Point → Type 0
-ShowsStale p = CalledShowsOther (λ H. openedImage l111 H (lentLong l111)) (p .state) (during (callAt p (write 0 8 aWord)) 2)
+ShowsStale p = CalledShowsOther (λ H. openedImage l111 adr H (lentLong l111)) (p .state) (during (callAt p (write 0 8 aWord)) 2)
 
 -- from a paired main segment: the two calls, then that
 abbrev pub ClearedMarks : Point → Type 0
-ClearedMarks p = AllPermitted (made p twoCalls) × ShowsStale (marksCleared (turns p twoCalls))
+ClearedMarks p = Supposed adr p twoCalls × ShowsStale (marksCleared (turns p twoCalls))
 
 -- ---- 3. opening skips the copy to the backup segment
 
@@ -149,7 +150,14 @@ skippingOpened l I = replay (skippingOps l I) I
 
 unfoldable pub skippingStart : Layout → Image → Point
 skippingStart l I = pointOf (record {
-  device = record { layout = l; durable = skippingOpened l I; played = []; image = skippingOpened l I; session = freshSession l };
+  device = record {
+    layout = l;
+    durable = skippingOpened l I;
+    played = [];
+    adrPlayed = [];
+    image = skippingOpened l I;
+    session = freshSession l adr;
+  };
   model = record { working = checkpointBytes l I (activeLine I); checkpoint = checkpointBytes l I (activeLine I) };
 }) (alone l 0)
 
@@ -177,10 +185,10 @@ unfoldable pub inactiveStatus : Session → Image → WriteArgs → Lent → ℕ
 inactiveStatus s I w k =
     firstError (earlyErrors s I (k .clients) w
     ++ lateErrors (inactivePlan s I (w .main)) (k .clients) (w .client) (freeBackups (s .layout) (segState I (inactiveLine I)) (backupToMain I))
-    (inactiveOps s I w) (k .trace))
+    (forDomain (s .domain) (inactiveOps s I w)) (k .trace))
 
 unfoldable pub inactiveWriteOps : Session → Image → WriteArgs → Lent → Ops
-inactiveWriteOps s I w k = cond (served (inactiveStatus s I w k)) (inactiveOps s I w) []
+inactiveWriteOps s I w k = cond (served (inactiveStatus s I w k)) (forDomain (s .domain) (inactiveOps s I w)) []
 
 -- main segment 0 in state 2 with the only backup, but not so on the inactive line, and main segment 1 in state 1
 abbrev pub two : Image
@@ -219,14 +227,14 @@ firstMarked p = withSession (turn p writeTwo) (firstSession (p .state .device .s
 pub record FirstMarked (p : Point) : Type 0 where
   pub permitted : Permitted (callAt p writeTwo)
   pub count : length (answerAt (firstMarked p) checkpoint .ops) ≡ 18
-  pub shows : CalledShowsOther (λ H. openedImage l112 H (lentLong l112)) (turn (firstMarked p) checkpoint .state) between
+  pub shows : CalledShowsOther (λ H. openedImage l112 adr H (lentLong l112)) (turn (firstMarked p) checkpoint .state) between
   pub mixed : shows .page ≡ p .state .model .checkpoint → ⊥
 
 -- with both blocks dirty the same calls leave what shows this checkpoint alone
 abbrev pub BothMarked : Point → Type 0
 BothMarked p =
-    AllPermitted (made p (writeTwo ∷ checkpoint ∷ []))
-    × OnlyShows (turns p (writeTwo ∷ checkpoint ∷ []) .state) between (replicate 248 0 ++ aWord ++ aWord ++ replicate 248 0)
+    Supposed adr p (writeTwo ∷ checkpoint ∷ [])
+    × OnlyShows adrModule (turns p (writeTwo ∷ checkpoint ∷ []) .state) between (replicate 248 0 ++ aWord ++ aWord ++ replicate 248 0)
 
 -- ---- 6. a discard that clears the marks
 
@@ -240,20 +248,21 @@ clearsMarks p = withSession p (record {
   layout = p .state .device .session .layout;
   «dirty_segments» = p .state .device .session .«dirty_segments»;
   «dirty_blocks» = set (p .state .device .session .«dirty_blocks») 0 0;
+  domain = p .state .device .session .domain;
 })
 
 -- a checkpoint, played whole, which flushes no block: opening then shows the word, which no checkpoint ever had
 pub record DiscardClearsMarks (p : Point) : Type 0 where
-  pub permitted : AllPermitted (made p wordDropped)
+  pub permitted : Supposed adr p wordDropped
   pub count : length (answerAt (clearsMarks (turns p wordDropped)) checkpoint .ops) ≡ 14
-  pub shows : CalledShowsOther (λ H. openedImage l111 H (lentLong l111)) (turn (clearsMarks (turns p wordDropped)) checkpoint .state) between
+  pub shows : CalledShowsOther (λ H. openedImage l111 adr H (lentLong l111)) (turn (clearsMarks (turns p wordDropped)) checkpoint .state) between
   pub dropped : shows .page ≡ aWord ++ replicate 248 0
   pub saved : turn (clearsMarks (turns p wordDropped)) checkpoint .state .model .checkpoint ≡ replicate 256 0
 
 -- with the marks kept the same calls leave what shows zeros alone
 abbrev pub DiscardKeepsMarks : Point → Type 0
 DiscardKeepsMarks p =
-    AllPermitted (made p (wordDropped ++ checkpoint ∷ [])) × OnlyShows (turns p (wordDropped ++ checkpoint ∷ []) .state) between (replicate 256 0)
+    Supposed adr p (wordDropped ++ checkpoint ∷ []) × OnlyShows adrModule (turns p (wordDropped ++ checkpoint ∷ []) .state) between (replicate 256 0)
 
 -- beside it a discard that clears the touch: no page shows it, but the checkpoint leaves the segment in state 0, and not in state 1
 unfoldable pub clearsTouch : Point → Point
@@ -261,6 +270,7 @@ clearsTouch p = withSession p (record {
   layout = p .state .device .session .layout;
   «dirty_segments» = 0;
   «dirty_blocks» = p .state .device .session .«dirty_blocks»;
+  domain = p .state .device .session .domain;
 })
 
 abbrev pub DiscardClearsTouch : Point → Type 0
@@ -270,13 +280,13 @@ DiscardClearsTouch p =
 
 -- THE SIX FAULTS, the first both ways, and the last two beside what is right
 pub record Faults : Type 0 where
-  pub earlyState : EarlyState (begin l111 (one unpaired) (lentLong l111))
-  pub earlyStateUnseen : EarlyStateUnseen (begin l111 (one 0) (lentLong l111))
-  pub clearedMarks : ClearedMarks (begin l111 (one 0) (lentLong l111))
+  pub earlyState : EarlyState (begin l111 adr (one unpaired) (lentLong l111))
+  pub earlyStateUnseen : EarlyStateUnseen (begin l111 adr (one 0) (lentLong l111))
+  pub clearedMarks : ClearedMarks (begin l111 adr (one 0) (lentLong l111))
   pub skippedCopy : SkippedCopy (skippingStart l111 (one 0))
-  pub inactiveLine : InactiveLine (begin l211 two (lentLong l211))
-  pub firstMarked : FirstMarked (begin l112 (formatted l112) (lentLong l112))
-  pub bothMarked : BothMarked (begin l112 (formatted l112) (lentLong l112))
-  pub discardClearsMarks : DiscardClearsMarks (begin l111 (formatted l111) (lentLong l111))
-  pub discardKeepsMarks : DiscardKeepsMarks (begin l111 (formatted l111) (lentLong l111))
-  pub discardClearsTouch : DiscardClearsTouch (begin l111 (formatted l111) (lentLong l111))
+  pub inactiveLine : InactiveLine (begin l211 adr two (lentLong l211))
+  pub firstMarked : FirstMarked (begin l112 adr (formatted l112) (lentLong l112))
+  pub bothMarked : BothMarked (begin l112 adr (formatted l112) (lentLong l112))
+  pub discardClearsMarks : DiscardClearsMarks (begin l111 adr (formatted l111) (lentLong l111))
+  pub discardKeepsMarks : DiscardKeepsMarks (begin l111 adr (formatted l111) (lentLong l111))
+  pub discardClearsTouch : DiscardClearsTouch (begin l111 adr (formatted l111) (lentLong l111))
