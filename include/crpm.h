@@ -13,17 +13,33 @@
  * the next call. crpm_replay only stores into an image, for benches, dumps and
  * simulation. Only crpm_format and crpm_replay change an image.
  *
+ * Modules are of two kinds, by what a power cut leaves of the cache before them
+ * (the persistence domain), and an opening is told which it is. On CRPM_ADR a
+ * store is durable once its line is written back and fenced. On CRPM_EADR a
+ * store is durable once it is in the cache, since a power cut leaves the cache's
+ * contents too; the traces have fences, which wait for that, and no clwb.
+ *
  * What every caller must know
  *  - At a program's start, always, and after a call whose operations were not
  *    all carried out: flush every line of the image and fence (crpm_flush_all in
  *    crpm_x86.h), then open. A process that was killed or gave up among the
  *    operations of a call leaves stores that are not durable, and an opening
  *    flushes no metadata: without this a later power cut can lose or mix
- *    checkpoints. After a power cut the flush changes nothing.
+ *    checkpoints. After a power cut the flush changes nothing. On CRPM_EADR
+ *    nothing needs flushing, and it does no harm.
+ *  - Give every opening the module's own kind; in doubt CRPM_ADR, which is right
+ *    on every module: on one of the other kind it costs flushes and no more.
+ *    CRPM_EADR is right only where the platform guarantees that the caches are
+ *    flushed on a power failure. No call can check it: with CRPM_EADR on a module
+ *    whose cache may lose lines, a power cut can lose or mix the bytes of finished
+ *    checkpoints, or leave an image that is refused with CRPM_INVALID. Before a
+ *    power cut it is mended by a checkpoint, a flush of every line, a fence, and
+ *    an opening with CRPM_ADR, which drops what no checkpoint has.
  *  - After crpm_format on a module, flush every line and fence before anything
- *    else. A format whose lines never reached the module can lose every later
- *    checkpoint. That an opening is served is no sign that a format finished:
- *    keep a mark of your own, outside the image, set after crpm_flush_all.
+ *    else; CRPM_EADR again needs no flush. A format whose lines never reached the
+ *    module can lose every later checkpoint. That an opening is served is no sign
+ *    that a format finished: keep a mark of your own, outside the image, set after
+ *    crpm_flush_all.
  *  - Never format because an opening was refused; keep the dump first.
  *  - Hand to crpm_write, crpm_discard and crpm_checkpoint only the session that
  *    the last call on this image wrote. Never one kept over a restart, never a
@@ -87,7 +103,7 @@ extern "C" {
    or a struct changes, its second when a call is added, or when what a call does,
    or what is promised of it, changes and programs need no change.
    `pkg-config --modversion crpm` says the same. */
-#define CRPM_VERSION "2.1.0"
+#define CRPM_VERSION "3.0.0"
 
 /* ---- the layout of an image */
 
@@ -128,7 +144,8 @@ extern "C" {
 /* An operation is three numbers: kind, place, word. */
 #define CRPM_OP_NUMBERS 3
 #define CRPM_OP_STORE 1  /* store a word at a place divisible by 8 */
-#define CRPM_OP_CLWB 2   /* write back (flush) the line at a place divisible by 64; the word is 0 */
+#define CRPM_OP_CLWB 2   /* write back (flush) the line at a place divisible by 64; the word is 0;
+                            in a session of CRPM_EADR there is none */
 #define CRPM_OP_SFENCE 3 /* wait for what was written back; place and word are 0 */
 
 /* Numbers of a trace that are always enough for an opening, a write, a discard
@@ -136,7 +153,8 @@ extern "C" {
    can be larger than the image: with 64 of each the image has 2,097,664 bytes, and
    the trace of its first opening 3,538,968. A write may be as long as a main
    segment: 32 words for each of its blocks, besides the copy. With a trace of
-   the length that sufficed before version 1.2.0 it gets CRPM_TRACE_SHORT. */
+   the length that sufficed before version 1.2.0 it gets CRPM_TRACE_SHORT. With
+   CRPM_EADR the clwbs are left out, and fewer numbers are needed. */
 #define CRPM_OPEN_TRACE(M, B) ((size_t)CRPM_OP_NUMBERS * (36 * (size_t)(B) * (size_t)(M) + 1))
 #define CRPM_WRITE_TRACE(B) ((size_t)CRPM_OP_NUMBERS * (36 * (size_t)(B) + 6 + 32 * (size_t)(B)))
 #define CRPM_DISCARD_TRACE(B) ((size_t)CRPM_OP_NUMBERS * 32 * (size_t)(B))
@@ -150,6 +168,10 @@ extern "C" {
 
 /* ---- the session */
 
+/* The kinds of module, which an opening is told (above). */
+#define CRPM_ADR 0  /* a power cut may lose what was not written back; right for every module */
+#define CRPM_EADR 1 /* a power cut leaves every store: the caches are flushed by the platform */
+
 /* What is known of an image since it was opened. crpm_open writes it, crpm_write
    and crpm_checkpoint take it and write it again, crpm_discard takes it and leaves
    it as it is; nobody else changes it. */
@@ -160,6 +182,7 @@ struct crpm_session {
     uint64_t dirty_segments; /* bit i: main segment i was written to since the last checkpoint */
     uint64_t dirty_blocks[CRPM_MOST]; /* word i, bit b: block b of main segment i may differ
                                          from its backup segment */
+    uint64_t domain;         /* the kind of the module, as the opening was told */
 };
 
 /* ---- the clients */
@@ -187,7 +210,8 @@ enum crpm_status {
     CRPM_BAD_LENGTH = 2,     /* the image has another length (replay: not divisible by 64) */
     CRPM_FOREIGN = 3,        /* the image holds other sizes */
     CRPM_INVALID = 4,        /* states and pairs of the image do not fit one another */
-    CRPM_BAD_SESSION = 5,    /* the session does not fit the image */
+    CRPM_BAD_SESSION = 5,    /* the session does not fit the image, or names no kind of module
+                                (opening: there is no such kind) */
     CRPM_NO_SUCH_MAIN = 6,   /* there is no such main segment */
     CRPM_NO_SUCH_BLOCK = 7,  /* there is no such block */
     CRPM_BAD_SPAN = 8,       /* no bytes to write, an offset that is not in the block, or bytes
@@ -220,13 +244,16 @@ uint64_t crpm_format(
 
 /* Opens an image, which recovers: once its operations are carried out, the
    working bytes are those of the last checkpoint. At a program's start flush
-   every line first (above). Writes a session with no dirty segment or block, sets
-   `used` of every client to 0, and writes to `ops` the number of operations on the
-   trace. Refusals in order: 1 to 4, 13, 11; 13 judges the run by the `backups` that
-   are handed over. */
+   every line first (above). `domain` is the kind of the module, CRPM_ADR or
+   CRPM_EADR; the calls up to the next opening find it in the session. Writes a
+   session with no dirty segment or block, sets `used` of every client to 0, and
+   writes to `ops` the number of operations on the trace. Refusals in order: 1 to 4,
+   5 for a kind above 1, 13, 11; 13 judges the run by the `backups` that are handed
+   over. */
 uint64_t crpm_open(
     const uint8_t *image, size_t image_length,
     uint64_t mains, uint64_t backups, uint64_t blocks,
+    uint64_t domain,
     struct crpm_session *session,
     struct crpm_client *clients, size_t clients_length,
     uint64_t *trace, size_t trace_length,

@@ -20,7 +20,8 @@
  *  - An aligned 8-byte store is not torn. Stores to one line reach the module
  *    in program order, as x86-64 keeps it in write-back memory. What was stored
  *    to a line before its clwb is durable once a later sfence is done (the
- *    platform has ADR).
+ *    platform has ADR). For an image opened with CRPM_EADR, whose traces have no
+ *    clwb: what was stored is durable without it (the platform has eADR).
  *  - The trace is one that a call of crpm.h wrote, and n is at most the number
  *    of operations that it reported. The trace is not checked.
  */

@@ -31,7 +31,7 @@ uint64_t ours_open(struct ours *ours)
 {
     uint64_t ops;
     served("crpm_open", crpm_open(ours->image, ours->length, ours->sizes.mains, ours->sizes.backups, ours->sizes.blocks,
-                                  &ours->session, &ours->client, 1, ours->trace, ours->trace_length, &ops));
+                                  CRPM_ADR, &ours->session, &ours->client, 1, ours->trace, ours->trace_length, &ops));
     return ops;
 }
 

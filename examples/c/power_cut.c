@@ -75,7 +75,7 @@ static void replay(uint8_t *image, const uint64_t *trace, uint64_t ops, uint64_t
 static uint64_t reopen(uint8_t *image, struct crpm_session *session, struct crpm_client *client)
 {
     uint64_t trace[TRACE_LENGTH], ops;
-    served("open", crpm_open(image, IMAGE_SIZE, MAINS, BACKUPS, BLOCKS, session, client, 1,
+    served("open", crpm_open(image, IMAGE_SIZE, MAINS, BACKUPS, BLOCKS, CRPM_ADR, session, client, 1,
                              trace, TRACE_LENGTH, &ops));
     replay(image, trace, ops, ops);
     return ops;

@@ -44,7 +44,7 @@ int main(void)
     uint64_t ops;
     served(crpm_format(image, sizeof image, LEVELS, SPARES, FRAMES));
     served(crpm_open(
-        image, sizeof image, LEVELS, SPARES, FRAMES, &session, &console, 1, trace, sizeof trace / sizeof *trace, &ops));
+        image, sizeof image, LEVELS, SPARES, FRAMES, CRPM_ADR, &session, &console, 1, trace, sizeof trace / sizeof *trace, &ops));
     carry_out(ops);
     put(0, 0, 0, "Great 8 4 2");
     put(1, 1, 16, "Swell 8 4");

@@ -75,7 +75,7 @@ static int all(const uint8_t *bytes, size_t length, uint8_t value)
 enum { RECORDS = CRPM_MOST_CLIENTS + 2 };
 
 struct bench {
-    uint64_t mains, backups, blocks;
+    uint64_t mains, backups, blocks, domain;
     uint8_t *image;
     size_t image_length;
     struct crpm_session session;
@@ -117,14 +117,16 @@ static struct crpm_client client(uint64_t reserved, uint64_t quota, uint64_t use
     return made;
 }
 
-/* A bench with a formatted image; it was full of other bytes before. It has one
-   client, for which every backup segment is reserved. */
+/* A bench with a formatted image; it was full of other bytes before. It stands for a
+   module of the kind CRPM_ADR, and has one client, for which every backup segment is
+   reserved. */
 static void start(struct bench *t, uint64_t mains, uint64_t backups, uint64_t blocks)
 {
     memset(t, 0, sizeof *t);
     t->mains = mains;
     t->backups = backups;
     t->blocks = blocks;
+    t->domain = CRPM_ADR;
     t->image_length = CRPM_IMAGE_SIZE(mains, backups, blocks);
     t->image_room = t->image_length + BEHIND;
     t->image = (uint8_t *)allocated(t->image_room);
@@ -202,8 +204,8 @@ static uint64_t open_image(struct bench *t)
     memset(&t->session, 0xff, sizeof t->session);
     before_call(t);
     return all_unused(t, after_call(t, crpm_open(t->image, t->image_length, t->mains, t->backups, t->blocks,
-                                                 &t->session, t->clients, t->clients_length, t->trace,
-                                                 t->trace_length, &t->ops), &zeros));
+                                                 t->domain, &t->session, t->clients, t->clients_length,
+                                                 t->trace, t->trace_length, &t->ops), &zeros));
 }
 
 /* A served write changes no client but its own, by 1 at most. */
@@ -342,16 +344,17 @@ static int same(const struct bench *t, const uint8_t *image)
     return yes == 1;
 }
 
-/* The session, word for word: its struct is these 68 words in this order. */
+/* The session, word for word: its struct is these 69 words in this order. */
 static void session_is(const struct bench *t, uint64_t dirty_segments, uint64_t first, uint64_t second)
 {
-    uint64_t words[68], want[68] = {0};
+    uint64_t words[69], want[69] = {0};
     want[0] = t->mains;
     want[1] = t->backups;
     want[2] = t->blocks;
     want[3] = dirty_segments;
     want[4] = first;
     want[5] = second;
+    want[68] = t->domain;
     CHECK(sizeof t->session == sizeof words);
     memcpy(words, &t->session, sizeof words);
     CHECK(memcmp(words, want, sizeof words) == 0);
@@ -360,6 +363,7 @@ static void session_is(const struct bench *t, uint64_t dirty_segments, uint64_t 
     CHECK(t->session.dirty_segments == dirty_segments);
     CHECK(t->session.dirty_blocks[0] == first && t->session.dirty_blocks[1] == second);
     CHECK(t->session.dirty_blocks[CRPM_MOST - 1] == 0);
+    CHECK(t->session.domain == t->domain);
 }
 
 /* ---- the worked examples: two main segments, one backup segment, one block in
@@ -729,6 +733,74 @@ static void discards(void)
     finish(&t);
 }
 
+/* ---- the kinds of module: with CRPM_EADR a trace is that with CRPM_ADR without its
+   clwbs. Two main segments, one backup segment, two blocks in each. */
+
+/* A call that is served, first with CRPM_ADR and then with CRPM_EADR, which an opening is
+   told and the others have in the session. The second is left, and has a trace of just
+   so many operations. */
+static void for_both(struct bench *t, bench_call *call, uint64_t ops)
+{
+    const struct bench kept = *t;
+    uint64_t *others = (uint64_t *)allocated(t->trace_room * sizeof *others);
+    size_t i, n = 0;
+    t->domain = t->session.domain = CRPM_ADR;
+    SERVED(call(t));
+    for (i = 0; i < t->ops; i++)
+        if (t->trace[CRPM_OP_NUMBERS * i] != CRPM_OP_CLWB)
+            memcpy(others + CRPM_OP_NUMBERS * n++, t->trace + CRPM_OP_NUMBERS * i, CRPM_OP_NUMBERS * 8);
+    *t = kept;
+    t->domain = t->session.domain = CRPM_EADR;
+    t->trace_length = CRPM_OP_NUMBERS * (size_t)ops - 1;
+    RETURNS(call(t), CRPM_TRACE_SHORT, 11);
+    t->session = kept.session;
+    t->session.domain = CRPM_EADR;
+    t->trace_length++;
+    SERVED(call(t));
+    t->trace_length = kept.trace_length;
+    CHECK(t->ops == ops && t->ops == n);
+    CHECK(memcmp(t->trace, others, CRPM_OP_NUMBERS * 8 * n) == 0);
+    CHECK(t->session.domain == 1);
+    free(others);
+}
+
+static void kinds_of_module(void)
+{
+    struct bench t;
+    start(&t, 2, 1, 2);
+    STEP(for_both(&t, open_image, 129));
+    STEP(play(&t, 128, 0, 1));
+    STEP(session_is(&t, 0, 0, 0));
+    STEP(for_both(at(&t, 0, 0, 6, FOUR_BYTES, 4), write_bytes, 2));
+    STEP(play(&t, 2, 0, 0));
+    STEP(session_is(&t, 1, 1, 0));
+
+    /* 12 operations, however many blocks are dirty */
+    STEP(for_both(&t, checkpoint, 12));
+    STEP(play(&t, 9, 0, 3));
+    STEP(session_is(&t, 0, 1, 0));
+
+    /* to a new backup segment; later writes are a store each */
+    STEP(for_both(at(&t, 0, 1, 0, ONE, 8), write_bytes, 69));
+    STEP(play(&t, 67, 0, 2));
+    STEP(session_is(&t, 1, 2, 0));
+    STEP(for_both(at(&t, 0, 1, 8, ONE, 8), write_bytes, 1));
+    STEP(play(&t, 1, 0, 0));
+    STEP(for_both(&t, discard, 32));
+    STEP(play(&t, 32, 0, 0));
+    STEP(session_is(&t, 1, 2, 0));
+    STEP(for_both(&t, checkpoint, 12));
+    STEP(play(&t, 9, 0, 3));
+
+    /* the dirty block to its own backup segment; then the main segment is restored */
+    STEP(for_both(at(&t, 0, 0, 0, TWO, 8), write_bytes, 36));
+    STEP(play(&t, 34, 0, 2));
+    STEP(for_both(&t, open_image, 129));
+    STEP(play(&t, 128, 0, 1));
+    CHECK(memcmp(t.image + 512, t.image + 1536, 512) == 0);
+    finish(&t);
+}
+
 /* ---- places, at sizes that all differ: 3 main segments, 2 backup segments, 4 blocks */
 
 static uint8_t shade(uint64_t main, uint64_t block)
@@ -817,7 +889,8 @@ static void fields(void)
     FIELD(crpm_session, blocks, 16, 8);
     FIELD(crpm_session, dirty_segments, 24, 8);
     FIELD(crpm_session, dirty_blocks, 32, 512);
-    CHECK(sizeof(struct crpm_session) == 544);
+    FIELD(crpm_session, domain, 544, 8);
+    CHECK(sizeof(struct crpm_session) == 552);
     FIELD(crpm_client, reserved, 0, 8);
     FIELD(crpm_client, quota, 8, 8);
     FIELD(crpm_client, used, 16, 8);
@@ -1118,6 +1191,26 @@ static void refused_sessions(bench_call *call, const struct bench *t)
     wrong = *t;
     wrong.session.dirty_blocks[CRPM_MOST - 1] = 1;
     RETURNS(call(&wrong), CRPM_BAD_SESSION, 5);
+    wrong = *t;
+    wrong.session.domain = CRPM_EADR + 1; /* there are two kinds */
+    RETURNS(call(&wrong), CRPM_BAD_SESSION, 5);
+    wrong.session.domain = (uint64_t)1 << 32;
+    RETURNS(call(&wrong), CRPM_BAD_SESSION, 5);
+    wrong.session.domain = UINT64_MAX;
+    RETURNS(call(&wrong), CRPM_BAD_SESSION, 5);
+}
+
+/* 5 of an opening, for kinds that there are not */
+static void refused_domains(const struct bench *t)
+{
+    static const uint64_t BAD[] = {CRPM_EADR + 1, 3, (uint64_t)1 << 32, UINT64_MAX};
+    struct bench wrong = *t;
+    size_t i;
+    for (i = 0; i < sizeof BAD / sizeof BAD[0]; i++) {
+        wrong.domain = BAD[i];
+        RETURNS(open_image(&wrong), CRPM_BAD_SESSION, 5);
+        refused_layouts(open_image, &wrong); /* 1 to 4 before 5 */
+    }
 }
 
 /* 6 and 7, before 8 */
@@ -1157,6 +1250,7 @@ static void refusals(void)
     STEP(refused_lengths(format_image, &t));
     opened = t; /* a refused opening leaves a session of zeros */
     STEP(refused_layouts(open_image, &opened));
+    STEP(refused_domains(&opened));
     STEP(refused_layouts(write_with_sizes, &t));
     STEP(refused_layouts(discard_with_sizes, &t));
     STEP(refused_layouts(checkpoint_with_sizes, &t));
@@ -1367,8 +1461,8 @@ static void runs(void)
     finish(&t);
 }
 
-/* Where 13, 14 and 15 come: 13 after 4 or 5 and before all others, 14 and 15 after
-   9 and before 11. */
+/* Where 13, 14 and 15 come: 13 after 5 and before all others, 14 and 15 after 9 and
+   before 11. */
 static void refusals_in_order(void)
 {
     const struct crpm_client none = client(0, 0, 0), any = client(0, 9, 0), two = client(2, 2, 0);
@@ -1392,6 +1486,7 @@ static void refusals_in_order(void)
     RETURNS(checkpoint(&t), CRPM_BAD_CLIENTS, 13);
     put_word(t.image, 0, 1);
     RETURNS(open_image(&short_of), CRPM_BAD_CLIENTS, 13);
+    STEP(refused_domains(&short_of)); /* with a trace too short besides */
     short_of = t;
     STEP(refused_layouts(open_image, &short_of));
 
@@ -1491,6 +1586,7 @@ int main(int count, char **arguments)
     long_marks();
     longer_than_4_gib();
     discards();
+    kinds_of_module();
     places();
     trace_lengths();
     refusals();

@@ -19,12 +19,14 @@ pub struct Session {
     /// Word i, bit b: block b of main segment i may differ from its backup
     /// segment.
     pub dirty_blocks: [u64; 64],
+    /// The kind of the module: [`crate::Domain`] by its number.
+    pub domain: u64,
 }
 
 impl Session {
     /// The session of zeros, which a refused opening leaves.
     pub const ZEROS: Session =
-        Session { mains: 0, backups: 0, blocks: 0, dirty_segments: 0, dirty_blocks: [0; 64] };
+        Session { mains: 0, backups: 0, blocks: 0, dirty_segments: 0, dirty_blocks: [0; 64], domain: 0 };
 }
 
 /// `struct crpm_client`: how many backup segments a client may take.
@@ -35,14 +37,14 @@ impl Session {
 ///
 /// ```
 /// # fn main() -> Result<(), crpm::Refusal> {
-/// use crpm::{Client, Refusal};
+/// use crpm::{Client, Domain, Refusal};
 ///
 /// // two backup segments, one for each client; each may take both
 /// let layout = crpm::Layout::new(3, 2, 1)?;
 /// let mut clients = [Client::new(1, 2); 2];
 /// # let (mut image, mut trace) = (vec![0; layout.image_size()], vec![0; layout.trace_length()]);
 /// crpm::format(&mut image, layout)?;
-/// let (mut session, ops) = crpm::open(&image, layout, &mut clients, &mut trace)?;
+/// let (mut session, ops) = crpm::open(&image, layout, Domain::Adr, &mut clients, &mut trace)?;
 /// crpm::replay(&mut image, ops, ops.len())?; // stands for carrying out
 /// for main in 0..3 {
 ///     let ops = crpm::write(&image, &mut session, &mut clients, 0, main, 0, 0, b"oboe", &mut trace)?;
@@ -92,6 +94,7 @@ extern "C" {
         mains: u64,
         backups: u64,
         blocks: u64,
+        domain: u64,
         session: *mut Session,
         clients: *mut Client,
         clients_length: usize,

@@ -13,8 +13,11 @@
 //! and in their order, before the next call. Only [`format()`] and [`replay`]
 //! change an image.
 //!
+//! Modules are of two kinds, by what a power cut leaves of the cache before
+//! them, and an opening is told which it is: a [`Domain`].
+//!
 //! ```
-//! use crpm::{Client, Layout, Op, Ops, Refusal};
+//! use crpm::{Client, Domain, Layout, Op, Ops, Refusal};
 //!
 //! fn main() -> Result<(), Refusal> {
 //!     let layout = Layout::new(2, 1, 1)?; // main segments, backup segments, blocks
@@ -24,7 +27,7 @@
 //!     crpm::format(&mut image, layout)?; // on a module: flush every line, then fence
 //!
 //!     // a program's start; on a module: flush every line and fence before it
-//!     let (mut session, ops) = crpm::open(&image, layout, &mut clients, &mut trace)?;
+//!     let (mut session, ops) = crpm::open(&image, layout, Domain::Adr, &mut clients, &mut trace)?;
 //!     carry_out(&mut image, ops);
 //!     let ops = crpm::write(&image, &mut session, &mut clients, 0, 0, 0, 6, b"oboe", &mut trace)?;
 //!     carry_out(&mut image, ops);
@@ -55,7 +58,11 @@
 //!   process that was killed or gave up among the operations of a call leaves
 //!   stores that are not durable, and an opening flushes no metadata: without
 //!   this a later power cut can lose or mix checkpoints. After a power cut the
-//!   flush changes nothing.
+//!   flush changes nothing. On [`Domain::Eadr`] nothing needs flushing, and it
+//!   does no harm.
+//! - Give every opening the module's own [`Domain`]; in doubt [`Domain::Adr`].
+//!   With [`Domain::Eadr`] on a module that is not, a power cut can lose or mix the
+//!   bytes of finished checkpoints, and no call can check it.
 //! - After [`format()`] on a module, flush every line and fence before anything
 //!   else. A format whose lines never reached the module can lose every later
 //!   checkpoint. That an opening is served is no sign that a format finished:
@@ -86,11 +93,13 @@
 #![no_std]
 #![deny(missing_docs)]
 
+mod domain;
 pub mod ffi;
 mod layout;
 mod refusal;
 mod trace;
 
+pub use domain::Domain;
 pub use ffi::Client;
 pub use layout::*;
 pub use refusal::Refusal;
@@ -152,6 +161,27 @@ pub fn format(image: &mut [u8], layout: Layout) -> Result<(), Refusal> {
 /// every line of the image and fence before it. Nothing is used by any client
 /// then.
 ///
+/// The session has the kind of the module, which the calls up to the next opening
+/// find there. With [`Domain::Eadr`] none of them gives [`Op::Clwb`].
+///
+/// ```
+/// # fn main() -> Result<(), crpm::Refusal> {
+/// use crpm::{Domain, Op};
+/// # let layout = crpm::Layout::new(2, 1, 1)?;
+/// # let (mut image, mut trace) = (vec![0; layout.image_size()], vec![0; layout.trace_length()]);
+/// # let mut clients = [crpm::Client::new(1, 1)];
+/// # crpm::format(&mut image, layout)?;
+///
+/// let (_, ops) = crpm::open(&image, layout, Domain::Adr, &mut clients, &mut trace)?;
+/// assert_eq!(ops.len(), 73);
+/// let (session, ops) = crpm::open(&image, layout, Domain::Eadr, &mut clients, &mut trace)?;
+/// assert_eq!(ops.len(), 65);
+/// assert!(!ops.into_iter().any(|op| matches!(op, Op::Clwb { .. })));
+/// assert_eq!(session.words().domain, Domain::Eadr.number());
+/// # Ok(())
+/// # }
+/// ```
+///
 /// # Errors
 ///
 /// In this order: [`Refusal::BadLength`] to [`Refusal::Invalid`],
@@ -159,6 +189,7 @@ pub fn format(image: &mut [u8], layout: Layout) -> Result<(), Refusal> {
 pub fn open<'t>(
     image: &[u8],
     layout: Layout,
+    domain: Domain,
     clients: &mut [Client],
     trace: &'t mut [u64],
 ) -> Result<(Session, Ops<'t>), Refusal> {
@@ -172,6 +203,7 @@ pub fn open<'t>(
             layout.mains() as u64,
             layout.backups() as u64,
             layout.blocks() as u64,
+            domain.number(),
             &mut session,
             clients.as_mut_ptr(),
             clients.len(),
@@ -205,7 +237,7 @@ pub fn open<'t>(
 /// let mut trace = vec![0; layout.trace_length()];
 /// let mut clients = [crpm::Client::new(1, 1)];
 /// crpm::format(&mut image, layout)?;
-/// let (mut session, ops) = crpm::open(&image, layout, &mut clients, &mut trace)?;
+/// let (mut session, ops) = crpm::open(&image, layout, crpm::Domain::Adr, &mut clients, &mut trace)?;
 /// crpm::replay(&mut image, ops, ops.len())?; // stands for carrying out
 ///
 /// // from byte 30 of block 0 over blocks 0, 1 and 2
@@ -287,7 +319,7 @@ pub fn write<'t>(
 /// let mut trace = vec![0; layout.trace_length()];
 /// let mut clients = [crpm::Client::new(1, 1)];
 /// crpm::format(&mut image, layout)?;
-/// let (mut session, ops) = crpm::open(&image, layout, &mut clients, &mut trace)?;
+/// let (mut session, ops) = crpm::open(&image, layout, crpm::Domain::Adr, &mut clients, &mut trace)?;
 /// crpm::replay(&mut image, ops, ops.len())?; // stands for carrying out
 /// let ops = crpm::write(&image, &mut session, &mut clients, 0, 0, 0, 6, b"oboe", &mut trace)?;
 /// crpm::replay(&mut image, ops, ops.len())?;

@@ -17,7 +17,7 @@ pub enum Refusal {
     Foreign = 3,
     /// States and pairs of the image do not fit one another.
     Invalid = 4,
-    /// The session does not fit the image.
+    /// The session does not fit the image, or names no kind of module.
     BadSession = 5,
     /// There is no such main segment.
     NoSuchMain = 6,

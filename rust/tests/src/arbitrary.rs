@@ -3,7 +3,8 @@
 //! Sound images (section 3) have any states, pairs and epochs and rubbish in
 //! every byte that is not named; damage of each kind of refusal is put on top.
 //! Runs (section 5.7) likewise have any numbers that 13 does not refuse, or are
-//! spoiled. Nothing here calls an implementation.
+//! spoiled. Kinds of module are 0 and 1, sometimes others. Nothing here calls an
+//! implementation.
 
 use crate::book::{saved_bytes, Call};
 use crate::calls::*;
@@ -214,9 +215,28 @@ pub fn damage(rng: &mut Rng, image: &mut Vec<u8>, sizes: Sizes) {
     }
 }
 
-/// A card for an image of these sizes: true, or untrue in one of every way.
+/// A kind of module that there is.
+pub fn kind(rng: &mut Rng) -> u64 {
+    rng.pick(&[ADR, EADR])
+}
+
+/// A kind that there is not.
+pub fn odd_kind(rng: &mut Rng) -> u64 {
+    rng.pick(&[2, 2, 3, 255, 1 << 32, (1 << 32) + 1, u64::MAX])
+}
+
+/// Any kind: one in eight is one that there is not.
+pub fn any_kind(rng: &mut Rng) -> u64 {
+    match rng.once_in(8) {
+        true => odd_kind(rng),
+        false => kind(rng),
+    }
+}
+
+/// A card for an image of these sizes, of either kind: true, or untrue in one of
+/// every way.
 pub fn card(rng: &mut Rng, image: &[u8], sizes: Sizes) -> Card {
-    let mut card = Card::fresh(sizes);
+    let mut card = Card::fresh(sizes, kind(rng));
     let line = if image.first().is_some_and(|b| b % 2 == 1) { ODD_STATES } else { EVEN_STATES };
     let levels = sizes.levels.min(MOST) as usize;
     let frames = sizes.frames.min(MOST);
@@ -239,12 +259,13 @@ pub fn card(rng: &mut Rng, image: &[u8], sizes: Sizes) -> Card {
 
 fn spoil_card(rng: &mut Rng, card: &mut Card) {
     let bit = 1 << rng.below(64);
-    match rng.below(6) {
+    match rng.below(7) {
         0 => card.touched |= bit,
         1 => card.marks[rng.below(64)] |= bit,
         2 => card.marks[rng.below(card.sizes.levels.clamp(1, 64) as usize)] |= bit,
         3 => card.sizes = odd_sizes(rng, card.sizes),
         4 => card.touched = rng.word(),
+        5 => card.kind = odd_kind(rng),
         _ => *card = Card::zeros(),
     }
 }
@@ -433,9 +454,10 @@ pub fn discarding_on(rng: &mut Rng, card: &Card, sizes: Sizes) -> u64 {
     }
 }
 
-/// Any call of a history with this run: good ones mostly, refused ones of each
-/// kind too, some lent another run. One in six is a discard, which is lent none.
-pub fn call(rng: &mut Rng, sizes: Sizes, own: &[Console]) -> Call {
+/// Any call of a history with this run, whose openings are given this kind: good ones
+/// mostly, refused ones of each kind too, some lent another run. One in six is a
+/// discard, which is lent none.
+pub fn call(rng: &mut Rng, sizes: Sizes, kind: u64, own: &[Console]) -> Call {
     if rng.once_in(6) {
         let room = sizes.discard_room();
         let tape = match rng.below(4) {
@@ -453,8 +475,9 @@ pub fn call(rng: &mut Rng, sizes: Sizes, own: &[Console]) -> Call {
             Deed::Write(Target { console, ..target }, bytes)
         }
         13..=17 => Deed::Save,
-        18 if rng.once_in(2) => Deed::Open(odd_sizes(rng, sizes)),
-        _ => Deed::Open(sizes),
+        18 if rng.once_in(2) => Deed::Open(odd_sizes(rng, sizes), kind),
+        19 if rng.once_in(4) => Deed::Open(sizes, odd_kind(rng)),
+        _ => Deed::Open(sizes, kind),
     };
     let room = sizes.room();
     let tape = match rng.below(12) {

@@ -17,6 +17,7 @@ use crate::laws::{Seen, Tally, Tried};
 use crate::prng::Rng;
 use crate::report::{Found, Outcome};
 use crate::sheet;
+use crate::tapes;
 
 /// What stands in memory before anyone writes there.
 pub enum Rubbish {
@@ -69,11 +70,11 @@ pub struct Ran {
 }
 
 impl Ran {
-    /// Feeds a tally the call, whose orders are well formed.
+    /// Feeds a tally the call, whose orders are well formed, and holds its tape.
     pub fn feed(&self, tally: &mut Tally, call: &Call) -> Result<Tried, String> {
         let orders = orders_of(&self.orders, self.dump.len()).ok_or("an order is ill formed")?;
         let Ran { answer, tape, card_lent, card, lent, left, before, dump, .. } = self;
-        tally.feed(Seen {
+        let seen = Seen {
             deed: &call.deed,
             number: answer.number,
             tape: *tape,
@@ -84,7 +85,8 @@ impl Ran {
             left,
             before,
             after: dump,
-        })
+        };
+        tally.feed(seen).and_then(|tried| tapes::hold(seen, tried))
     }
 }
 
@@ -192,7 +194,7 @@ pub fn one_sheet<C: Calls>(calls: &C) -> Outcome {
 }
 
 /// Random histories on two benches, from laid-out images and from sound ones, of
-/// one console or of several, with the same orders and dumps after every call,
+/// either kind of module, of one console or of several, with the same orders and dumps after every call,
 /// whatever stood on their tapes and however long these are. Each law must be
 /// tried.
 pub fn random_histories<C: Calls>(calls: &C, seed: u64, histories: u64) -> Outcome {
@@ -206,14 +208,15 @@ pub fn random_histories<C: Calls>(calls: &C, seed: u64, histories: u64) -> Outco
             one.image = arbitrary::sound_image(&mut rng, sizes);
             other.image.clone_from(&one.image);
         }
+        let kind = arbitrary::kind(&mut rng);
         let run = arbitrary::own_run(&mut rng, sizes);
         one.run.clone_from(&run);
         other.run.clone_from(&run);
         let mut tally = Tally::start(&one.image, sizes, &run);
         for place in 0..=CALLS {
             let call = match place {
-                0 => plain(Deed::Open(sizes), sizes),
-                _ => arbitrary::call(&mut rng, sizes, &run),
+                0 => plain(Deed::Open(sizes, kind), sizes),
+                _ => arbitrary::call(&mut rng, sizes, kind, &run),
             };
             let first = one.run(&call, 0);
             // the second tape may be longer, where the first was long enough

@@ -62,7 +62,7 @@ impl Book {
     pub fn feed(&mut self, deed: &Deed, served: bool) {
         match deed {
             _ if !served => {}
-            Deed::Open(_) => self.working.clone_from(&self.saved),
+            Deed::Open(..) => self.working.clone_from(&self.saved),
             Deed::Save => self.saved.clone_from(&self.working),
             Deed::Discard(level) => self.drop_edits(*level as usize),
             Deed::Write(target, bytes) => {

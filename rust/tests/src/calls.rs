@@ -21,6 +21,11 @@ pub const MOST: u64 = 64;
 pub const MOST_CONSOLES: usize = 8;
 pub const UNPAIRED: u8 = 255;
 
+/// The kinds of module: at a cut the cache of kind 0 may lose what was not flushed,
+/// that of kind 1 keeps every store. There is no other.
+pub const ADR: u64 = 0;
+pub const EADR: u64 = 1;
+
 /// M, S and B.
 #[derive(Clone, Copy, PartialEq, Eq, Debug)]
 pub struct Sizes {
@@ -98,16 +103,18 @@ pub struct Card {
     pub sizes: Sizes,
     pub touched: u64,
     pub marks: [u64; 64],
+    /// The kind of the module, as the opening was given it.
+    pub kind: u64,
 }
 
 impl Card {
-    /// A card of these sizes with no bits set; of sizes 0, the card of zeros.
-    pub const fn fresh(sizes: Sizes) -> Card {
-        Card { sizes, touched: 0, marks: [0; 64] }
+    /// A card of these sizes and this kind with no bits set.
+    pub const fn fresh(sizes: Sizes, kind: u64) -> Card {
+        Card { sizes, touched: 0, marks: [0; 64], kind }
     }
 
     pub const fn zeros() -> Card {
-        Card::fresh(Sizes::new(0, 0, 0))
+        Card::fresh(Sizes::new(0, 0, 0), 0)
     }
 }
 
@@ -227,7 +234,8 @@ pub enum Page {
 /// tape.
 #[derive(Clone, PartialEq, Eq, Debug)]
 pub enum Deed {
-    Open(Sizes),
+    /// With the sizes and the kind of the module.
+    Open(Sizes, u64),
     Write(Target, Vec<u8>),
     /// The unsaved edits of a level are dropped.
     Discard(u64),
@@ -237,7 +245,7 @@ pub enum Deed {
 impl fmt::Display for Deed {
     fn fmt(&self, f: &mut fmt::Formatter) -> fmt::Result {
         match self {
-            Deed::Open(sizes) => write!(f, "open {sizes}"),
+            Deed::Open(sizes, kind) => write!(f, "open {sizes} as kind {kind}"),
             Deed::Discard(level) => write!(f, "discard of level {level}"),
             Deed::Save => write!(f, "save"),
             Deed::Write(target, bytes) => {

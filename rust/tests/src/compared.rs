@@ -5,12 +5,12 @@
 //! difference is kept. The caller gets what the tested one gave, so the explorer
 //! over a `Compared` is a history through the tested one, held against the other
 //! step by step. The numbers that each call knows are those of section 14.
-//! Writes are counted by their spans, calls by the records, and discards by what
-//! they store (`laws`).
+//! Writes are counted by their spans, calls by the records and by the kind of module,
+//! and discards by what they store (`laws`).
 
 use crate::book::{state_of, told};
 use crate::calls::*;
-use crate::laws::{Charges, Discards, Spans};
+use crate::laws::{Charges, Discards, OfKind, Spans};
 use std::cell::{Cell, RefCell};
 use std::collections::BTreeMap;
 
@@ -19,7 +19,7 @@ const LISTED: [(&str, &[u64]); 8] = [
     ("discard", &[0, 1, 2, 3, 4, 5, 6, 11]),
     ("lay_out", &[0, 1, 2]),
     ("like", &[0, 1, 2, 3, 4]),
-    ("open", &[0, 1, 2, 3, 4, 11, 13]),
+    ("open", &[0, 1, 2, 3, 4, 5, 11, 13]),
     ("play", &[0, 2, 12]),
     ("read", &[0, 1, 2, 3, 4, 6, 7]),
     ("save", &[0, 1, 2, 3, 4, 5, 10, 11, 13]),
@@ -48,7 +48,7 @@ fn tapes(got: &[u64], due: &[u64]) -> String {
 /// The name of a call that writes a tape, as it is listed.
 fn name_of(deed: &Deed) -> &'static str {
     match deed {
-        Deed::Open(_) => "open",
+        Deed::Open(..) => "open",
         Deed::Write(..) => "write",
         Deed::Discard(_) => "discard",
         Deed::Save => "save",
@@ -66,6 +66,7 @@ pub struct Compared<'a, G: Calls, T: Calls> {
     spans: Cell<Spans>,
     charges: Cell<Charges>,
     discards: Cell<Discards>,
+    kinds: Cell<OfKind>,
     differences: Cell<u64>,
     first: RefCell<Option<String>>,
 }
@@ -73,8 +74,9 @@ pub struct Compared<'a, G: Calls, T: Calls> {
 impl<'a, G: Calls, T: Calls> Compared<'a, G, T> {
     pub fn new(good: &'a G, tested: &'a T) -> Compared<'a, G, T> {
         let (answers, first, differences) = (RefCell::default(), RefCell::default(), Cell::new(0));
-        let (spans, charges, discards) = (Cell::default(), Cell::default(), Cell::default());
-        Compared { good, tested, answers, spans, charges, discards, differences, first }
+        let (spans, charges) = (Cell::default(), Cell::default());
+        let (discards, kinds) = (Cell::default(), Cell::default());
+        Compared { good, tested, answers, spans, charges, discards, kinds, differences, first }
     }
 
     /// How many writes of each kind of span were compared.
@@ -90,6 +92,11 @@ impl<'a, G: Calls, T: Calls> Compared<'a, G, T> {
     /// How many discards of each kind were compared.
     pub fn discards(&self) -> Discards {
         self.discards.get()
+    }
+
+    /// How many calls of each that the kind of module decides were compared.
+    pub fn kinds(&self) -> OfKind {
+        self.kinds.get()
     }
 
     /// How many calls were compared.
@@ -132,7 +139,7 @@ impl<'a, G: Calls, T: Calls> Compared<'a, G, T> {
     fn count(&self, deed: &Deed, image: &[u8], card: &Card, lent: &[Console], number: u64, changes: bool) {
         let (mut charges, mut spans) = (self.charges.get(), self.spans.get());
         match deed {
-            Deed::Open(sizes) => charges.feed(None, lent, sizes.spares, number),
+            Deed::Open(sizes, _) => charges.feed(None, lent, sizes.spares, number),
             Deed::Save => charges.feed(None, lent, card.sizes.spares, number),
             Deed::Discard(_) => {}
             Deed::Write(target, bytes) => {
@@ -159,6 +166,22 @@ impl<'a, G: Calls, T: Calls> Compared<'a, G, T> {
             discards.feed(number, touched, state, card.marks[level], tape);
             self.discards.set(discards);
         }
+    }
+
+    /// Counts a call by the kind of module, from what it got and what was due. A card's
+    /// kind alone is refused if the same card of kind 0 is not.
+    fn count_kind(&self, deed: &Deed, image: &[u8], card: &Card, lent: &[Console], due: Answer) {
+        let kind = if let Deed::Open(_, kind) = deed { *kind } else { card.kind };
+        let opens = matches!(deed, Deed::Open(..));
+        let kind_alone = || {
+            let (mut of_kind_0, mut run) = (Card { kind: ADR, ..*card }, lent.to_vec());
+            self.good.make(deed, image, Given::of(&mut of_kind_0, &mut run, &mut [])).number != 5
+        };
+        let mut kinds = self.kinds.get();
+        kinds.unflushed += u64::from(due.orders > 0 && kind == EADR);
+        kinds.fives += u64::from(due.number == 5 && opens);
+        kinds.of_cards += u64::from(due.number == 5 && !opens && kind > EADR && kind_alone());
+        self.kinds.set(kinds);
     }
 
     fn judge(&self, call: &'static str, number: u64, same: bool, tell: impl Fn() -> String) {
@@ -191,6 +214,7 @@ impl<G: Calls, T: Calls> Calls for Compared<'_, G, T> {
             Deed::Discard(level) => self.count_discard(*level, image, &given, tape.len(), due.number),
             _ => self.count(deed, image, &given, &lent, due.number, run_due != lent),
         }
+        self.count_kind(deed, image, &given, &lent, due);
         let same = (got, &*card, &*run) == (due, &card_due, &run_due) && tape_due == tape && kept == image;
         self.judge(name_of(deed), due.number, same, || {
             let (told, lent) = (tapes(tape, &tape_due), told(&lent));

@@ -14,7 +14,7 @@ use crate::book::{told, Call};
 use crate::calls::*;
 use crate::explore::*;
 use crate::groups::{add, all_found, due, laid_out, metadata_of, plain, starts, states, Going};
-use crate::laws::{never_at, EMPTY_KEPT, OF_DISCARDS, OF_SPANS, TO_ZEROS};
+use crate::laws::{never_at, EMPTY_KEPT, OF_DISCARDS, OF_SPANS, TO_ZEROS, UNFLUSHED};
 use crate::report::Outcome;
 
 /// A console at the start of a level.
@@ -41,7 +41,7 @@ type Row = (&'static str, Call, (u64, u64), [u64; 2]);
 
 fn rows() -> Vec<Row> {
     let (stage, gallery) = (|level| word(SIZES, STAGE, level, 1), |level| word(SIZES, GALLERY, level, 2));
-    let (open, save) = (plain(Deed::Open(SIZES), SIZES), plain(Deed::Save, SIZES));
+    let (open, save) = (plain(Deed::Open(SIZES, ADR), SIZES), plain(Deed::Save, SIZES));
     let discard = |level| plain(Deed::Discard(level), SIZES);
     let short = Call { tape: 14, ..gallery(3) };
     let too_much = Call { lent: Some(vec![Console::new(2, 2); 2]), ..save.clone() };
@@ -107,11 +107,11 @@ fn runs_of_two(spares: u64) -> Vec<[Console; 2]> {
 }
 
 /// The calls of short histories: a save, an opening, a discard and a write of each
-/// console to each level; at the end of a history also calls that the records or the
-/// tape refuse.
+/// console to each level; at the end of a history also calls that the records, the
+/// tape or the kind refuse.
 fn alphabet(sizes: Sizes, depth: usize, at: usize) -> Vec<Call> {
     let writers = (0..2).flat_map(|console| (0..sizes.levels).map(move |level| (console, level)));
-    let mut calls = vec![plain(Deed::Save, sizes), plain(Deed::Open(sizes), sizes)];
+    let mut calls = vec![plain(Deed::Save, sizes), plain(Deed::Open(sizes, ADR), sizes)];
     calls.push(plain(Deed::Discard(0), sizes));
     calls.extend(writers.map(|(console, level)| word(sizes, console, level, at)));
     if at + 1 == depth {
@@ -123,7 +123,8 @@ fn alphabet(sizes: Sizes, depth: usize, at: usize) -> Vec<Call> {
             Call { tape: 0, ..plain(Deed::Discard(0), sizes) },
             no_such,
             Call { lent: Some(bad.clone()), ..first },
-            Call { deed: Deed::Write(start_of(0, 0), vec![]), lent: Some(bad), tape: 0 },
+            Call { deed: Deed::Write(start_of(0, 0), vec![]), lent: Some(bad.clone()), tape: 0 },
+            Call { deed: Deed::Open(sizes, 2), lent: Some(bad), tape: 0 },
             Call { deed: Deed::Save, lent: Some(wrapping), tape: sizes.room() },
         ]);
     }
@@ -150,7 +151,7 @@ pub fn of_two<C: Calls>(calls: &C, sizes: Sizes, depth: usize, runs: usize, plan
         }
         add(&mut total, Counts { histories, ..explorer.counts() });
     }
-    let mut left_out = [never_at(sizes), OF_SPANS.to_vec()].concat();
+    let mut left_out = [never_at(sizes), OF_SPANS.to_vec(), vec![UNFLUSHED]].concat();
     left_out.extend([EMPTY_KEPT, TO_ZEROS].iter().filter(|_| sizes.spares > 1));
     left_out.extend(OF_DISCARDS.iter().filter(|_| depth < 3));
     total.tried.all_tried(&left_out)?;

@@ -20,6 +20,7 @@ pub enum Spoil {
     CardSizes(CallKind),
     CardTouched(CallKind),
     CardMarks(CallKind),
+    CardKind(CallKind),
     RunShare(CallKind),
     RunLimit(CallKind),
     RunTaken(CallKind),
@@ -52,7 +53,7 @@ impl Spoil {
         let mut all = vec![LaidOutNumber, LaidOutImage, PlayedNumber, PlayedOrders, PlayedImage];
         all.extend([ReadNumber, ReadStart, ReadLength, LikeNumber, Likeness]);
         for deed in [CallKind::Open, CallKind::Write, CallKind::Discard, CallKind::Save] {
-            all.extend([Number, Orders, CardSizes, CardTouched, CardMarks].map(|kind| kind(deed)));
+            all.extend([Number, Orders, CardSizes, CardTouched, CardMarks, CardKind].map(|kind| kind(deed)));
             all.extend([TapeKind, TapePlace, TapeWord, TapeBehind].map(|kind| kind(deed)));
             if deed != CallKind::Discard {
                 all.extend([RunShare, RunLimit, RunTaken].map(|kind| kind(deed)));
@@ -115,6 +116,7 @@ impl<'a, C: Calls> Corrupted<'a, C> {
         card.sizes.spares ^= u64::from(self.now(Spoil::CardSizes(kind), true));
         card.touched ^= u64::from(self.now(Spoil::CardTouched(kind), true));
         card.marks[63] ^= u64::from(self.now(Spoil::CardMarks(kind), true));
+        card.kind ^= u64::from(self.now(Spoil::CardKind(kind), true));
         if let Some(last) = run.last_mut() {
             last.share ^= u64::from(self.now(Spoil::RunShare(kind), true));
             last.limit ^= u64::from(self.now(Spoil::RunLimit(kind), true));
@@ -145,7 +147,7 @@ impl<C: Calls> Calls for Corrupted<'_, C> {
     fn make(&self, deed: &Deed, image: &[u8], Given { card, run, tape }: Given) -> Answer {
         let answer = self.calls.make(deed, image, Given::of(card, run, tape));
         match deed {
-            Deed::Open(_) => self.answered(CallKind::Open, answer, card, run, tape),
+            Deed::Open(..) => self.answered(CallKind::Open, answer, card, run, tape),
             Deed::Write(..) => self.answered(CallKind::Write, answer, card, run, tape),
             Deed::Discard(_) => self.answered(CallKind::Discard, answer, card, &mut [], tape),
             Deed::Save => self.answered(CallKind::Save, answer, card, run, tape),

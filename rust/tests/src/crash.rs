@@ -1,13 +1,14 @@
 //! The cut model (section 7).
 //!
-//! The rule: after a cut each line, on its own, holds its bytes after some first
-//! part of the stores to it, and that part has at least every store before a
-//! flush of the line that a later fence followed. `Module` keeps, line by line,
+//! The rule for a module of kind 0: after a cut each line, on its own, holds its
+//! bytes after some first part of the stores to it, and that part has at least every
+//! store before a flush of the line that a later fence followed. A module of kind 1
+//! holds every store played: there is one image. `Module` keeps, line by line,
 //! the stages that are still permitted, and is fed one order after the other;
 //! `permitted` is the same rule read off a finished list of orders. `groups`
 //! checks the two against each other.
 
-use crate::calls::{Order, LINE, WORD};
+use crate::calls::{Order, EADR, LINE, WORD};
 use crate::prng::{mix, Rng};
 use std::collections::BTreeMap;
 
@@ -54,19 +55,20 @@ struct Waiting {
 /// The module behind its cache: what each line may hold after a cut now.
 #[derive(Clone)]
 pub struct Module {
+    kind: u64,
     newest: Vec<u8>,
     hash: u128,
     lines: BTreeMap<usize, Waiting>,
 }
 
 impl Module {
-    /// A module on which all is held.
-    pub fn held(image: &[u8]) -> Module {
+    /// A module of this kind on which all is held.
+    pub fn held(kind: u64, image: &[u8]) -> Module {
         let lines = image.chunks(LINE).enumerate();
         let hash = lines
             .map(|(line, bytes)| Stage::new(line, bytes.try_into().expect("whole lines")).hash)
             .fold(0u128, u128::wrapping_add);
-        Module { newest: image.to_vec(), hash, lines: BTreeMap::new() }
+        Module { kind, newest: image.to_vec(), hash, lines: BTreeMap::new() }
     }
 
     /// What the calls see: every order played.
@@ -91,6 +93,9 @@ impl Module {
                 }
                 self.lines.retain(|_, waiting| waiting.stores > 0);
             }
+        }
+        if self.kind == EADR {
+            self.lines.clear();
         }
     }
 
@@ -220,20 +225,22 @@ impl Cut<'_> {
     }
 }
 
-/// The rule read off a list of orders played since `held`: what one line may
-/// hold, once for each first part of the stores to it, in their order.
-pub fn permitted(held: &[u8], orders: &[Order], line: usize) -> Vec<LineBytes> {
+/// The rule read off a list of orders played since `held` on a module of this kind:
+/// what one line may hold, once for each first part of the stores to it, in their
+/// order.
+pub fn permitted(kind: u64, held: &[u8], orders: &[Order], line: usize) -> Vec<LineBytes> {
     let of_line = |place: usize| place / LINE == line;
     let stores_before = |end: usize| {
         let is_store = |o: &&Order| matches!(o, Order::Store { place, .. } if of_line(*place));
         orders[..end].iter().filter(is_store).count()
     };
     let fenced = |at: usize| orders[at..].contains(&Order::Fence);
-    let floor = (0..orders.len())
+    let flushed = (0..orders.len())
         .filter(|&at| matches!(orders[at], Order::Flush { place } if of_line(place)) && fenced(at))
         .map(stores_before)
         .max()
         .unwrap_or(0);
+    let floor = if kind == EADR { stores_before(orders.len()) } else { flushed };
     let mut bytes: LineBytes = held[line * LINE..][..LINE].try_into().expect("a whole line");
     let mut all = vec![bytes];
     for order in orders {

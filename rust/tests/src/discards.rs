@@ -76,9 +76,9 @@ fn after_a_restart() -> Vec<Row> {
     let other = Sizes { frames: 1, ..SIZES };
     vec![
         ("its own spare", word(0, 0, 0x77), (0, 77), (1, [1, 1]), [2, 1]),
-        ("a refused opening", plain(Deed::Open(other), SIZES), (2, 0), (0, [0, 0]), [2, 1]),
+        ("a refused opening", plain(Deed::Open(other, ADR), SIZES), (2, 0), (0, [0, 0]), [2, 1]),
         ("on a card of zeros", discard(0), (1, 0), (0, [0, 0]), [2, 1]),
-        ("the level is restored", plain(Deed::Open(SIZES), SIZES), (0, 73), (0, [0, 0]), [2, 1]),
+        ("the level is restored", plain(Deed::Open(SIZES, ADR), SIZES), (0, 73), (0, [0, 0]), [2, 1]),
         ("nobody touched it since", lent(0, 0), (0, 0), (0, [0, 0]), [2, 1]),
         ("an edit of a restored level", word(0, 1, 0x88), (0, 1), (1, [2, 0]), [2, 1]),
         ("from its spare", lent(0, 96), (0, 32), (1, [2, 0]), [2, 1]),
@@ -130,7 +130,7 @@ fn rows_of_17_8() -> Vec<Worked> {
         (discard(0, 95), (11, 0), [2, 0], [first, none], 3),
         (save, (0, 22), [1, 1], [first, none], 0),
         (discard(0, 0), (0, 0), [1, 1], [first, none], 0),
-        (plain(Deed::Open(BOARD), BOARD), (0, 37), [1, 1], [first, none], 0),
+        (plain(Deed::Open(BOARD, ADR), BOARD), (0, 37), [1, 1], [first, none], 0),
     ]
 }
 
@@ -165,7 +165,7 @@ pub fn longest<C: Calls>(calls: &C) -> Outcome {
         let image = image_of(sizes, 6, &in_spare, 0, &distinct_data(sizes));
         let (marks, orders) = (u64::MAX >> (64 - frames), 32 * frames);
         let discard = |touched: u64, numbers: u64| {
-            let mut card = Card::fresh(sizes);
+            let mut card = Card::fresh(sizes, ADR);
             (card.touched, card.marks[0]) = (touched, marks);
             let (given, mut tape) = (card, vec![0; numbers as usize]);
             let answer = calls.make(&Deed::Discard(0), &image, Given::of(&mut card, &mut [], &mut tape));

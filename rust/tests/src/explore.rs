@@ -7,7 +7,12 @@
 //! lent any run that 13 does not refuse, and the first opening that finishes must
 //! be served and show a permitted page. The faults of section 18 are caught by it
 //! (`selftest`). After each call both reads must give the book's pages, and the
-//! laws of sections 11.5, 10.9, 3.4, 10.10, 15.7 and 10.12 must hold (`laws`).
+//! laws of sections 11.5, 10.9, 3.4, 10.10, 15.7 and 10.12 (`laws`) and those of the
+//! tapes (`tapes`) must hold.
+//!
+//! A module has a kind, and its openings are given one. Demand 3 supposes that they
+//! are the same; a module of kind 1 whose openings are given kind 0 keeps it too, and
+//! one of kind 0 whose openings are given kind 1 does not (`kinds`).
 //!
 //! A page is shown only if the levels that were never set, and no others, are
 //! empty: a little more than the demand asks, as a level of zeros would do.
@@ -32,6 +37,7 @@ use crate::calls::*;
 use crate::crash::Module;
 use crate::laws::{Seen, Tally, Tried};
 use crate::prng::Rng;
+use crate::tapes;
 use std::collections::{BTreeSet, HashMap};
 use std::hash::{BuildHasherDefault, Hasher};
 
@@ -60,6 +66,20 @@ impl Plan {
     pub const ALL: Plan = Plan { images: Images::All { cap: 1 << 20 }, every_cut_up_to: usize::MAX };
 }
 
+/// The kind of a module, and the kind that its openings are given.
+#[derive(Clone, Copy, PartialEq, Eq, Debug)]
+pub struct Kinds {
+    pub module: u64,
+    pub given: u64,
+}
+
+impl Kinds {
+    pub const ADR: Kinds = Kinds { module: ADR, given: ADR };
+    pub const EADR: Kinds = Kinds { module: EADR, given: EADR };
+    pub const EADR_AS_ADR: Kinds = Kinds { module: EADR, given: ADR };
+    pub const ADR_AS_EADR: Kinds = Kinds { module: ADR, given: EADR };
+}
+
 /// What was looked at; `LEGEND` says it for those who read the lines.
 #[derive(Clone, Copy, Default, Debug)]
 pub struct Counts {
@@ -86,7 +106,8 @@ restored levels settled, empty levels kept: those in state 2 and in state 0 that
 spares taken: by writes that needed a new one; passed over: with a lower one whose level was in state 2
 long writes: served writes over several frames; refusals 8: those by one of its conditions alone
 shares needed: copying writes of a console below its share, since a save, while another was above its own
-discards from a spare, to zeros: of marked frames of touched levels; untouched levels get no order, whatever the tape";
+discards from a spare, to zeros: of marked frames of touched levels; untouched levels get no order, whatever the tape
+unflushed tapes: of served calls in a session of kind 1; refusals 5 of a kind: of openings that were given one above 1";
 
 /// A history in progress: what stands, the card last answered, the consoles'
 /// records as the last call left them, the book, and the tally of the laws.
@@ -110,6 +131,7 @@ pub struct Step {
 pub struct Explorer<'a, C: Calls> {
     calls: &'a C,
     sizes: Sizes,
+    kinds: Kinds,
     rng: Rng,
     /// The page that an image shows, by the image's hash of 128 bits.
     known: HashMap<u128, usize, BuildHasherDefault<AlreadyHashed>>,
@@ -141,11 +163,12 @@ impl Hasher for AlreadyHashed {
 const RUBBISH: u64 = 0xa5a5_5a5a_dead_beef;
 
 impl<'a, C: Calls> Explorer<'a, C> {
-    /// An explorer of histories with these sizes.
+    /// An explorer of histories with these sizes on a module of kind 0.
     pub fn new(calls: &'a C, sizes: Sizes, seed: u64) -> Explorer<'a, C> {
         Explorer {
             calls,
             sizes,
+            kinds: Kinds::ADR,
             rng: Rng::new(seed),
             known: HashMap::default(),
             pages: Vec::new(),
@@ -153,6 +176,11 @@ impl<'a, C: Calls> Explorer<'a, C> {
             counts: Counts::default(),
             laws: true,
         }
+    }
+
+    /// The same with these kinds.
+    pub fn of(self, kinds: Kinds) -> Self {
+        Explorer { kinds, ..self }
     }
 
     /// An explorer that holds histories against demand 3 and the book alone.
@@ -184,18 +212,24 @@ impl<'a, C: Calls> Explorer<'a, C> {
     pub fn start_lent(&mut self, image: &[u8], run: &[Console], plan: Plan) -> Result<History, String> {
         let book = Book::start(image, self.sizes);
         let saved = self.page_number(&book.saved);
-        self.look_at(&Module::held(image), plan, &[saved])?;
+        self.look_at(&self.held(image), plan, &[saved])?;
         let mut run = run.to_vec();
         let orders = self.opening(image, &mut run)?;
-        let mut module = Module::held(image);
+        let mut module = self.held(image);
         orders.iter().for_each(|order| module.play(*order));
         if module.cut().count() != 1 {
             return Err("a finished opening leaves something waiting".to_string());
         }
         let tally = Tally::start(image, self.sizes, &run);
-        let history = History { module, card: Card::fresh(self.sizes), run, book, tally };
+        let card = Card::fresh(self.sizes, self.kinds.given);
+        let history = History { module, card, run, book, tally };
         self.check_reads(&history)?;
         Ok(history)
+    }
+
+    /// The module with this image on it, all held.
+    fn held(&self, image: &[u8]) -> Module {
+        Module::held(self.kinds.module, image)
     }
 
     /// Runs one call of a history, looks at its cuts and plays it.
@@ -244,7 +278,7 @@ impl<'a, C: Calls> Explorer<'a, C> {
                 before: &image,
                 after: history.module.image(),
             };
-            let tried = history.tally.feed(seen);
+            let tried = history.tally.feed(seen).and_then(|tried| tapes::hold(seen, tried));
             self.counts.tried.add(tried.map_err(|what| format!("{call}: {what}"))?);
         }
         Ok(Step { answer, orders, shown })
@@ -258,7 +292,7 @@ impl<'a, C: Calls> Explorer<'a, C> {
         deed: &Deed,
         tape: &mut [u64],
     ) -> Result<Answer, String> {
-        let unchanged = if matches!(deed, Deed::Open(_)) { Card::zeros() } else { *card };
+        let unchanged = if matches!(deed, Deed::Open(..)) { Card::zeros() } else { *card };
         let lent = run.to_vec();
         let answer = self.calls.make(deed, image, Given::of(card, run, tape));
         match answer.served() || (*card == unchanged && *run == lent && answer.orders == 0) {
@@ -375,7 +409,7 @@ impl<'a, C: Calls> Explorer<'a, C> {
         let mut stands = image;
         for _ in 0..chain {
             let orders = self.opening_again(&stands)?;
-            let mut module = Module::held(&stands);
+            let mut module = self.held(&stands);
             let p = self.rng.range(0, orders.len());
             orders[..p].iter().for_each(|order| module.play(*order));
             stands = module.cut().sample(&mut self.rng);
@@ -392,7 +426,7 @@ impl<'a, C: Calls> Explorer<'a, C> {
         let mut unexplored = vec![image];
         while let Some(image) = unexplored.pop() {
             let orders = self.opening_again(&image)?;
-            let mut module = Module::held(&image);
+            let mut module = self.held(&image);
             for order in orders {
                 module.play(order);
                 self.counts.cuts += 1;
@@ -426,7 +460,7 @@ impl<'a, C: Calls> Explorer<'a, C> {
 
     /// The orders of opening this image, which must be served.
     fn opening(&mut self, image: &[u8], run: &mut [Console]) -> Result<Vec<Order>, String> {
-        let n = open_again(self.calls, image, self.sizes, run, &mut self.tape)?;
+        let n = open_again(self.calls, image, self.sizes, self.kinds.given, run, &mut self.tape)?;
         let orders = self.tape.get(..n.saturating_mul(3)).and_then(|part| orders_of(part, image.len()));
         orders.ok_or("opening's tape is bad".to_string())
     }
@@ -438,7 +472,7 @@ impl<'a, C: Calls> Explorer<'a, C> {
         let n = self.opening_again(image)?.len();
         let exact = &mut self.tape[..3 * n];
         let mut run = arbitrary::run(&mut self.rng, self.sizes.spares);
-        open_again(self.calls, image, self.sizes, &mut run, exact)?;
+        open_again(self.calls, image, self.sizes, self.kinds.given, &mut run, exact)?;
         let mut played = image.to_vec();
         let answer = self.calls.play(&mut played, exact, n as u64);
         if answer != (Answer { number: 0, orders: n as u64 }) {
@@ -458,13 +492,14 @@ fn open_again<C: Calls>(
     calls: &C,
     image: &[u8],
     sizes: Sizes,
+    kind: u64,
     run: &mut [Console],
     tape: &mut [u64],
 ) -> Result<usize, String> {
     let mut card = Card::zeros();
     let due: Vec<Console> = run.iter().map(|console| Console { taken: 0, ..*console }).collect();
-    let answer = calls.make(&Deed::Open(sizes), image, Given::of(&mut card, run, tape));
-    if !answer.served() || card != Card::fresh(sizes) {
+    let answer = calls.make(&Deed::Open(sizes, kind), image, Given::of(&mut card, run, tape));
+    if !answer.served() || card != Card::fresh(sizes, kind) {
         return Err(format!("opening again answers {}", answer.number));
     }
     match *run == due {

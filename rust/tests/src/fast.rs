@@ -21,9 +21,10 @@ use crpm::ffi::{Client, Session};
 
 /// How runs of orders are written and played.
 pub trait Form {
-    /// The 36 orders of copying a frame's 256 bytes to a place.
+    /// The orders of copying a frame's 256 bytes to a place: 32 stores, and as many
+    /// flushes as there is room for behind them.
     fn copy(tape: &mut [u64], to: usize, part: &[u8]);
-    /// The 36 orders of filling the frame at a place with zeros.
+    /// Those of filling the frame at a place with zeros.
     fn fill(tape: &mut [u64], to: usize);
     /// The stores of whole words from a place on.
     fn store(tape: &mut [u64], to: usize, words: &[[u8; 8]]);
@@ -35,15 +36,30 @@ pub trait Form {
 pub struct Indexed;
 pub struct Chunked;
 
-const FRAME_NUMBERS: usize = 108;
+/// The numbers of a frame's stores.
+const STORED: usize = 96;
+
+/// How many flushes there are of these on a module of this kind.
+fn flushed(kind: u64, flushes: usize) -> usize {
+    if kind == ADR {
+        flushes
+    } else {
+        0
+    }
+}
+
+/// The numbers of a frame that is copied.
+fn frame_numbers(kind: u64) -> usize {
+    STORED + 3 * flushed(kind, 4)
+}
 
 fn put(tape: &mut [u64], at: usize, order: [u64; 3]) {
     tape[3 * at..3 * at + 3].copy_from_slice(&order);
 }
 
-fn flushes(tape: &mut [u64], first: usize, to: usize) {
-    for i in 0..4 {
-        put(tape, first + i, [2, (to + LINE * i) as u64, 0]);
+fn flushes(tape: &mut [u64], to: usize) {
+    for i in 0..tape.len() / 3 {
+        put(tape, i, [2, (to + LINE * i) as u64, 0]);
     }
 }
 
@@ -59,23 +75,23 @@ fn good_order(kind: u64, place: u64, word: u64, length: u64) -> bool {
 
 impl Form for Indexed {
     fn copy(tape: &mut [u64], to: usize, part: &[u8]) {
-        let (tape, part) = (&mut tape[..FRAME_NUMBERS], &part[..FRAME]);
+        let ((stores, rest), part) = (tape.split_at_mut(STORED), &part[..FRAME]);
         for i in 0..32 {
-            tape[3 * i] = 1;
-            tape[3 * i + 1] = (to + 8 * i) as u64;
-            tape[3 * i + 2] = word_at(part, 8 * i);
+            stores[3 * i] = 1;
+            stores[3 * i + 1] = (to + 8 * i) as u64;
+            stores[3 * i + 2] = word_at(part, 8 * i);
         }
-        flushes(tape, 32, to);
+        flushes(rest, to);
     }
 
     fn fill(tape: &mut [u64], to: usize) {
-        let tape = &mut tape[..FRAME_NUMBERS];
+        let (stores, rest) = tape.split_at_mut(STORED);
         for i in 0..32 {
-            tape[3 * i] = 1;
-            tape[3 * i + 1] = (to + 8 * i) as u64;
-            tape[3 * i + 2] = 0;
+            stores[3 * i] = 1;
+            stores[3 * i + 1] = (to + 8 * i) as u64;
+            stores[3 * i + 2] = 0;
         }
-        flushes(tape, 32, to);
+        flushes(rest, to);
     }
 
     fn store(tape: &mut [u64], to: usize, words: &[[u8; 8]]) {
@@ -107,7 +123,7 @@ impl Form for Indexed {
 
 impl Form for Chunked {
     fn copy(tape: &mut [u64], to: usize, part: &[u8]) {
-        let (orders, _) = tape[..FRAME_NUMBERS].as_chunks_mut::<3>();
+        let (orders, _) = tape.as_chunks_mut::<3>();
         let (words, _) = part[..FRAME].as_chunks::<8>();
         let (stores, flushes) = orders.split_at_mut(32);
         for ((order, word), place) in stores.iter_mut().zip(words).zip((to as u64..).step_by(8)) {
@@ -119,7 +135,7 @@ impl Form for Chunked {
     }
 
     fn fill(tape: &mut [u64], to: usize) {
-        let (orders, _) = tape[..FRAME_NUMBERS].as_chunks_mut::<3>();
+        let (orders, _) = tape.as_chunks_mut::<3>();
         let (stores, flushes) = orders.split_at_mut(32);
         for (order, place) in stores.iter_mut().zip((to as u64..).step_by(8)) {
             *order = [1, place, 0];
@@ -309,8 +325,8 @@ fn sizes_of(session: &Session) -> Sizes {
     Sizes::new(session.mains, session.backups, session.blocks)
 }
 
-/// Is the session true to sound metadata? Its words of marks are laid over one
-/// another.
+/// Is the session true to sound metadata, and of a kind that there is? Its words of
+/// marks are laid over one another.
 fn is_true(sound: &Sound, session: &Session) -> bool {
     let touched = session.dirty_segments;
     let (below, beyond) = session.dirty_blocks.split_at(session.mains as usize);
@@ -319,6 +335,7 @@ fn is_true(sound: &Sound, session: &Session) -> bool {
         && touched & sound.own == 0
         && within(all(below), session.blocks)
         && all(beyond) == 0
+        && session.domain <= EADR
 }
 
 /// What the shares that are not used yet add up to, in a run that 13 does not
@@ -366,32 +383,38 @@ fn answered(orders: &mut u64, result: Result<usize, u64>) -> u64 {
 pub fn open<F: Form>(
     image: &[u8],
     sizes: Sizes,
+    kind: u64,
     session: &mut Session,
     clients: &mut [Client],
     tape: &mut [u64],
     orders: &mut u64,
 ) -> u64 {
-    let opened = opening::<F>(image, sizes, clients, tape);
-    *session = if opened.is_ok() { session_of(&Card::fresh(sizes)) } else { Session::ZEROS };
+    let opened = opening::<F>(image, sizes, kind, clients, tape);
+    *session = if opened.is_ok() { session_of(&Card::fresh(sizes, kind)) } else { Session::ZEROS };
     answered(orders, opened)
 }
 
 fn opening<F: Form>(
     image: &[u8],
     sizes: Sizes,
+    kind: u64,
     clients: &mut [Client],
     tape: &mut [u64],
 ) -> Result<usize, u64> {
     let sound = Sound::of(image, sizes)?;
+    if kind > EADR {
+        return Err(5);
+    }
     unused_shares(clients, sizes.spares)?;
     let (levels, frames) = (sizes.levels as usize, sizes.frames as usize);
     let treats = |l: usize| sound.states[l] != 1 || has(sound.paired, l);
     let treated = (0..levels).filter(|l| treats(*l)).count();
-    let count = 36 * frames * treated + 1;
+    let numbers = frame_numbers(kind);
+    let count = numbers / 3 * frames * treated + 1;
     let tape = tape.get_mut(..3 * count).ok_or(11u64)?;
-    let mut level_parts = tape.chunks_exact_mut(FRAME_NUMBERS * frames);
+    let mut level_parts = tape.chunks_exact_mut(numbers * frames);
     for l in (0..levels).filter(|l| treats(*l)) {
-        let parts = level_parts.next().ok_or(11u64)?.chunks_exact_mut(FRAME_NUMBERS);
+        let parts = level_parts.next().ok_or(11u64)?.chunks_exact_mut(numbers);
         let own = sizes.in_level(l, 0);
         let spare = || sizes.in_spare(sound.spare_of(l), 0);
         match sound.states[l] {
@@ -459,6 +482,8 @@ fn writing<F: Form>(
         return Err(8);
     }
     let (level, frame, offset) = (target.level as usize, target.frame as usize, target.offset as usize);
+    let kind = session.domain;
+    let (frame_orders, turn_orders) = (frame_numbers(kind) / 3, 3 + flushed(kind, 1));
     let marks = session.dirty_blocks[level];
     let needs_copy = has(sound.own & !session.dirty_segments, level);
     let before = match (needs_copy, has(sound.paired, level)) {
@@ -476,19 +501,19 @@ fn writing<F: Form>(
     }
     let copied = match before {
         Before::Nothing => 0,
-        Before::Pair(_) => 36 * sizes.frames as usize + 6,
-        Before::Marked(_) => 36 * marks.count_ones() as usize + 4,
+        Before::Pair(_) => frame_orders * sizes.frames as usize + turn_orders + 1 + flushed(kind, 1),
+        Before::Marked(_) => frame_orders * marks.count_ones() as usize + turn_orders,
     };
     let words = (offset + length - 1) / 8 - offset / 8 + 1;
     let tape = tape.get_mut(..3 * (copied + words)).ok_or(11u64)?;
     match before {
         Before::Nothing => {}
-        Before::Pair(spare) => take::<F>(image, sizes, level, spare, tape),
-        Before::Marked(spare) => copy_marked::<F>(image, sizes, level, spare, marks, tape),
+        Before::Pair(spare) => take::<F>(image, sizes, kind, level, spare, tape),
+        Before::Marked(spare) => copy_marked::<F>(image, session, level, spare, tape),
     }
     if needs_copy {
         client.used += 1;
-        turn(image, sound.active, level, &mut tape[3 * (copied - 4)..]);
+        turn(image, sound.active, level, &mut tape[3 * (copied - turn_orders)..3 * copied]);
         session.dirty_blocks[level] = 0;
     }
     let first = sizes.in_level(level, frame) + offset;
@@ -505,36 +530,32 @@ fn byte_in_word(image: &[u8], at: usize, byte: u8) -> [u64; 3] {
     [1, place as u64, word]
 }
 
-fn take<F: Form>(image: &[u8], sizes: Sizes, level: usize, spare: usize, tape: &mut [u64]) {
-    put(tape, 0, byte_in_word(image, PAIRS + spare, level as u8));
-    put(tape, 1, [2, PAIRS as u64, 0]);
+fn take<F: Form>(image: &[u8], sizes: Sizes, kind: u64, level: usize, spare: usize, tape: &mut [u64]) {
+    let (pair, rest) = tape.split_at_mut(3 + 3 * flushed(kind, 1));
+    put(pair, 0, byte_in_word(image, PAIRS + spare, level as u8));
+    flushes(&mut pair[3..], PAIRS);
     let frames = sizes.frames as usize;
-    let parts = tape[6..].chunks_exact_mut(FRAME_NUMBERS).take(frames);
+    let parts = rest.chunks_exact_mut(frame_numbers(kind)).take(frames);
     copy_all::<F>(parts, &image[sizes.in_level(level, 0)..], sizes.in_spare(spare, 0));
 }
 
-fn copy_marked<F: Form>(
-    image: &[u8],
-    sizes: Sizes,
-    level: usize,
-    spare: usize,
-    mut marks: u64,
-    tape: &mut [u64],
-) {
-    let mut at = 0;
-    while marks != 0 {
+fn copy_marked<F: Form>(image: &[u8], session: &Session, level: usize, spare: usize, tape: &mut [u64]) {
+    let (sizes, mut marks) = (sizes_of(session), session.dirty_blocks[level]);
+    let mut parts = tape.chunks_exact_mut(frame_numbers(session.domain));
+    while let (true, Some(part)) = (marks != 0, parts.next()) {
         let f = marks.trailing_zeros() as usize;
-        F::copy(&mut tape[at..], sizes.in_spare(spare, f), &image[sizes.in_level(level, f)..]);
-        at += FRAME_NUMBERS;
+        F::copy(part, sizes.in_spare(spare, f), &image[sizes.in_level(level, f)..]);
         marks &= marks - 1;
     }
 }
 
+/// The orders of turning a level to state 2, with a flush if there is room for it.
 fn turn(image: &[u8], active: usize, level: usize, tape: &mut [u64]) {
+    let last = tape.len() - 3;
     put(tape, 0, [3, 0, 0]);
     put(tape, 1, byte_in_word(image, active + level, 2));
-    put(tape, 2, [2, active as u64, 0]);
-    put(tape, 3, [3, 0, 0]);
+    flushes(&mut tape[6..last], active);
+    put(&mut tape[last..], 0, [3, 0, 0]);
 }
 
 /// The stores of a span, in one pass: the part of a word before the first whole
@@ -629,8 +650,33 @@ fn saving(
     }
     unused_shares(clients, sizes.spares)?;
     let epoch = sound.epoch.checked_add(1).ok_or(10u64)?;
-    let (marks, levels) = (&session.dirty_blocks, sizes.levels as usize);
-    let room = tape.len() / 3;
+    let at = match session.domain {
+        ADR => flush_marked(&session.dirty_blocks, sizes, tape)?,
+        _ => 0,
+    };
+    let last_orders = 12 + flushed(session.domain, 2);
+    let rest = tape[3 * at..].as_chunks_mut::<3>().0.get_mut(..last_orders).ok_or(11u64)?;
+    let idle = EVEN_STATES + ODD_STATES - sound.active;
+    let set = turned(sound.own | sound.spared | session.dirty_segments);
+    let (states, epochs) = rest.split_at_mut(9);
+    states[0] = [3, 0, 0];
+    for i in 0..8 {
+        states[1 + i] = [1, (idle + 8 * i) as u64, set >> i & ONES];
+    }
+    let (fence, store) = ([3, 0, 0], [1, 0, epoch]);
+    match session.domain {
+        ADR => epochs.copy_from_slice(&[[2, idle as u64, 0], fence, store, [2, 0, 0], fence]),
+        _ => epochs.copy_from_slice(&[fence, store, fence]),
+    }
+    session.dirty_segments = 0;
+    forget_used(clients);
+    Ok(at + last_orders)
+}
+
+/// The flushes of the marked frames, if there is room for them and for the rest of a
+/// save; how many there are.
+fn flush_marked(marks: &[u64; 64], sizes: Sizes, tape: &mut [u64]) -> Result<usize, u64> {
+    let (room, levels) = (tape.len() / 3, sizes.levels as usize);
     let marked = || marks.iter().map(|m| m.count_ones() as usize).sum::<usize>();
     if room < 4 * levels * sizes.frames as usize + 14 && room < 4 * marked() + 14 {
         return Err(11);
@@ -643,27 +689,14 @@ fn saving(
         for (k, &word) in eight.iter().enumerate() {
             let mut marks = word;
             while marks != 0 {
-                flushes(tape, at, sizes.in_level(8 * i + k, marks.trailing_zeros() as usize));
+                let frame = sizes.in_level(8 * i + k, marks.trailing_zeros() as usize);
+                flushes(&mut tape[3 * at..3 * at + 12], frame);
                 at += 4;
                 marks &= marks - 1;
             }
         }
     }
-    let idle = EVEN_STATES + ODD_STATES - sound.active;
-    let set = turned(sound.own | sound.spared | session.dirty_segments);
-    let Some(rest) = tape[3 * at..].as_chunks_mut::<3>().0.first_chunk_mut::<14>() else { return Err(11) };
-    rest[0] = [3, 0, 0];
-    for i in 0..8 {
-        rest[1 + i] = [1, (idle + 8 * i) as u64, set >> i & ONES];
-    }
-    rest[9] = [2, idle as u64, 0];
-    rest[10] = [3, 0, 0];
-    rest[11] = [1, 0, epoch];
-    rest[12] = [2, 0, 0];
-    rest[13] = [3, 0, 0];
-    session.dirty_segments = 0;
-    forget_used(clients);
-    Ok(at + 14)
+    Ok(at)
 }
 
 #[inline(never)]
@@ -750,7 +783,7 @@ impl Fast {
 fn made<F: Form>(deed: &Deed, image: &[u8], lent: &mut Lent, tape: &mut [u64]) -> u64 {
     let Lent { session, clients, ops } = lent;
     match deed {
-        Deed::Open(sizes) => open::<F>(image, *sizes, session, clients, tape, ops),
+        Deed::Open(sizes, kind) => open::<F>(image, *sizes, *kind, session, clients, tape, ops),
         Deed::Write(target, bytes) => write::<F>(image, session, clients, *target, bytes, tape, ops),
         Deed::Discard(level) => discard::<F>(image, session, *level, tape, ops),
         Deed::Save => save(image, session, clients, tape, ops),

@@ -1,7 +1,7 @@
 //! Groups of checks that run over any implementation of the calls: the bench
 //! cases, every permitted image of single calls and short histories, random
 //! histories, and calls with any contents. `restart`, `long`, `consoles`,
-//! `discards` and `benches` have more.
+//! `discards`, `kinds` and `benches` have more.
 //!
 //! `selftest` runs them over the reference, `differential` over the library.
 //! Each gives a line of counts or the first failure.
@@ -12,7 +12,8 @@ use crate::calls::*;
 use crate::crash::{permitted, Module};
 use crate::explore::*;
 use crate::laws::{
-    never_at, Tried, OF_CONSOLES, OF_DISCARDS, OF_SPANS, OF_SPARES, PASSED_OVER, SHARES_NEEDED,
+    never_at, Tried, OF_CONSOLES, OF_DISCARDS, OF_KINDS, OF_SPANS, OF_SPARES, PASSED_OVER, SHARES_NEEDED,
+    UNFLUSHED,
 };
 use crate::prng::Rng;
 use crate::report::{Found, Outcome};
@@ -62,7 +63,7 @@ pub fn bench_cases<C: Calls>(calls: &C) -> Outcome {
     due("P1 M=65", calls.lay_out(&mut [0; 1280], Sizes::new(65, 1, 1)), 1)?;
     let image = laid_out(calls, sizes)?;
     let (mut card, mut run) = (Card::zeros(), [Console::alone(sizes)]);
-    let open = Deed::Open(sizes);
+    let open = Deed::Open(sizes, ADR);
     due("P2 218", calls.make(&open, &image, Given::of(&mut card, &mut run, &mut [0; 218])).number, 11)?;
     let served = calls.make(&open, &image, Given::of(&mut card, &mut run, &mut [0; 219]));
     due("P2 219", served, Answer { number: 0, orders: 73 })?;
@@ -79,7 +80,7 @@ pub fn bench_cases<C: Calls>(calls: &C) -> Outcome {
     let (p4, image) = step(plain(Deed::Save, sizes))?;
     due("P4 orders", p4.answer.orders, 18)?;
     due("P4 states", &image[ODD_STATES..ODD_STATES + 2], &[1, 0])?;
-    cut_line("P4", &p4)?;
+    cut_line("P4", &p4, Kinds::ADR)?;
     let (p5, _) = step(write_call(sizes, 0, 0, 8, 0x50))?;
     due("P5 orders", p5.answer.orders, 43)?;
     due("P5 first", p5.orders.first(), Some(&pair_store(0)))?;
@@ -108,19 +109,23 @@ fn pair_store(level: u64) -> Order {
     Order::Store { place: 256, word: 0xffff_ffff_ffff_ff00 + level }
 }
 
-/// The cuts of a save whose pages differ: the old page up to its epoch store,
-/// the third order from its end, either up to its last fence, then the new. In
-/// P4 these are the cuts after 0 to 15 orders, after 16 and 17, and after 18.
-pub(crate) fn cut_line(name: &str, save: &Step) -> Result<(), String> {
+/// The cuts of a save whose pages differ: the old page up to its epoch store, the
+/// third order from its end, either up to its last fence, then the new. In P4 these
+/// are the cuts after 0 to 15 orders, after 16 and 17, and after 18. On a module of
+/// kind 1 the new page is shown alone from the epoch store on, which is the second
+/// order from the end of a tape of kind 1.
+pub(crate) fn cut_line(name: &str, save: &Step, kinds: Kinds) -> Result<(), String> {
     let [old, .., new] = &save.shown[..] else { return Err(format!("{name} has no cuts")) };
     let both = old | new;
     due(&format!("{name} cut, pages"), (old.len(), new.len(), both.len()), (1, 1, 2))?;
     let orders = save.orders.len();
+    let behind = if kinds.given == EADR { 1 } else { 2 };
+    let window = if kinds.module == EADR { new } else { &both };
     due(&format!("{name} cuts"), save.shown.len(), orders + 1)?;
     for (p, shown) in save.shown.iter().enumerate() {
         let expected = match p {
             _ if p == orders => new,
-            _ if p + 2 >= orders => &both,
+            _ if p + behind >= orders => window,
             _ => old,
         };
         due(&format!("{name} cut after {p}"), shown, expected)?;
@@ -133,7 +138,7 @@ fn p10<C: Calls>(calls: &C) -> Result<u64, String> {
     let sizes = Sizes::new(1, 1, 4);
     let paired = Metadata { states: vec![1], pairs: vec![0] };
     let image = arbitrary::image_of(sizes, 0, &paired, 0, &arbitrary::distinct_data(sizes));
-    let mut card = Card::fresh(sizes);
+    let mut card = Card::fresh(sizes, ADR);
     card.marks[0] = 0b0100;
     let target = Target { console: 0, level: 0, frame: 1, offset: 8 };
     let mut run = [Console::alone(sizes)];
@@ -168,13 +173,15 @@ pub fn waiting_lines<C: Calls>(calls: &C) -> Outcome {
     ))
 }
 
-/// The module fed order by order permits what the rule says of the whole list, for random orders on few lines.
+/// The module fed order by order permits what the rule says of the whole list, for
+/// random orders on few lines and both kinds of module. What kind 1 permits, kind 0
+/// does.
 pub fn crash_model(lists: usize) -> Outcome {
     let mut rng = Rng::new(3);
     let (mut cuts, mut stages) = (0, 0);
     for _ in 0..lists {
         let held = rng.bytes(3 * LINE);
-        let mut module = Module::held(&held);
+        let mut modules = [ADR, EADR].map(|kind| Module::held(kind, &held));
         let mut orders = Vec::new();
         for _ in 0..rng.range(1, 24) {
             let order = match rng.below(8) {
@@ -182,17 +189,23 @@ pub fn crash_model(lists: usize) -> Outcome {
                 1 | 2 => Order::Flush { place: LINE * rng.below(3) },
                 _ => Order::Store { place: WORD * rng.below(24), word: rng.below(3) as u64 },
             };
-            module.play(order);
+            modules.iter_mut().for_each(|module| module.play(order));
             orders.push(order);
             cuts += 1;
-            stages += check_stages(&held, &orders, &module)?;
+            for (kind, module) in [ADR, EADR].into_iter().zip(&modules) {
+                stages += check_stages(kind, &held, &orders, module)?;
+            }
+            for line in 0..held.len() / LINE {
+                let [zero, one] = [ADR, EADR].map(|kind| permitted(kind, &held, &orders, line));
+                due("kind 0 permits what kind 1 does", one.iter().all(|bytes| zero.contains(bytes)), true)?;
+            }
         }
     }
     Ok(Found::new(format!("{cuts} cuts, {stages} permitted line contents as the rule says"), &[]))
 }
 
-fn check_stages(held: &[u8], orders: &[Order], module: &Module) -> Result<usize, String> {
-    let mut lines: Vec<_> = (0..held.len() / LINE).map(|line| permitted(held, orders, line)).collect();
+fn check_stages(kind: u64, held: &[u8], orders: &[Order], module: &Module) -> Result<usize, String> {
+    let mut lines: Vec<_> = (0..held.len() / LINE).map(|line| permitted(kind, held, orders, line)).collect();
     due("ways", module.cut().ways(), lines.iter().map(|line| line.len() as u128).product())?;
     for line in &mut lines {
         line.sort();
@@ -246,10 +259,10 @@ pub(crate) fn found(text: impl Into<String>, counts: Counts) -> Found {
     found
 }
 
-/// How often the laws were tried, in words; of spares, spans, consoles and discards
-/// those that there were.
+/// How often the laws were tried, in words; of spares, spans, consoles, discards and
+/// kinds those that there were.
 pub(crate) fn laws_tried(tried: Tried) -> String {
-    let sometimes = [&OF_SPANS[..], &OF_SPARES, &OF_CONSOLES, &OF_DISCARDS].concat();
+    let sometimes = [&OF_SPANS[..], &OF_SPARES, &OF_CONSOLES, &OF_DISCARDS, &OF_KINDS].concat();
     let mut named = tried.named();
     named.retain(|(name, count)| *count > 0 || !sometimes.contains(name));
     let told: Vec<String> = named.iter().map(|(name, count)| format!("{count} {name}")).collect();
@@ -267,13 +280,13 @@ pub(crate) fn all_found(counts: Counts) -> Found {
 /// Every permitted image of single calls with one frame a level, all words of
 /// levels and spares different: each call alone, and after each write a save, and a
 /// discard and a save.
-pub fn single_calls<C: Calls>(calls: &C) -> Outcome {
+pub fn single_calls<C: Calls>(calls: &C, kinds: Kinds) -> Outcome {
     let sizes = Sizes::new(1, 1, 1);
     let mut total = Counts::default();
     for image in starts(sizes, &arbitrary::distinct_data(sizes)) {
-        let mut explorer = Explorer::new(calls, sizes, 4);
+        let mut explorer = Explorer::new(calls, sizes, 4).of(kinds);
         let start = explorer.start(&image, Plan::ALL)?;
-        explorer.step(&mut start.clone(), &plain(Deed::Open(sizes), sizes), Plan::ALL)?;
+        explorer.step(&mut start.clone(), &plain(Deed::Open(sizes, kinds.given), sizes), Plan::ALL)?;
         explorer.step(&mut start.clone(), &plain(Deed::Save, sizes), Plan::ALL)?;
         let spans = [(0, 8), (60, 8), (0, 64), (32, 64)];
         for (offset, length) in spans {
@@ -288,23 +301,24 @@ pub fn single_calls<C: Calls>(calls: &C) -> Outcome {
     Ok(all_found(total))
 }
 
-/// The calls of short histories: a save, openings, discards and writes. The bytes
-/// name the depth.
-fn alphabet(sizes: Sizes, depth: usize, at: usize) -> Vec<Call> {
+/// The calls of short histories: a save, openings that are given this kind, discards
+/// and writes. The bytes name the depth.
+fn alphabet(sizes: Sizes, kind: u64, depth: usize, at: usize) -> Vec<Call> {
     let value = 0x40 + 0x10 * at as u8;
-    let mut calls = vec![plain(Deed::Save, sizes), plain(Deed::Open(sizes), sizes)];
+    let mut calls = vec![plain(Deed::Save, sizes), plain(Deed::Open(sizes, kind), sizes)];
     calls.push(plain(Deed::Discard(0), sizes));
     if at + 1 == depth {
         calls.extend(last_discards(sizes));
+        calls.push(plain(Deed::Open(sizes, 2), sizes));
     }
     match sizes.frames {
-        1 => calls.extend(in_one_frame(sizes, value)),
+        1 => calls.extend(in_one_frame(sizes, kind, value)),
         _ => calls.extend(over_frames(sizes, value)),
     }
     calls
 }
 
-/// At the end of a history: discards of the last level, of a level that there is
+/// Only at the end of a history: discards of the last level, of a level that there is
 /// not, and with a tape a number short for one frame.
 fn last_discards(sizes: Sizes) -> Vec<Call> {
     let short = Sizes { frames: 1, ..sizes }.discard_room() - 1;
@@ -317,8 +331,8 @@ fn last_discards(sizes: Sizes) -> Vec<Call> {
 
 /// With one frame a level: a refused opening, writes to a line of each level
 /// and to two lines of one.
-fn in_one_frame(sizes: Sizes, value: u8) -> Vec<Call> {
-    let mut calls = vec![plain(Deed::Open(Sizes { frames: 2, ..sizes }), sizes)];
+fn in_one_frame(sizes: Sizes, kind: u64, value: u8) -> Vec<Call> {
+    let mut calls = vec![plain(Deed::Open(Sizes { frames: 2, ..sizes }, kind), sizes)];
     calls.extend((0..sizes.levels).map(|level| write_call(sizes, level, 0, 8, value)));
     calls.push(write_call(sizes, 0, 60, 8, value));
     calls
@@ -379,10 +393,11 @@ fn told_after(path: &[Call], what: String) -> String {
 /// one, from every start image, at every cut, over every permitted image. One
 /// call is enough to try each law that these sizes allow but those of discards,
 /// for which there must be three.
-pub fn short_histories<C: Calls>(calls: &C, sizes: Sizes, depth: usize) -> Outcome {
+pub fn short_histories<C: Calls>(calls: &C, sizes: Sizes, depth: usize, kinds: Kinds) -> Outcome {
     let starts = starts(sizes, &arbitrary::sparse_data(sizes));
-    let total = all_short(|| Explorer::new(calls, sizes, 5), sizes, depth, &starts)?;
+    let total = all_short(|| Explorer::new(calls, sizes, 5), sizes, depth, kinds, &starts)?;
     let mut left_out = never_at(sizes);
+    left_out.extend([UNFLUSHED].iter().filter(|_| kinds.given == ADR));
     left_out.extend(OF_CONSOLES);
     left_out.extend(OF_SPANS.iter().filter(|_| sizes.frames == 1));
     left_out.extend(OF_DISCARDS.iter().filter(|_| depth < 3));
@@ -391,28 +406,36 @@ pub fn short_histories<C: Calls>(calls: &C, sizes: Sizes, depth: usize) -> Outco
 }
 
 /// The same with demand 3 and the book alone, for faults that must break them.
-pub fn short_histories_without_laws<C: Calls>(calls: &C, sizes: Sizes, depth: usize) -> Outcome {
+pub fn short_histories_without_laws<C: Calls>(
+    calls: &C,
+    sizes: Sizes,
+    depth: usize,
+    kinds: Kinds,
+) -> Outcome {
     let starts = starts(sizes, &arbitrary::sparse_data(sizes));
-    all_short(|| Explorer::new(calls, sizes, 5).without_laws(), sizes, depth, &starts).map(all_found)
+    all_short(|| Explorer::new(calls, sizes, 5).without_laws(), sizes, depth, kinds, &starts).map(all_found)
 }
 
-/// The same from images without an empty level.
+/// The same from images without an empty level, on a module of kind 0.
 pub fn short_histories_of_set_levels<C: Calls>(calls: &C, sizes: Sizes, depth: usize) -> Outcome {
     let mut starts = starts(sizes, &arbitrary::sparse_data(sizes));
     starts.retain(|image| !states(image, sizes).contains(&0));
-    all_short(|| Explorer::new(calls, sizes, 5).without_laws(), sizes, depth, &starts).map(all_found)
+    let explorer = || Explorer::new(calls, sizes, 5).without_laws();
+    all_short(explorer, sizes, depth, Kinds::ADR, &starts).map(all_found)
 }
 
 fn all_short<'a, C: Calls + 'a>(
     explorer: impl Fn() -> Explorer<'a, C>,
     sizes: Sizes,
     depth: usize,
+    kinds: Kinds,
     starts: &[Vec<u8>],
 ) -> Result<Counts, String> {
     let mut total = Counts::default();
-    let going = Going { alphabet: &|at| alphabet(sizes, depth, at), depth, plan: Plan::ALL };
+    let alphabet = |at| alphabet(sizes, kinds.given, depth, at);
+    let going = Going { alphabet: &alphabet, depth, plan: Plan::ALL };
     for image in starts {
-        let mut explorer = explorer();
+        let mut explorer = explorer().of(kinds);
         let tell = |what| format!("sizes {sizes}, {}: {what}", metadata_of(image, sizes));
         let start = explorer.start(image, Plan::ALL).map_err(tell)?;
         let histories = going.descend(&mut explorer, &start, &mut Vec::new()).map_err(tell)?;
@@ -451,8 +474,9 @@ pub enum Laws {
     LeftOut,
 }
 
-/// Random histories from laid-out and from arbitrary sound images, of one console
-/// or of several, with any arguments, runs and tapes, cut and opened again.
+/// Random histories from laid-out and from arbitrary sound images, on either kind of
+/// module, of one console or of several, with any arguments, runs and tapes, cut and
+/// opened again. On a module of kind 1 an opening may be given kind 0.
 pub fn random_histories<C: Calls>(calls: &C, random: Random) -> Outcome {
     let mut rng = Rng::new(random.seed);
     let mut total = Counts::default();
@@ -462,7 +486,9 @@ pub fn random_histories<C: Calls>(calls: &C, random: Random) -> Outcome {
             true => laid_out(calls, sizes)?,
             false => arbitrary::sound_image(&mut rng, sizes),
         };
-        let mut explorer = Explorer::new(calls, sizes, rng.word());
+        let module = arbitrary::kind(&mut rng);
+        let kinds = Kinds { module, given: if rng.once_in(4) { ADR } else { module } };
+        let mut explorer = Explorer::new(calls, sizes, rng.word()).of(kinds);
         if random.laws == Laws::LeftOut {
             explorer = explorer.without_laws();
         }
@@ -470,7 +496,7 @@ pub fn random_histories<C: Calls>(calls: &C, random: Random) -> Outcome {
         let run = arbitrary::own_run(&mut rng, sizes);
         let mut history = explorer.start_lent(&image, &run, random.plan).map_err(tell)?;
         for _ in 0..random.calls {
-            let call = arbitrary::call(&mut rng, sizes, &run);
+            let call = arbitrary::call(&mut rng, sizes, kinds.given, &run);
             explorer.step(&mut history, &call, random.plan).map_err(tell)?;
         }
         add(&mut total, Counts { histories: 1, ..explorer.counts() });
@@ -546,7 +572,7 @@ fn like_others<C: Calls>(calls: &C, rng: &mut Rng, image: &[u8], sizes: Sizes, n
     calls.like(image, &other, named);
     let mut tape = vec![0; sizes.opening_room()];
     let opened = calls.make(
-        &Deed::Open(sizes),
+        &Deed::Open(sizes, ADR),
         image,
         Given::of(&mut Card::zeros(), &mut [Console::alone(sizes)], &mut tape),
     );
@@ -571,11 +597,11 @@ fn with_tapes(rng: &mut Rng, room: usize, mut call: impl FnMut(&mut [u64]) -> An
 
 fn open_any<C: Calls>(calls: &C, rng: &mut Rng, image: &[u8], sizes: Sizes) {
     let room = if sizes.in_range() { sizes.room() } else { 64 };
-    let mut card = Card::fresh(sizes);
+    let mut card = Card::fresh(sizes, rng.word());
     card.touched = rng.word();
     card.marks[rng.below(64)] = rng.word();
     let run = arbitrary::any_run(rng, sizes);
-    let open = Deed::Open(sizes);
+    let open = Deed::Open(sizes, arbitrary::any_kind(rng));
     with_tapes(rng, room, |tape| {
         calls.make(&open, image, Given::of(&mut card.clone(), &mut run.clone(), tape))
     });

@@ -81,6 +81,38 @@ pub struct Tried {
     pub heard: Heard,
     /// Discards by what they store.
     pub discards: Discards,
+    /// Calls by the kind of module.
+    pub kinds: OfKind,
+}
+
+/// How many calls there were of each that the kind of module decides (`tapes`).
+#[derive(Clone, Copy, Default, PartialEq, Eq, Debug)]
+pub struct OfKind {
+    /// Served calls that gave orders in a session of kind 1.
+    pub unflushed: u64,
+    /// Openings refused for their kind.
+    pub fives: u64,
+    /// Other calls refused for the kind on their card alone; no history has one.
+    pub of_cards: u64,
+}
+
+impl OfKind {
+    pub fn add(&mut self, other: OfKind) {
+        self.unflushed += other.unflushed;
+        self.fives += other.fives;
+        self.of_cards += other.of_cards;
+    }
+
+    /// The counts under the names that are printed.
+    pub fn named(self) -> [(&'static str, u64); 3] {
+        let [unflushed, fives] = OF_KINDS;
+        [(unflushed, self.unflushed), (fives, self.fives), (OF_CARDS, self.of_cards)]
+    }
+
+    /// Fails if one kind was never tried.
+    pub fn all_tried(self) -> Result<(), String> {
+        none_is_zero(&self.named(), &[])
+    }
 }
 
 /// How many discards there were of each kind.
@@ -347,11 +379,12 @@ impl Tried {
         self.spans.add(other.spans);
         self.heard.add(other.heard);
         self.discards.add(other.discards);
+        self.kinds.add(other.kinds);
     }
 
     /// The counts under the names that are printed.
     pub fn named(self) -> Vec<(&'static str, u64)> {
-        let Tried { saves, settled, empty, copies, nines, taken, spans, heard, discards } = self;
+        let Tried { saves, settled, empty, copies, nines, taken, spans, heard, discards, kinds } = self;
         let mut named = vec![
             ("served saves", saves),
             ("restored levels settled", settled),
@@ -362,7 +395,9 @@ impl Tried {
         named.extend(taken.named());
         named.extend(spans.named());
         named.extend(heard.named());
-        named.extend(discards.named().into_iter().filter(|(name, _)| *name != OF_NO_FRAME));
+        named.extend(discards.named());
+        named.extend(kinds.named());
+        named.retain(|(name, _)| ![OF_NO_FRAME, OF_CARDS].contains(name));
         named
     }
 
@@ -426,6 +461,11 @@ pub const OF_DISCARDS: [&str; 5] = [
 ];
 pub const TO_ZEROS: &str = "discards to zeros";
 const OF_NO_FRAME: &str = "discards of no frame";
+
+/// A module whose openings are given kind 0 has flushes on every tape.
+pub const OF_KINDS: [&str; 2] = [UNFLUSHED, "refusals 5 of a kind"];
+pub const UNFLUSHED: &str = "unflushed tapes";
+const OF_CARDS: &str = "refusals 5 of a card's kind";
 
 /// The numbers that are given only where 13 does not apply, and those of a write
 /// to which none of the refusals before 8 applies.
@@ -533,7 +573,7 @@ impl Tally {
             }
             Deed::Discard(level) => self.hold_discard(*level, seen, &mut tried)?,
             Deed::Save if number == 0 => self.feed_save(before, &mut tried),
-            Deed::Open(_) if number == 0 => (self.touched, self.marks) = (0, [0; 64]),
+            Deed::Open(..) if number == 0 => (self.touched, self.marks) = (0, [0; 64]),
             _ => {}
         }
         self.hold_records(seen, self.copied > copied)?;
@@ -553,7 +593,7 @@ impl Tally {
     fn hold_13(&self, Seen { deed, number, lent, .. }: Seen, tried: &mut Tried) -> Result<(), String> {
         let (writer, spares) = match deed {
             Deed::Write(target, _) => (Some(target.console), self.sizes.spares),
-            Deed::Open(sizes) => (None, sizes.spares),
+            Deed::Open(sizes, _) => (None, sizes.spares),
             Deed::Save => (None, self.sizes.spares),
             Deed::Discard(_) if number == 13 => return Err("a discard answers 13".to_string()),
             Deed::Discard(_) => return Ok(()),
@@ -579,7 +619,7 @@ impl Tally {
         match deed {
             _ if number != 0 => {}
             Deed::Write(target, _) => due[target.console as usize].taken += u64::from(charged),
-            Deed::Open(_) | Deed::Save => due.iter_mut().for_each(|console| console.taken = 0),
+            Deed::Open(..) | Deed::Save => due.iter_mut().for_each(|console| console.taken = 0),
             Deed::Discard(_) => {}
         }
         let judges = !matches!(deed, Deed::Discard(_));
@@ -590,7 +630,7 @@ impl Tally {
             return Err(format!("a call lent {} leaves {}, due {}", told(lent), told(left), told(&due)));
         }
         self.run = due;
-        if number == 0 && matches!(deed, Deed::Open(_) | Deed::Save) {
+        if number == 0 && matches!(deed, Deed::Open(..) | Deed::Save) {
             self.kept = *deed == Deed::Save;
             self.alone = self.run == [Console::alone(self.sizes)];
         }

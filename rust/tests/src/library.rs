@@ -4,7 +4,7 @@
 use crate::calls::*;
 use crate::raw::{self, Extent, Lent, UNWRITTEN};
 use crpm::ffi::Session;
-use crpm::{Client, Layout, Op, Ops, Refusal};
+use crpm::{Client, Domain, Layout, Op, Ops, Refusal};
 
 /// The C interface: what is answered and left is what the library writes.
 pub struct Library;
@@ -18,7 +18,7 @@ impl Calls for Library {
         let mut lent = Lent::of(card, run);
         let Lent { session, clients, ops } = &mut lent;
         let number = match deed {
-            Deed::Open(sizes) => raw::open(image, *sizes, session, clients, tape, ops),
+            Deed::Open(sizes, kind) => raw::open(image, *sizes, *kind, session, clients, tape, ops),
             Deed::Write(target, bytes) => raw::write(image, session, clients, *target, bytes, tape, ops),
             Deed::Discard(level) => raw::discard(image, session, *level, tape, ops),
             Deed::Save => raw::checkpoint(image, session, clients, tape, ops),
@@ -49,7 +49,8 @@ impl Calls for Library {
 }
 
 /// The safe calls. What a refusal leaves is what section 14 says: the types
-/// show no more of it.
+/// show no more of it. An opening with a kind that the type has not is left to
+/// `Library`.
 pub struct Wrapped;
 
 fn layout(sizes: Sizes) -> Result<Layout, Refusal> {
@@ -100,10 +101,12 @@ impl Calls for Wrapped {
 
     fn make(&self, deed: &Deed, image: &[u8], Given { card, run, tape }: Given) -> Answer {
         match deed {
-            Deed::Open(sizes) => {
+            Deed::Open(_, 2..) => Library.make(deed, image, Given::of(card, run, tape)),
+            Deed::Open(sizes, kind) => {
+                let domain = if *kind == ADR { Domain::Adr } else { Domain::Eadr };
                 let mut lent = Lent::of(card, run);
-                let opened =
-                    layout(*sizes).and_then(|layout| crpm::open(image, layout, &mut lent.clients, tape));
+                let opened = layout(*sizes)
+                    .and_then(|layout| crpm::open(image, layout, domain, &mut lent.clients, tape));
                 lent.session = opened.as_ref().map_or(Session::ZEROS, |(session, _)| *session.words());
                 lent.hand_back(card, run);
                 answer(opened.map(|(_, ops)| ops))

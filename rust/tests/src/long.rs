@@ -74,7 +74,7 @@ fn rows() -> Vec<Row> {
         saved,
     };
     vec![
-        row("L1", Deed::Open(SIZES), (0, 145, 0), 0, (0, 0)),
+        row("L1", Deed::Open(SIZES, ADR), (0, 145, 0), 0, (0, 0)),
         row("L2", write(0, OFFSET, 0, 700), (0, 89, 0b0111), 0, (1, 0)),
         row("L3", Deed::Save, (0, 26, 0b0111), 0, (1, 1)),
         row("L4", write(1, OFFSET, 1, 700), (0, 239, 0b1110), 128, (2, 1)),
@@ -156,7 +156,7 @@ pub fn long_writes<C: Calls>(calls: &C, plan: Plan) -> Outcome {
         let step = explorer.step(&mut history, &call, plan).map_err(told)?;
         let shows = |at: usize| BTreeSet::from([pages[at]]);
         if call.deed == Deed::Save {
-            cut_line(name, &step)?;
+            cut_line(name, &step, Kinds::ADR)?;
             due(&format!("{name}, the page before"), step.shown.first(), Some(&shows(before)))?;
             due(&format!("{name}, the page after"), step.shown.last(), Some(&shows(saved)))?;
         } else {
@@ -177,7 +177,7 @@ pub fn long_writes<C: Calls>(calls: &C, plan: Plan) -> Outcome {
 /// it stands whole over what was shown, after one more opening too.
 pub fn after_cuts<C: Calls>(calls: &C) -> Outcome {
     let (mut rng, mut restarts) = (Rng::new(8), 0);
-    let (mut module, mut kept) = (Module::held(&laid_out(calls, SIZES)?), Kept::before_opening());
+    let (mut module, mut kept) = (Module::held(ADR, &laid_out(calls, SIZES)?), Kept::before_opening());
     let mut before = 0;
     for Row { name, deed, saved, .. } in rows().into_iter().take(4) {
         let (_, tape) = kept.answered(calls, module.image(), &deed);
@@ -207,7 +207,7 @@ fn register_again<C: Calls>(calls: &C, mut image: Vec<u8>, shown: [usize; 2]) ->
         calls.play(image, &tape, answer.orders);
         due(&plain(deed, SIZES).to_string(), answer.number, 0)
     };
-    served(&mut image, Deed::Open(SIZES))?;
+    served(&mut image, Deed::Open(SIZES, ADR))?;
     let (mut page, saved) = pages_read(calls, &image, SIZES)?;
     due("both reads alike", page == saved.frames, true)?;
     due("a page of the story whole", shown.iter().any(|at| pages()[*at] == page), true)?;
@@ -217,7 +217,7 @@ fn register_again<C: Calls>(calls: &C, mut image: Vec<u8>, shown: [usize; 2]) ->
     for _ in 0..2 {
         let (working, saved) = pages_read(calls, &image, SIZES)?;
         due("the registration whole", working == page && saved.frames == page, true)?;
-        served(&mut image, Deed::Open(SIZES))?;
+        served(&mut image, Deed::Open(SIZES, ADR))?;
     }
     Ok(())
 }
@@ -233,7 +233,7 @@ pub fn longest_writes<C: Calls>(calls: &C) -> Outcome {
         let (length, orders) = (256 * frames as usize, 36 * frames + 6 + 32 * frames);
         let bytes = registration(1, length + 1);
         let write = |length: usize, numbers: u64| {
-            let (mut card, mut tape) = (Card::fresh(sizes), vec![0; numbers as usize]);
+            let (mut card, mut tape) = (Card::fresh(sizes, ADR), vec![0; numbers as usize]);
             let target = Target { console: 0, level: 0, frame: 0, offset: 0 };
             let (mut run, deed) = ([Console::alone(sizes)], Deed::Write(target, bytes[..length].to_vec()));
             let answer = calls.make(&deed, &image, Given::of(&mut card, &mut run, &mut tape));

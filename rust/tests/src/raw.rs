@@ -12,12 +12,13 @@ pub fn session_of(card: &Card) -> Session {
         blocks: frames,
         dirty_segments: card.touched,
         dirty_blocks: card.marks,
+        domain: card.kind,
     }
 }
 
 fn card_of(session: &Session) -> Card {
     let sizes = Sizes::new(session.mains, session.backups, session.blocks);
-    Card { sizes, touched: session.dirty_segments, marks: session.dirty_blocks }
+    Card { sizes, touched: session.dirty_segments, marks: session.dirty_blocks, kind: session.domain }
 }
 
 fn client_of(console: &Console) -> Client {
@@ -66,6 +67,7 @@ pub fn format(image: &mut [u8], sizes: Sizes) -> u64 {
 pub fn open(
     image: &[u8],
     sizes: Sizes,
+    kind: u64,
     session: &mut Session,
     clients: &mut [Client],
     trace: &mut [u64],
@@ -80,6 +82,7 @@ pub fn open(
             sizes.levels,
             sizes.spares,
             sizes.frames,
+            kind,
             session,
             clients.as_mut_ptr(),
             clients.len(),

@@ -36,7 +36,8 @@ pub enum Refusal {
 /// worthless programs of section 18.2 or like them: three wrong rules for the
 /// states that a save stores (section 11.2), five for long writes (section 10),
 /// six for the spare that a write takes (section 3.4), eleven for consoles
-/// (sections 5.7 and 10.10) and nine for discards (sections 10.12 and 10.13).
+/// (sections 5.7 and 10.10), nine for discards (sections 10.12 and 10.13) and six for
+/// the kinds of module.
 #[derive(Clone, Copy, PartialEq, Eq, Debug)]
 pub enum Fault {
     StateBeforeFence,
@@ -116,6 +117,18 @@ pub enum Fault {
     /// A discard of an untouched level asks for the tape of a touched one: program
     /// 36.
     DiscardRefusesUntouched,
+    /// The last flush of a tape of kind 1 is left in it.
+    KeepsAFlush,
+    /// The first fence of a tape of kind 1 is left out like its flushes.
+    DropsAFence,
+    /// A card of kind 1 gives the tapes of kind 0.
+    FlushesAll,
+    /// Kind 2 is taken for kind 1.
+    TakesKind2,
+    /// An opening judges the kind after the run.
+    KindAfterRun,
+    /// A write leaves a card of kind 0.
+    WriteForgetsKind,
 }
 
 #[derive(Clone, Copy)]
@@ -303,6 +316,10 @@ fn marked(marks: u64) -> impl Iterator<Item = usize> {
     (0..64).filter(move |frame| marks >> frame & 1 == 1)
 }
 
+fn is_flush(order: &Order) -> bool {
+    matches!(order, Order::Flush { .. })
+}
+
 /// Puts the orders at the tape's start, or refuses a tape that is too short.
 fn put_on(tape: &mut [u64], orders: &[Order]) -> Result<Answer, Refusal> {
     let room = tape.get_mut(..3 * orders.len()).ok_or(Refusal::TapeShort)?;
@@ -331,6 +348,38 @@ struct Written {
 }
 
 impl Reference {
+    /// Refusal 5 of a kind that there is not.
+    fn judge_kind(&self, kind: u64) -> Result<(), Refusal> {
+        match kind <= EADR || (kind == 2 && self.has(Fault::TakesKind2)) {
+            true => Ok(()),
+            false => Err(Refusal::Card),
+        }
+    }
+
+    /// Refusal 5 of a card.
+    fn judge_card(&self, board: &Board, card: &Card) -> Result<(), Refusal> {
+        match board.card_is_true(card) {
+            true => self.judge_kind(card.kind),
+            false => Err(Refusal::Card),
+        }
+    }
+
+    /// The orders for a module of this kind: for kind 1 the stores and fences alone,
+    /// in their order.
+    fn for_kind(&self, kind: u64, mut orders: Vec<Order>) -> Vec<Order> {
+        if kind == ADR || self.has(Fault::FlushesAll) {
+            return orders;
+        }
+        let place = match self.fault {
+            Some(Fault::KeepsAFlush) => orders.iter().rposition(is_flush),
+            Some(Fault::DropsAFence) => orders.iter().position(|order| *order == Order::Fence),
+            _ => None,
+        };
+        let mut at = 0..;
+        orders.retain(|order| is_flush(order) == (at.next() == place));
+        orders
+    }
+
     /// Refusal 13 (section 5.7), of a write with its console's number.
     fn judge_run(&self, run: &[Console], spares: u64, writer: Option<u64>) -> Result<(), Refusal> {
         let shares: u128 = run.iter().map(|console| u128::from(console.share)).sum();
@@ -378,9 +427,14 @@ impl Reference {
         }
     }
 
-    fn opening(&self, image: &[u8], sizes: Sizes, run: &[Console]) -> Result<Vec<Order>, Refusal> {
+    fn opening(&self, image: &[u8], sizes: Sizes, kind: u64, run: &[Console]) -> Result<Vec<Order>, Refusal> {
         let board = Board::of(image, sizes)?;
+        let kind_judged = self.judge_kind(kind);
+        if !self.has(Fault::KindAfterRun) {
+            kind_judged?;
+        }
         self.judge_run(run, sizes.spares, None)?;
+        kind_judged?;
         let mut orders = Vec::new();
         for (l, level) in board.levels.iter().enumerate() {
             for f in board.frames() {
@@ -396,7 +450,7 @@ impl Reference {
             }
         }
         orders.push(Order::Fence);
-        Ok(orders)
+        Ok(self.for_kind(kind, orders))
     }
 
     fn writing(
@@ -408,9 +462,7 @@ impl Reference {
         bytes: &[u8],
     ) -> Result<Written, Refusal> {
         let board = Board::of(image, card.sizes)?;
-        if !board.card_is_true(card) {
-            return Err(Refusal::Card);
-        }
+        self.judge_card(&board, card)?;
         let run_judged = self.judge_run(run, card.sizes.spares, Some(target.console));
         if !self.has(Fault::RunAfterSpan) {
             run_judged?;
@@ -450,7 +502,10 @@ impl Reference {
         for frame in self.frames_to_mark(target, bytes.len()) {
             next.marks[level] |= 1 << frame;
         }
-        Ok(Written { orders, card: next, charged })
+        if self.has(Fault::WriteForgetsKind) {
+            next.kind = ADR;
+        }
+        Ok(Written { orders: self.for_kind(card.kind, orders), card: next, charged })
     }
 
     /// Has a span no bytes, does it start behind its frame, or does it end behind
@@ -551,9 +606,7 @@ impl Reference {
     /// is the one that it got (section 10.13).
     fn discarding(&self, image: &[u8], card: &Card, level: u64) -> Result<(Vec<Order>, Card), Refusal> {
         let board = Board::of(image, card.sizes)?;
-        if !board.card_is_true(card) {
-            return Err(Refusal::Card);
-        }
+        self.judge_card(&board, card)?;
         if level >= card.sizes.levels {
             return Err(Refusal::Level);
         }
@@ -574,7 +627,7 @@ impl Reference {
             Some(Fault::DiscardClearsTouch) => next.touched &= !(1 << level),
             _ => {}
         }
-        Ok((orders, next))
+        Ok((self.for_kind(card.kind, orders), next))
     }
 
     /// The frames that a discard of a touched level with these marks stores.
@@ -599,9 +652,7 @@ impl Reference {
 
     fn saving(&self, image: &[u8], card: &Card, run: &[Console]) -> Result<(Vec<Order>, Card), Refusal> {
         let board = Board::of(image, card.sizes)?;
-        if !board.card_is_true(card) {
-            return Err(Refusal::Card);
-        }
+        self.judge_card(&board, card)?;
         self.judge_run(run, card.sizes.spares, None)?;
         let epoch = board.epoch.checked_add(1).ok_or(Refusal::Epoch)?;
         let mut orders = Vec::new();
@@ -627,7 +678,7 @@ impl Reference {
         if self.has(Fault::MarksClearedAtSave) {
             next.marks = [0; 64];
         }
-        Ok((orders, next))
+        Ok((self.for_kind(card.kind, orders), next))
     }
 
     /// The state that a save stores for a level: 0 for an empty one that is
@@ -692,12 +743,13 @@ impl Reference {
         &self,
         image: &[u8],
         sizes: Sizes,
+        kind: u64,
         card: &mut Card,
         run: &mut [Console],
         tape: &mut [u64],
     ) -> Result<Answer, Refusal> {
-        let answer = self.opening(image, sizes, run).and_then(|orders| put_on(tape, &orders));
-        *card = if answer.is_ok() { Card::fresh(sizes) } else { Card::zeros() };
+        let answer = self.opening(image, sizes, kind, run).and_then(|orders| put_on(tape, &orders));
+        *card = if answer.is_ok() { Card::fresh(sizes, kind) } else { Card::zeros() };
         if answer.is_ok() && !self.has(Fault::OpeningKeepsTaken) {
             forget_taken(run);
         }
@@ -776,7 +828,7 @@ impl Calls for Reference {
 
     fn make(&self, deed: &Deed, image: &[u8], Given { card, run, tape }: Given) -> Answer {
         let answer = match deed {
-            Deed::Open(sizes) => self.open(image, *sizes, card, run, tape),
+            Deed::Open(sizes, kind) => self.open(image, *sizes, *kind, card, run, tape),
             Deed::Write(target, bytes) => self.write(image, card, run, *target, bytes, tape),
             Deed::Discard(level) => self.discard(image, card, *level, tape),
             Deed::Save => self.save(image, card, run, tape),

@@ -13,7 +13,7 @@ use crate::book::Call;
 use crate::calls::*;
 use crate::explore::*;
 use crate::groups::{all_found, cut_line, due, laid_out, plain, states};
-use crate::laws::{never_at, OF_CONSOLES, OF_DISCARDS, OF_SPANS};
+use crate::laws::{never_at, OF_CONSOLES, OF_DISCARDS, OF_KINDS, OF_SPANS, UNFLUSHED};
 use crate::report::{Found, Outcome};
 use std::collections::BTreeMap;
 
@@ -86,7 +86,7 @@ fn after_restart(sizes: Sizes, between: Between) -> Vec<(Call, u64)> {
 /// The story by the numbers heard, by the states, and by the last level's saved
 /// read, which has a part only once the level is written and saved, even if its edits
 /// were dropped. There are no cuts, and no law is counted.
-fn by_numbers<C: Calls>(calls: &C, sizes: Sizes, between: Between) -> Result<(), String> {
+fn by_numbers<C: Calls>(calls: &C, sizes: Sizes, kind: u64, between: Between) -> Result<(), String> {
     let (mut image, mut card, mut run) = (laid_out(calls, sizes)?, Card::zeros(), [Console::alone(sizes)]);
     let mut hear = |image: &mut [u8], call: &Call| {
         let mut tape = vec![0; call.tape];
@@ -94,7 +94,7 @@ fn by_numbers<C: Calls>(calls: &C, sizes: Sizes, between: Between) -> Result<(),
         calls.play(image, &tape[..3 * answer.orders as usize], answer.orders);
         answer.number
     };
-    let open = plain(Deed::Open(sizes), sizes);
+    let open = plain(Deed::Open(sizes, kind), sizes);
     for call in [vec![open.clone()], before_restart(sizes), vec![open]].concat() {
         due(&call.to_string(), hear(&mut image, &call), 0)?;
     }
@@ -142,6 +142,7 @@ fn restarts<C: Calls>(
 struct Story<'a, C: Calls> {
     explorer: Explorer<'a, C>,
     sizes: Sizes,
+    kinds: Kinds,
     histories: u64,
     cut_lines: u64,
 }
@@ -159,7 +160,7 @@ impl<C: Calls> Story<'_, C> {
                 due(&call.to_string(), step.answer.number, number)?;
             }
             if call.deed == Deed::Save && new_page {
-                cut_line("save", &step)?;
+                cut_line("save", &step, self.kinds)?;
                 self.cut_lines += 1;
             }
         }
@@ -168,18 +169,21 @@ impl<C: Calls> Story<'_, C> {
 }
 
 /// The group at these sizes, which have two levels more than spares.
-pub fn restored_levels<C: Calls>(calls: &C, sizes: Sizes) -> Outcome {
-    let (restarts, counts) = all_restarts(calls, sizes, Explorer::new(calls, sizes, 6))?;
+pub fn restored_levels<C: Calls>(calls: &C, sizes: Sizes, kinds: Kinds) -> Outcome {
+    let (restarts, counts) = all_restarts(calls, sizes, kinds, Explorer::new(calls, sizes, 6))?;
     let [.., of_short, of_elevens] = OF_DISCARDS;
-    let mut left_out = [&never_at(sizes)[..], &OF_SPANS, &OF_CONSOLES].concat();
+    let mut left_out = [&never_at(sizes)[..], &OF_SPANS, &OF_CONSOLES, &OF_KINDS].concat();
     left_out.extend([of_short, of_elevens]);
+    left_out.retain(|name| kinds.given == ADR || *name != UNFLUSHED);
     counts.tried.all_tried(&left_out)?;
     Ok(told(restarts, counts))
 }
 
-/// The same with demand 3 and the book alone, for faults that keep them.
+/// The same with demand 3 and the book alone, on a module of kind 0, for faults that
+/// keep them.
 pub fn restored_levels_without_laws<C: Calls>(calls: &C, sizes: Sizes) -> Outcome {
-    let (restarts, counts) = all_restarts(calls, sizes, Explorer::new(calls, sizes, 6).without_laws())?;
+    let explorer = Explorer::new(calls, sizes, 6).without_laws();
+    let (restarts, counts) = all_restarts(calls, sizes, Kinds::ADR, explorer)?;
     Ok(told(restarts, counts))
 }
 
@@ -193,17 +197,19 @@ fn told(restarts: String, counts: Counts) -> Found {
 fn all_restarts<C: Calls>(
     calls: &C,
     sizes: Sizes,
-    mut explorer: Explorer<C>,
+    kinds: Kinds,
+    explorer: Explorer<C>,
 ) -> Result<(String, Counts), String> {
+    let mut explorer = explorer.of(kinds);
     let (_, empty) = own_and_empty(sizes);
     due("levels", sizes.levels, empty + 1)?;
     let written = Between::Written(empty);
     let betweens =
         [written, Between::Nothing, Between::Written(0), Between::Dropped(0), Between::Dropped(empty)];
-    betweens.iter().try_for_each(|between| by_numbers(calls, sizes, *between))?;
+    betweens.iter().try_for_each(|between| by_numbers(calls, sizes, kinds.given, *between))?;
     let start = explorer.start(&laid_out(calls, sizes)?, Plan::ALL)?;
     let first = restarts(&mut explorer, start, &before_restart(sizes))?;
-    let mut story = Story { explorer, sizes, histories: 1, cut_lines: 0 };
+    let mut story = Story { explorer, sizes, kinds, histories: 1, cut_lines: 0 };
     first.values().try_for_each(|start| story.go_on(start, written, false))?;
     let mut all = first.values().filter(|start| states(start.module.image(), sizes) == restored(sizes));
     let (Some(all_restored), None) = (all.next(), all.next()) else {

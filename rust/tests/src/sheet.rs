@@ -212,7 +212,7 @@ impl Sheet {
             show(group, &call, &ran);
             ran
         };
-        let Ran { answer: opened, .. } = run(0, Deed::Open(sizes));
+        let Ran { answer: opened, .. } = run(0, Deed::Open(sizes, ADR));
         let mut text = format!("open={} orders={}\n", opened.number, opened.orders);
         for (i, group) in (1..).zip(&self.groups) {
             let mut ran = run(i, Deed::Write(group.target, group.bytes.clone()));

@@ -1,7 +1,7 @@
-//! The random writes, runs and discards: how often each kind of span, of record and
-//! of tape occurs.
+//! The random writes, runs, discards and cards: how often each kind of span, of record,
+//! of tape and of module occurs.
 
-use crpm_tests::arbitrary::{any_run, call, console, run, writing};
+use crpm_tests::arbitrary::{any_kind, any_run, call, card, console, run, sound_image, writing};
 use crpm_tests::calls::*;
 use crpm_tests::laws::{conditions_of_13, conditions_of_8, frames_met};
 use crpm_tests::prng::Rng;
@@ -149,7 +149,7 @@ fn every_record_occurs() {
 #[test]
 fn every_discard_occurs() {
     let (mut rng, sizes) = (Rng::new(7), Sizes::new(3, 2, 2));
-    let calls: Vec<_> = (0..6000).map(|_| call(&mut rng, sizes, &[Console::alone(sizes)])).collect();
+    let calls: Vec<_> = (0..6000).map(|_| call(&mut rng, sizes, EADR, &[Console::alone(sizes)])).collect();
     let discards: Vec<(u64, usize)> = calls
         .iter()
         .filter_map(|call| match call.deed {
@@ -171,4 +171,34 @@ fn every_discard_occurs() {
     occurs("too few for two", &|_, tape| (96..192).contains(&tape));
     occurs("just as many", &|_, tape| tape == 192);
     occurs("more", &|_, tape| tape > 192);
+}
+
+/// Openings of a history are given its kind, sometimes one above 1; those with any
+/// contents, and cards, have both kinds and others.
+#[test]
+fn every_kind_occurs() {
+    let (mut rng, sizes) = (Rng::new(8), Sizes::new(3, 2, 2));
+    let run = [Console::alone(sizes)];
+    let opened = |kind: u64| {
+        let mut rng = Rng::new(9);
+        let deeds = (0..6000).map(|_| call(&mut rng, sizes, kind, &run).deed);
+        let given = |deed| if let Deed::Open(_, kind) = deed { Some(kind) } else { None };
+        deeds.filter_map(given).collect::<Vec<u64>>()
+    };
+    for kind in [ADR, EADR] {
+        let (own, other) = opened(kind).into_iter().partition::<Vec<u64>, _>(|given| *given == kind);
+        assert!(own.len() > 200 && other.len() > 20, "{} {}", own.len(), other.len());
+        assert!(other.iter().all(|given| *given > EADR), "{other:?}");
+    }
+    let any: Vec<u64> = (0..6000).map(|_| any_kind(&mut rng)).collect();
+    let image = sound_image(&mut rng, sizes);
+    let cards: Vec<u64> = (0..6000).map(|_| card(&mut rng, &image, sizes).kind).collect();
+    for kinds in [any, cards] {
+        for (kind, least) in
+            [(ADR, 2000), (EADR, 2000), (2, 20), (3, 10), ((1 << 32) + 1, 10), (u64::MAX, 10)]
+        {
+            let count = kinds.iter().filter(|one| **one == kind).count();
+            assert!(count > least, "kind {kind}: {count}");
+        }
+    }
 }

@@ -4,7 +4,7 @@ use crpm_tests::arbitrary::{self, Metadata};
 use crpm_tests::book::Call;
 use crpm_tests::calls::*;
 use crpm_tests::crash::Module;
-use crpm_tests::explore::{Explorer, Images, Plan};
+use crpm_tests::explore::{Explorer, Images, Kinds, Plan};
 use crpm_tests::reference::{Fault, Reference};
 
 const SIZES: Sizes = Sizes::new(1, 1, 1);
@@ -28,7 +28,7 @@ fn few_orders_and_few_cuts() {
 /// Stores of 1, 0 and 0 to a word of zeros: four first parts, two contents.
 #[test]
 fn more_ways_than_images() {
-    let mut module = Module::held(&[0; 2 * LINE]);
+    let mut module = Module::held(ADR, &[0; 2 * LINE]);
     for word in [1, 0, 0] {
         module.play(Order::Store { place: 0, word });
     }
@@ -64,40 +64,87 @@ fn few_images_or_samples() {
     assert_eq!(looked_at(3, 9), 1 + 2 + 11);
 }
 
+/// Makes these calls one after the other on a laid-out module and plays their orders;
+/// an opening is given the second kind. Gives what each way of a cut then leaves.
+fn left_after(calls: &Reference, kinds: Kinds, deeds: &[Deed]) -> Vec<Vec<u8>> {
+    let mut image = vec![0; SIZES.image_length()];
+    calls.lay_out(&mut image, SIZES);
+    let (mut card, mut run) = (Card::zeros(), [Console::alone(SIZES)]);
+    let mut module = Module::held(kinds.module, &image);
+    for deed in [&[Deed::Open(SIZES, kinds.given)], deeds].concat() {
+        let mut tape = vec![0; SIZES.room()];
+        let answer = calls.make(&deed, module.image(), Given::of(&mut card, &mut run, &mut tape));
+        assert_eq!(answer.number, 0);
+        let orders = orders_of(&tape[..3 * answer.orders as usize], image.len()).expect("well formed");
+        orders.into_iter().for_each(|order| module.play(order));
+    }
+    let mut images = Vec::new();
+    let visit = |_, image: &dyn Fn() -> Vec<u8>| {
+        images.push(image());
+        Ok::<(), String>(())
+    };
+    module.cut().for_all(visit).expect("nothing fails");
+    images
+}
+
+const WRITTEN: u64 = 0x7777;
+
+/// A word at the start of the level.
+fn word() -> Deed {
+    let target = Target { console: 0, level: 0, frame: 0, offset: 0 };
+    Deed::Write(target, WRITTEN.to_le_bytes().to_vec())
+}
+
 /// On a laid-out image a word is written, dropped and saved. A power cut after the
 /// save leaves one image, which shows zeros; had the discard cleared the marks, the
 /// save would not flush the frame, and the word that was never saved might stand.
 #[test]
 fn a_dropped_word_is_flushed_by_the_save() {
-    let written = 0x7777_u64;
     let ran = |calls: &Reference| {
-        let mut image = vec![0; SIZES.image_length()];
-        calls.lay_out(&mut image, SIZES);
-        let (mut card, mut run) = (Card::zeros(), [Console::alone(SIZES)]);
-        let mut module = Module::held(&image);
-        let target = Target { console: 0, level: 0, frame: 0, offset: 0 };
-        for deed in [
-            Deed::Open(SIZES),
-            Deed::Write(target, written.to_le_bytes().to_vec()),
-            Deed::Discard(0),
-            Deed::Save,
-        ] {
-            let mut tape = vec![0; SIZES.room()];
-            let answer = calls.make(&deed, module.image(), Given::of(&mut card, &mut run, &mut tape));
-            assert_eq!(answer.number, 0);
-            let orders = orders_of(&tape[..3 * answer.orders as usize], image.len()).expect("well formed");
-            orders.into_iter().for_each(|order| module.play(order));
-        }
-        let mut words = Vec::new();
-        let visit = |_, image: &dyn Fn() -> Vec<u8>| {
-            let image = image();
+        let images = left_after(calls, Kinds::ADR, &[word(), Deed::Discard(0), Deed::Save]);
+        let stands = |image: &Vec<u8>| {
             assert_eq!((image[EPOCH], image[ODD_STATES]), (1, 1), "saved, and the level set");
-            words.push(word_at(&image, DATA));
-            Ok::<(), String>(())
+            word_at(image, DATA)
         };
-        module.cut().for_all(visit).expect("nothing fails");
-        words
+        images.iter().map(stands).collect::<Vec<u64>>()
     };
     assert_eq!(ran(&Reference::good()), [0]);
-    assert_eq!(ran(&Reference::faulty(Fault::DiscardClearsMarks)), [written, 0]);
+    assert_eq!(ran(&Reference::faulty(Fault::DiscardClearsMarks)), [WRITTEN, 0]);
+}
+
+/// Epoch, state and word that may stand after a save that is finished: those saved,
+/// whichever kind the module is and whether its openings are given it or kind 0. On a
+/// module of kind 0 whose openings were given kind 1 the save can be lost, in any part.
+#[test]
+fn the_wrong_kind_loses_a_finished_save() {
+    let saved = |kinds: Kinds| {
+        let images = left_after(&Reference::good(), kinds, &[word(), Deed::Save]);
+        let mut stands: Vec<(u8, u8, u64)> =
+            images.iter().map(|image| (image[EPOCH], image[ODD_STATES], word_at(image, DATA))).collect();
+        stands.sort();
+        stands
+    };
+    for kinds in [Kinds::ADR, Kinds::EADR, Kinds::EADR_AS_ADR] {
+        assert_eq!(saved(kinds), [(1, 1, WRITTEN)], "{kinds:?}");
+    }
+    let mut parts = Vec::new();
+    for epoch in [0, 1] {
+        for state in [0, 1] {
+            parts.extend([0, WRITTEN].map(|word| (epoch, state, word)));
+        }
+    }
+    assert_eq!(saved(Kinds::ADR_AS_EADR), parts);
+}
+
+/// A module of kind 1 holds every store as it is played, flushed or not.
+#[test]
+fn kind_1_holds_every_store() {
+    let mut module = Module::held(EADR, &[0; 2 * LINE]);
+    for (place, word) in [(0, 1), (LINE, 2), (0, 3)] {
+        module.play(Order::Store { place, word });
+        let cut = module.cut();
+        assert_eq!((cut.count(), cut.ways()), (1, 1));
+        assert_eq!(word_at(&cut.all_oldest(), place), word);
+        assert_eq!(cut.all_oldest(), cut.all_newest());
+    }
 }

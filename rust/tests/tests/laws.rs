@@ -42,7 +42,7 @@ fn left_by(deed: &Deed, number: u64, before: &[u8], lent: &[Console]) -> Vec<Con
         Deed::Write(target, _) => {
             left[target.console as usize].taken += u64::from(state_of(before, target.level as usize) == 1)
         }
-        Deed::Open(_) | Deed::Save => left.iter_mut().for_each(|console| console.taken = 0),
+        Deed::Open(..) | Deed::Save => left.iter_mut().for_each(|console| console.taken = 0),
         Deed::Discard(_) => {}
     }
     left
@@ -79,8 +79,8 @@ fn copying_writes_are_counted() {
     assert!(one(&write_to(0), 11, &none, &some).is_err());
     assert_eq!(one(&write_to(1), 0, &none, &none).map(|tried| tried.copies), Ok(0));
     assert_eq!(one(&write_to(0), 0, &some, &some).map(|tried| tried.copies), Ok(0));
-    assert!(one(&Deed::Open(SIZES), 0, &some, &some).is_ok());
-    assert!(one(&Deed::Open(SIZES), 0, &some, &none).is_err());
+    assert!(one(&Deed::Open(SIZES, ADR), 0, &some, &some).is_ok());
+    assert!(one(&Deed::Open(SIZES, ADR), 0, &some, &none).is_err());
 }
 
 /// A level in state 2 without a spare, and a spare that two levels need.
@@ -88,7 +88,7 @@ fn copying_writes_are_counted() {
 fn as_many_spares_as_levels_in_state_2() {
     let whole = image([2, 2, 1], [0, 1]);
     for after in [image([2, 2, 1], [0, UNPAIRED]), image([2, 1, 1], [0, 0])] {
-        assert!(one(&Deed::Open(SIZES), 0, &whole, &after).is_err());
+        assert!(one(&Deed::Open(SIZES, ADR), 0, &whole, &after).is_err());
     }
 }
 
@@ -117,7 +117,7 @@ fn from_save_to_save() {
         (write_to(1), 0, &start, &full),
         (write_to(1), 0, &full, &full),
         (write_to(2), 9, &full, &full),
-        (Deed::Open(SIZES), 0, &full, &full),
+        (Deed::Open(SIZES, ADR), 0, &full, &full),
         (write_to(2), 9, &full, &full),
         (Deed::Save, 0, &full, &saved),
         (write_to(0), 0, &saved, &image([2, 1, 1], [0, 1])),
@@ -129,10 +129,11 @@ fn from_save_to_save() {
         total.add(tally.feed(seen).expect("the laws hold"));
         run = left;
     }
-    let Tried { saves, settled, empty, copies, nines, taken, spans, heard, discards } = total;
+    let Tried { saves, settled, empty, copies, nines, taken, spans, heard, discards, kinds } = total;
     assert_eq!((saves, settled, empty, copies, nines), (1, 2, 0, 2, 2));
     assert_eq!(taken, Taken { unpaired: 1, ..Taken::default() });
     assert_eq!((spans, heard, discards), (Spans::default(), Heard::default(), Discards::default()));
+    assert_eq!(kinds, OfKind::default());
 }
 
 /// A write to the last level, in state 1 and without a spare, from these states
@@ -194,7 +195,8 @@ fn no_other_spare_is_taken() {
 fn other_calls_take_no_spare() {
     let (before, after) = (image([1, 1, 1], [0, UNPAIRED]), image([1, 1, 1], [0, 2]));
     let said = "pair bytes of spares [1] change, a spare due for level None".to_string();
-    for (deed, number) in [(Deed::Save, 0), (Deed::Open(SIZES), 0), (write_to(2), 11), (write_to(3), 6)] {
+    for (deed, number) in [(Deed::Save, 0), (Deed::Open(SIZES, ADR), 0), (write_to(2), 11), (write_to(3), 6)]
+    {
         assert_eq!(one(&deed, number, &before, &after).err(), Some(said.clone()));
     }
 }
@@ -266,7 +268,9 @@ fn untried_laws_fail() {
     let heard = Heard { thirteens: 1, fourteens: 1, fifteens: 1, shares: 1 };
     let discards =
         Discards { from_spare: 1, to_zeros: 1, of_no_frame: 0, untouched: 1, short: 1, elevens: 1 };
-    let tried = Tried { saves: 1, settled: 1, empty: 1, copies: 1, nines: 1, taken, spans, heard, discards };
+    let kinds = OfKind { unflushed: 1, fives: 1, of_cards: 0 };
+    let (saves, settled, empty, copies, nines) = (1, 1, 1, 1, 1);
+    let tried = Tried { saves, settled, empty, copies, nines, taken, spans, heard, discards, kinds };
     assert!(tried.all_tried(&[]).is_ok());
     assert!(Tried { nines: 0, ..tried }.all_tried(&[NINES]).is_ok());
     assert!(Tried { spans: Spans::default(), ..tried }.all_tried(&OF_SPANS).is_ok());
@@ -287,6 +291,11 @@ fn untried_laws_fail() {
         Heard { shares: 0, ..heard },
     ] {
         assert!(Tried { heard, ..tried }.all_tried(&[NINES]).is_err());
+    }
+    assert!(Tried { kinds: OfKind::default(), ..tried }.all_tried(&OF_KINDS).is_ok());
+    assert!(kinds.all_tried().is_err() && OfKind { of_cards: 1, ..kinds }.all_tried().is_ok());
+    for kinds in [OfKind { unflushed: 0, ..kinds }, OfKind { fives: 0, ..kinds }] {
+        assert!(Tried { kinds, ..tried }.all_tried(&[NINES]).is_err());
     }
     assert!(Tried { discards: Discards::default(), ..tried }.all_tried(&OF_DISCARDS).is_ok());
     assert!(discards.all_tried().is_err() && Discards { of_no_frame: 1, ..discards }.all_tried().is_ok());
@@ -346,7 +355,7 @@ fn records_are_left_as_due() {
     assert_eq!(lent(&by_first, 0, &run, &above).err(), Some(said));
     assert!(lent(&by_first, 11, &run, &run).is_ok());
     assert!(lent(&by_first, 11, &run, &charged[0]).is_err());
-    for deed in [Deed::Save, Deed::Open(SIZES)] {
+    for deed in [Deed::Save, Deed::Open(SIZES, ADR)] {
         let cleared = [run[0], record(0, 3, 0)];
         assert!(lent(&deed, 0, &run, &cleared).is_ok(), "{deed}");
         assert!(lent(&deed, 0, &run, &run).is_err(), "{deed}");
@@ -384,7 +393,7 @@ fn thirteen_exactly_where_due() {
     ];
     for (run, condition) in runs {
         assert!(conditions_of_13(Some(0), run, 2)[condition], "{run:?}");
-        for deed in [Deed::Save, Deed::Open(SIZES), write_to(0)] {
+        for deed in [Deed::Save, Deed::Open(SIZES, ADR), write_to(0)] {
             assert!(lent(&deed, 13, run, run).is_ok(), "{deed} {run:?}");
             let left = left_by(&deed, 0, &image([1; 3], [UNPAIRED; 2]), run);
             assert!(lent(&deed, 0, run, &left).is_err(), "{deed} {run:?}");
@@ -456,7 +465,7 @@ fn shares_are_kept_since_a_save() {
         assert_ne!(refused(&tally, 1, number, &run), said(number));
         assert_ne!(refused(&tally, 0, number, &[run[0], record(0, 1, 0)]), said(number), "another run");
     }
-    assert_eq!(served(&mut tally, &Deed::Open(SIZES)), Ok(0));
+    assert_eq!(served(&mut tally, &Deed::Open(SIZES, ADR)), Ok(0));
     assert_ne!(refused(&tally, 0, 15, &run), said(15), "opened since");
 }
 
@@ -550,7 +559,7 @@ fn due_of(tally: &Tally, before: &[u8], saved: &[u8], frames: &[usize]) -> (Tall
     let places = frames.iter().flat_map(|frame| (0..FRAME).step_by(WORD).map(move |at| FRAME * frame + at));
     let orders: Vec<Order> =
         places.map(|at| Order::Store { place: DATA + at, word: word_at(saved, at) }).collect();
-    let mut card = Card::fresh(TWO_FRAMES);
+    let mut card = Card::fresh(TWO_FRAMES, ADR);
     card.touched = u64::from(!frames.is_empty());
     card.marks[0] = frames.iter().fold(0, |marks, frame| marks | 1 << frame);
     let mut after = before.to_vec();

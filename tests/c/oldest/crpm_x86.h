@@ -4,7 +4,7 @@
  * leaves as it is. A flush takes the line as it then stands, and the next fence
  * brings what was taken to the module: the file that the environment variable
  * CRPM_DURABLE names. So that file has the oldest image that a power cut may
- * leave; what a killed process flushed and did not fence is not in it.
+ * leave on a module of the kind CRPM_ADR; what a killed process flushed and did not fence is not in it.
  */
 #ifndef CRPM_X86_H
 #define CRPM_X86_H

@@ -5,22 +5,23 @@
 //! by step, cut at every order and opened again through the library's own
 //! calls; every permitted image of single calls, of short histories of one console
 //! and of two and of the first save after a restart; the stories of long writes, of
-//! two consoles and of discards at every cut; sheets and random histories on two
-//! benches. In every history the laws of sections 11.5, 10.9, 3.4, 10.10, 15.7 and
-//! 10.12 are counted. Then the library's answers are spoiled one at a time, and each
+//! two consoles and of discards at every cut; both kinds of module, each call for
+//! both and histories on either; sheets and random histories on two benches. In every
+//! history the laws of sections 11.5, 10.9, 3.4, 10.10, 15.7 and 10.12 and those of the
+//! tapes are counted. Then the library's answers are spoiled one at a time, and each
 //! group must notice. Seeds are fixed.
 
 use crpm_tests::calls::*;
 use crpm_tests::compared::Compared;
 use crpm_tests::corrupted::{CallKind, Corrupted, Spoil};
-use crpm_tests::explore::{Images, Plan, LEGEND};
+use crpm_tests::explore::{Images, Kinds, Plan, LEGEND};
 use crpm_tests::groups::{self, Laws, Random};
 use crpm_tests::library::{Library, Wrapped};
 use crpm_tests::long::{after_cuts, long_writes, longest_writes};
 use crpm_tests::reference::Reference;
 use crpm_tests::report::{arguments, Found, Outcome, Suite};
 use crpm_tests::restart::restored_levels;
-use crpm_tests::{arbitrary, benches, consoles, discards};
+use crpm_tests::{arbitrary, benches, consoles, discards, kinds};
 use std::process::ExitCode;
 
 const USAGE: &str = "usage: differential [--quick]
@@ -66,8 +67,10 @@ fn all(suite: &mut Suite) {
     suite.add("any contents, sizes 1 to 64", any_large);
     suite.add("bench cases", || compared(&Library, |both| groups::bench_cases(both)));
     suite.add("waiting lines", || compared(&Library, |both| groups::waiting_lines(both)));
-    suite.add("restored levels at 6,4,1", || restored(STORY));
-    suite.add("restored levels at 4,2,2", || restored(STORY_OF_FRAMES));
+    suite.add("restored levels at 6,4,1", || restored(STORY, Kinds::ADR));
+    suite.add("restored levels at 6,4,1, kind 1", || restored(STORY, Kinds::EADR));
+    suite.add("restored levels at 4,2,2", || restored(STORY_OF_FRAMES, Kinds::ADR));
+    suite.add("restored levels at 4,2,2, kind 1", || restored(STORY_OF_FRAMES, Kinds::EADR));
     suite.add("long writes at 1,1,4", || compared(&Library, |both| long_writes(both, FEW_IMAGES)));
     suite.add("long writes after cuts", || compared(&Library, |both| after_cuts(both)));
     suite.add("longest writes", || compared(&Library, |both| longest_writes(both)));
@@ -77,6 +80,9 @@ fn all(suite: &mut Suite) {
     suite.add("stage and gallery at 5,3,1", || compared(&Library, |both| consoles::story(both)));
     suite.add("two consoles up to 3 at 2,1,1", || of_two(TWO, 21, Plan::ALL));
     suite.add("two consoles up to 3 at 3,2,1", || of_two(FIVE, 4, FEW_CUTS));
+    suite.add("both kinds", || compared(&Library, |both| kinds::both(both, 46, 20_000)));
+    suite.add("bench cases, kind 1", || compared(&Library, |both| kinds::bench_cases(both)));
+    suite.add("wrong kinds", || compared(&Library, |both| kinds::wrong_kind(both)));
     suite.add("two benches, one sheet", || compared(&Library, |both| benches::one_sheet(both)));
     suite.add("two benches, random histories", || two_benches(1000));
     suite.add("random histories, sizes 1 to 3", || histories(random(41, 1200, 12, 3, EVERY_CUT)));
@@ -84,13 +90,19 @@ fn all(suite: &mut Suite) {
     suite.add("random histories, sizes 1 to 64", || {
         histories(Random { laws: Laws::Held, ..random(43, 5, 16, 64, SOME_CUTS) })
     });
-    suite.add("single calls at 1,1,1", || compared(&Library, |both| groups::single_calls(both)));
-    suite.add("histories up to 5 at 1,1,1", || short(SMALL, 5));
-    suite.add("histories up to 4 at 2,1,1", || short(TWO, 4));
-    suite.add("histories up to 4 at 1,1,2", || short(SMALL_OF_FRAMES, 4));
-    suite.add("histories up to 3 at 2,1,2", || short(TWO_OF_FRAMES, 3));
+    suite.add("single calls at 1,1,1", || single(Kinds::ADR));
+    suite.add("single calls at 1,1,1, kind 1", || single(Kinds::EADR));
+    suite.add("histories up to 5 at 1,1,1", || short(SMALL, 5, Kinds::ADR));
+    suite.add("histories up to 4 at 1,1,1, kind 1", || short(SMALL, 4, Kinds::EADR));
+    suite.add("histories up to 4 at 2,1,1", || short(TWO, 4, Kinds::ADR));
+    suite.add("histories up to 4 at 2,1,1, kind 1", || short(TWO, 4, Kinds::EADR));
+    suite.add("histories up to 3 at 2,1,1, kind 1 as 0", || short(TWO, 3, Kinds::EADR_AS_ADR));
+    suite.add("histories up to 4 at 1,1,2", || short(SMALL_OF_FRAMES, 4, Kinds::ADR));
+    suite.add("histories up to 3 at 2,1,2", || short(TWO_OF_FRAMES, 3, Kinds::ADR));
+    suite.add("histories up to 3 at 2,1,2, kind 1", || short(TWO_OF_FRAMES, 3, Kinds::EADR));
     suite.add("safe calls, any contents", || any_small(&Wrapped, 10_000));
     suite.add("safe calls, bench cases", || compared(&Wrapped, |both| groups::bench_cases(both)));
+    suite.add("safe calls, both kinds", || compared(&Wrapped, |both| kinds::both(both, 47, 5_000)));
     suite.add("safe calls, stage and gallery", || compared(&Wrapped, |both| consoles::story(both)));
     suite.add("safe calls, discards", || compared(&Wrapped, |both| discards::story(both, FEW_CUTS)));
     suite.add("safe calls, long writes", || compared(&Wrapped, |both| long_writes(both, SOME_OF_SAVES)));
@@ -101,16 +113,19 @@ fn all(suite: &mut Suite) {
 fn quick(suite: &mut Suite) {
     suite.add("any contents, sizes 1 to 4", || any_small(&Library, 5_000));
     suite.add("bench cases", || compared(&Library, |both| groups::bench_cases(both)));
-    suite.add("restored levels at 6,4,1", || restored(STORY));
+    suite.add("restored levels at 6,4,1", || restored(STORY, Kinds::ADR));
     suite.add("long writes at 1,1,4", || compared(&Library, |both| long_writes(both, FEW_IMAGES)));
     suite.add("discards at 2,1,2", || compared(&Library, |both| discards::story(both, Plan::ALL)));
     suite.add("stage and gallery at 5,3,1", || compared(&Library, |both| consoles::story(both)));
     suite.add("two consoles up to 3 at 3,2,1", || of_two(FIVE, 1, FEW_CUTS));
+    suite.add("both kinds", || compared(&Library, |both| kinds::both(both, 46, 2_000)));
+    suite.add("bench cases, kind 1", || compared(&Library, |both| kinds::bench_cases(both)));
     suite.add("two benches, one sheet", || compared(&Library, |both| benches::one_sheet(both)));
     suite.add("two benches, random histories", || two_benches(200));
     suite.add("random histories, sizes 1 to 3", || histories(random(41, 40, 12, 3, EVERY_CUT)));
-    suite.add("histories up to 3 at 2,1,1", || short(TWO, 3));
-    suite.add("histories up to 3 at 1,1,2", || short(SMALL_OF_FRAMES, 3));
+    suite.add("histories up to 3 at 2,1,1", || short(TWO, 3, Kinds::ADR));
+    suite.add("histories up to 3 at 2,1,1, kind 1", || short(TWO, 3, Kinds::EADR));
+    suite.add("histories up to 3 at 1,1,2", || short(SMALL_OF_FRAMES, 3, Kinds::ADR));
     suite.add("safe calls, any contents", || any_small(&Wrapped, 5_000));
     suite.add("safe calls, bench cases", || compared(&Wrapped, |both| groups::bench_cases(both)));
     suite.add("spoiled answers, any contents", spoiled_contents);
@@ -144,23 +159,29 @@ fn any_large() -> Outcome {
     })
 }
 
-/// Adds the writes by their spans, the calls by the records and the discards by what
-/// they store, of which no kind may be missing.
+/// Adds the writes by their spans, the calls by the records and by the kind of module
+/// and the discards by what they store, of which none may be missing.
 fn kinds_tried<C: Calls>(both: &Pair<C>, text: &str) -> Outcome {
     both.spans().all_tried()?;
     both.charges().all_tried()?;
     both.discards().all_tried()?;
-    let named = [&both.spans().named()[..], &both.charges().named(), &both.discards().named()].concat();
+    both.kinds().all_tried()?;
+    let mut named = [&both.spans().named()[..], &both.charges().named(), &both.discards().named()].concat();
+    named.extend(both.kinds().named());
     let told: Vec<String> = named.iter().map(|(name, count)| format!("{count} {name}")).collect();
     Ok(Found::new(format!("{text}; {}", told.join(", ")), &named))
 }
 
-fn short(sizes: Sizes, depth: usize) -> Outcome {
-    compared(&Library, |both| groups::short_histories(both, sizes, depth))
+fn single(kinds: Kinds) -> Outcome {
+    compared(&Library, |both| groups::single_calls(both, kinds))
 }
 
-fn restored(sizes: Sizes) -> Outcome {
-    compared(&Library, |both| restored_levels(both, sizes))
+fn short(sizes: Sizes, depth: usize, kinds: Kinds) -> Outcome {
+    compared(&Library, |both| groups::short_histories(both, sizes, depth, kinds))
+}
+
+fn restored(sizes: Sizes, kinds: Kinds) -> Outcome {
+    compared(&Library, |both| restored_levels(both, sizes, kinds))
 }
 
 fn of_two(sizes: Sizes, runs: usize, plan: Plan) -> Outcome {
@@ -194,7 +215,7 @@ fn spoiled_contents() -> Outcome {
         for after in AFTER {
             let spoiled = Corrupted::new(&Library, spoil, after);
             let both = Compared::new(&good, &spoiled);
-            groups::any_contents(&both, 55, 32, |rng| arbitrary::sizes(rng, 3));
+            groups::any_contents(&both, 55, 40, |rng| arbitrary::sizes(rng, 3));
             if !spoiled.done() || both.differences() != 1 {
                 return Err(format!("{spoil:?} after {after}: {} differences", both.differences()));
             }
@@ -211,18 +232,19 @@ fn spoiled_histories() -> Outcome {
     let plan = Plan { images: Images::Some { samples: 1 }, every_cut_up_to: 20 };
     let random = Random { laws: Laws::Held, ..random(44, 8, 8, 2, plan) };
     let (all, few) = (Spoil::all(), [Spoil::Number(CallKind::Write), Spoil::PlayedImage, Spoil::ReadStart]);
-    let runs: [(&str, &[Spoil], SpoiledRun); 11] = [
+    let runs: [(&str, &[Spoil], SpoiledRun); 12] = [
         ("bench cases", &all, &|both| groups::bench_cases(both)),
         ("waiting lines", &all, &|both| groups::waiting_lines(both)),
-        ("restored levels", &all, &|both| restored_levels(both, SHORT_STORY)),
+        ("restored levels", &all, &|both| restored_levels(both, SHORT_STORY, Kinds::ADR)),
         ("long writes", &all, &|both| long_writes(both, SOME_OF_SAVES)),
         ("long writes after cuts", &few, &|both| after_cuts(both)),
         ("discards", &all, &|both| discards::story(both, plan)),
         ("stage and gallery", &all, &|both| consoles::story(both)),
+        ("bench cases, kind 1", &all, &|both| kinds::bench_cases(both)),
         ("two benches", &all, &|both| benches::one_sheet(both)),
         ("random histories", &all, &|both| groups::random_histories(both, random)),
-        ("single calls", &few, &|both| groups::single_calls(both)),
-        ("short histories", &all, &|both| groups::short_histories(both, SMALL, 2)),
+        ("single calls", &few, &|both| groups::single_calls(both, Kinds::ADR)),
+        ("short histories", &all, &|both| groups::short_histories(both, SMALL, 2, Kinds::EADR)),
     ];
     let (mut lines, mut noticed) = (Vec::new(), 0);
     for (name, kinds, run) in runs {

@@ -4,14 +4,15 @@
 //! over every permitted image of single calls, of short histories of one console
 //! and of two and of the first save after a restart, over the stories of long
 //! writes, of two consoles and of discards and over random histories, with the laws
-//! of sections 11.5, 10.9, 3.4, 10.10, 15.7 and 10.12 counted in all of them; sheets
+//! of sections 11.5, 10.9, 3.4, 10.10, 15.7 and 10.12 and those of the tapes counted in
+//! all of them; both kinds of module, and openings that are given the wrong one; sheets
 //! and random histories on two benches; each fault must be caught by what it breaks,
 //! and those that keep demand 3 must keep it; the corner sheets print as they should,
 //! and wrong rules for spares left out and wrong upgrades of sheets do not.
 
 use crpm_tests::calls::Sizes;
 use crpm_tests::compared::Compared;
-use crpm_tests::explore::{Images, Plan, LEGEND};
+use crpm_tests::explore::{Images, Kinds, Plan, LEGEND};
 use crpm_tests::fast::Fast;
 use crpm_tests::groups::{self, Laws, Random};
 use crpm_tests::long::{after_cuts, long_writes, longest_writes};
@@ -19,7 +20,7 @@ use crpm_tests::reference::{Fault, Reference};
 use crpm_tests::report::{arguments, Found, Outcome, Suite};
 use crpm_tests::restart::{restored_levels, restored_levels_without_laws};
 use crpm_tests::sheet::{self, Rule, Upgrade};
-use crpm_tests::{arbitrary, benches, consoles, corners, corners::Corner, discards};
+use crpm_tests::{arbitrary, benches, consoles, corners, corners::Corner, discards, kinds};
 use std::process::ExitCode;
 
 const USAGE: &str = "usage: selftest
@@ -55,12 +56,12 @@ fn all_good<'a>(suite: &mut Suite<'a>, good: &'a Reference) {
     suite.add("cut model", || groups::crash_model(4000));
     suite.add("bench cases", || groups::bench_cases(good));
     suite.add("waiting lines", || groups::waiting_lines(good));
-    suite.add("single calls 1,1,1", || groups::single_calls(good));
-    suite.add("histories up to 5 at 1,1,1", || groups::short_histories(good, SMALL, 5));
-    suite.add("histories up to 4 at 2,1,1", || groups::short_histories(good, TWO, 4));
-    suite.add("histories up to 2 at 2,2,1", || groups::short_histories(good, FOUR, 2));
-    suite.add("histories up to 4 at 1,1,2", || groups::short_histories(good, SMALL_OF_FRAMES, 4));
-    suite.add("histories up to 3 at 2,1,2", || groups::short_histories(good, TWO_OF_FRAMES, 3));
+    suite.add("single calls 1,1,1", || groups::single_calls(good, Kinds::ADR));
+    suite.add("single calls 1,1,1, kind 1", || groups::single_calls(good, Kinds::EADR));
+    for (sizes, depth, kinds) in HISTORIES {
+        let (of_kind, explore) = (told(kinds), move || groups::short_histories(good, sizes, depth, kinds));
+        suite.add(format!("histories up to {depth} at {sizes}{of_kind}"), explore);
+    }
     suite.add("long writes at 1,1,4", || long_writes(good, EVERY_CUT));
     suite.add("long writes after cuts", || after_cuts(good));
     suite.add("longest writes", || longest_writes(good));
@@ -71,19 +72,58 @@ fn all_good<'a>(suite: &mut Suite<'a>, good: &'a Reference) {
     suite.add("two consoles up to 3 at 2,1,1", || consoles::of_two(good, TWO, 3, 7, Plan::ALL));
     suite.add("two consoles up to 3 at 3,2,1", || consoles::of_two(good, FIVE, 3, 8, FEW_CUTS));
     suite.add("random histories", || groups::random_histories(good, random(21, 40)));
-    suite.add("restored levels at 6,4,1", || restored_levels(good, STORY));
-    suite.add("restored levels at 4,2,2", || restored_levels(good, STORY_OF_FRAMES));
+    for kinds in [Kinds::ADR, Kinds::EADR, Kinds::EADR_AS_ADR] {
+        for sizes in [STORY, STORY_OF_FRAMES] {
+            let explore = move || restored_levels(good, sizes, kinds);
+            suite.add(format!("restored levels at {sizes}{}", told(kinds)), explore);
+        }
+    }
+    suite.add("both kinds", || kinds::both(good, 46, 4000));
+    suite.add("bench cases, kind 1", || kinds::bench_cases(good));
+    suite.add("wrong kinds", || kinds::wrong_kind(good));
     suite.add("two benches, one sheet", || benches::one_sheet(good));
     suite.add("two benches, random histories", || benches::random_histories(good, 45, 200));
+}
+
+/// Short histories: their sizes and lengths, and the kinds of module.
+const HISTORIES: [(Sizes, usize, Kinds); 11] = [
+    (SMALL, 5, Kinds::ADR),
+    (SMALL, 5, Kinds::EADR),
+    (TWO, 4, Kinds::ADR),
+    (TWO, 4, Kinds::EADR),
+    (TWO, 3, Kinds::EADR_AS_ADR),
+    (FOUR, 2, Kinds::ADR),
+    (FOUR, 2, Kinds::EADR),
+    (SMALL_OF_FRAMES, 4, Kinds::ADR),
+    (SMALL_OF_FRAMES, 4, Kinds::EADR),
+    (TWO_OF_FRAMES, 3, Kinds::ADR),
+    (TWO_OF_FRAMES, 3, Kinds::EADR),
+];
+
+/// The kinds in a group's name, where they are not 0.
+fn told(kinds: Kinds) -> &'static str {
+    match kinds {
+        Kinds::EADR => ", kind 1",
+        Kinds::EADR_AS_ADR => ", kind 1 as 0",
+        _ => "",
+    }
 }
 
 /// Each fault by what it breaks.
 fn faults(suite: &mut Suite) {
     for (fault, sizes, breaks) in FAULTS {
-        suite.add(format!("fault {fault:?}"), move || caught(fault, sizes, breaks));
+        suite.add(format!("fault {fault:?}"), move || caught(fault, sizes, Kinds::ADR, breaks));
+    }
+    for (fault, breaks) in FAULTS_OF_KIND {
+        suite.add(format!("fault {fault:?}"), move || caught(fault, ONE_FRAME, Kinds::EADR, breaks));
+    }
+    for fault in KINDS_THAT_KEEP_DEMAND_3 {
+        let faulty = Reference::faulty(fault);
+        let keeps = move || groups::short_histories_without_laws(&faulty, TWO, 3, Kinds::EADR);
+        suite.add(format!("fault {fault:?} keeps demand 3"), keeps);
     }
     for (fault, breaks) in FAULTS_OF_SAVE {
-        let story = move || restored_levels(&Reference::faulty(fault), STORY);
+        let story = move || restored_levels(&Reference::faulty(fault), STORY, Kinds::ADR);
         suite.add(format!("fault {fault:?} after a restart"), move || heard(story(), breaks));
     }
     for (fault, breaks) in FAULTS_OF_WRITE {
@@ -94,8 +134,8 @@ fn faults(suite: &mut Suite) {
         suite.add(format!("fault {fault:?} keeps demand 3"), move || keeps_demand_3(fault));
         let faulty = Reference::faulty(fault);
         let laws = move || {
-            groups::short_histories(&faulty, FOUR, 1)?;
-            restored_levels(&faulty, STORY_OF_FRAMES)
+            groups::short_histories(&faulty, FOUR, 1, Kinds::ADR)?;
+            restored_levels(&faulty, STORY_OF_FRAMES, Kinds::ADR)
         };
         suite.add(format!("fault {fault:?} by the laws"), move || heard(laws(), breaks));
         let sheets = move || benches::one_sheet(&faulty);
@@ -199,6 +239,29 @@ const DISCARDS_THAT_KEEP_DEMAND_3: [Fault; 4] = [
     Fault::DiscardRefusesUntouched,
 ];
 
+/// The faults of the kinds of module that a module of kind 1 shows, and what is said of
+/// each.
+const FAULTS_OF_KIND: [(Fault, &str); 5] = [
+    (
+        Fault::KeepsAFlush,
+        "has Orders { stores: 9, flushes: 1, fences: 3 }, due Orders { stores: 9, flushes: 0, fences: 3 }",
+    ),
+    (
+        Fault::DropsAFence,
+        "has Orders { stores: 9, flushes: 0, fences: 2 }, due Orders { stores: 9, flushes: 0, fences: 3 }",
+    ),
+    (
+        Fault::FlushesAll,
+        "has Orders { stores: 9, flushes: 2, fences: 3 }, due Orders { stores: 9, flushes: 0, fences: 3 }",
+    ),
+    (Fault::TakesKind2, "an opening given kind 2 answers 0"),
+    (Fault::WriteForgetsKind, "a card of kind 0 is left, due 1"),
+];
+
+/// Those of them that no page shows on a module of kind 1, at any cut.
+const KINDS_THAT_KEEP_DEMAND_3: [Fault; 4] =
+    [Fault::KeepsAFlush, Fault::DropsAFence, Fault::FlushesAll, Fault::WriteForgetsKind];
+
 /// The faults of a save's states, and what is heard after a restart.
 const FAULTS_OF_SAVE: [(Fault, &str); 3] = [
     (
@@ -247,7 +310,7 @@ const FAULTS_OF_SPARE: [(Fault, &str, &str); 3] = [
 ];
 
 /// The faults of consoles that two of them show, and what is said of each.
-const FAULTS_OF_CONSOLES: [(Fault, &str); 10] = [
+const FAULTS_OF_CONSOLES: [(Fault, &str); 11] = [
     (Fault::ChargesRefused, "a refused call changes the card or the run, or reports orders"),
     (Fault::ChargesMarkedOnly, "a call lent [0/0/0 0/1/0] leaves [0/0/0 0/1/0], due [0/0/0 0/1/1]"),
     (Fault::SaveKeepsTaken, "save: a call lent [0/0/0 0/1/1] leaves [0/0/0 0/1/1], due [0/0/0 0/1/0]"),
@@ -257,6 +320,7 @@ const FAULTS_OF_CONSOLES: [(Fault, &str); 10] = [
     (Fault::OwnSpareNotFree, "[0/0/0 0/1/0] answers 15 with 0 spares in use, due of 14 and 15: None"),
     (Fault::SharesWrap, "(refusal 13 due: true) answers 0"),
     (Fault::JudgesOneRecord, "a call lent [0/1/0 0/1/2] (refusal 13 due: true) answers 0"),
+    (Fault::KindAfterRun, "an opening given kind 2 answers 13"),
     (Fault::RunAfterSpan, "a call lent [0/1/0 0/1/2] (refusal 13 due: true) answers 8"),
 ];
 
@@ -319,12 +383,12 @@ fn random(seed: u64, histories: usize) -> Random {
 
 /// The explorer must find what the fault breaks, by demand 3 and the book
 /// first and then by the laws; the shortest histories are tried first.
-fn caught(fault: Fault, sizes: &[Sizes], breaks: &str) -> Outcome {
+fn caught(fault: Fault, sizes: &[Sizes], kinds: Kinds, breaks: &str) -> Outcome {
     let faulty = Reference::faulty(fault);
     for explore in [groups::short_histories_without_laws, groups::short_histories] {
         for depth in 1..=3 {
             for sizes in sizes {
-                if let Err(witness) = explore(&faulty, *sizes, depth) {
+                if let Err(witness) = explore(&faulty, *sizes, depth, kinds) {
                     return noticed(witness, breaks);
                 }
             }
@@ -338,7 +402,7 @@ fn keeps_demand_3(fault: Fault) -> Outcome {
     let faulty = Reference::faulty(fault);
     let random = Random { laws: Laws::LeftOut, ..random(22, 20) };
     let runs = [
-        groups::short_histories_without_laws(&faulty, FOUR, 2)?,
+        groups::short_histories_without_laws(&faulty, FOUR, 2, Kinds::ADR)?,
         groups::random_histories(&faulty, random)?,
         restored_levels_without_laws(&faulty, STORY)?,
         restored_levels_without_laws(&faulty, STORY_OF_FRAMES)?,
@@ -351,8 +415,8 @@ fn keeps_demand_3(fault: Fault) -> Outcome {
 /// The explorer finds nothing by demand 3 and the book in histories with discards.
 fn discards_keep_demand_3(fault: Fault) -> Outcome {
     let faulty = Reference::faulty(fault);
-    groups::short_histories_without_laws(&faulty, SMALL, 3)?;
-    groups::short_histories_without_laws(&faulty, TWO_OF_FRAMES, 3)
+    groups::short_histories_without_laws(&faulty, SMALL, 3, Kinds::ADR)?;
+    groups::short_histories_without_laws(&faulty, TWO_OF_FRAMES, 3, Kinds::ADR)
 }
 
 /// What random histories on two benches show of a fault: one that takes spares by
@@ -370,7 +434,8 @@ fn heard(story: Outcome, breaks: &str) -> Outcome {
 }
 
 /// Among calls with any contents each fault of long writes, of the new spare, of
-/// consoles and of discards answers or leaves something else than the reference.
+/// consoles, of discards and of kinds answers or leaves something else than the
+/// reference.
 fn differ(good: &Reference) -> Outcome {
     let mut differences = Vec::new();
     let of_writes = FAULTS_OF_WRITE.map(|(fault, _)| fault);
@@ -379,8 +444,10 @@ fn differ(good: &Reference) -> Outcome {
     let in_use = [Fault::TakesSpareInUse, Fault::TakesLowestPaired];
     let of_consoles = FAULTS_OF_CONSOLES.map(|(fault, _)| fault);
     let of_three = [Fault::OverdrawnShares];
+    let of_kinds = FAULTS_OF_KIND.map(|(fault, _)| fault);
+    let others = [&of_spares[..], &in_use, &of_consoles, &of_three, &of_kinds].concat();
     let of_frames = [&of_writes[..], &of_discards].concat();
-    for fault in of_frames.iter().chain(&of_spares).chain(&in_use).chain(&of_consoles).chain(&of_three) {
+    for fault in of_frames.iter().chain(&others) {
         let faulty = Reference::faulty(*fault);
         let both = Compared::new(good, &faulty);
         match of_frames.contains(fault) {
@@ -411,18 +478,21 @@ fn forms_agree(good: &Reference) -> Outcome {
         groups::any_contents(&compared, 31, 300, |rng| arbitrary::sizes(rng, 4));
         groups::any_contents(&compared, 32, 2, arbitrary::edge_sizes);
         groups::bench_cases(&compared)?;
-        restored_levels(&compared, STORY_OF_FRAMES)?;
+        restored_levels(&compared, STORY_OF_FRAMES, Kinds::ADR)?;
         long_writes(&compared, EVERY_CUT)?;
         longest_writes(&compared)?;
         consoles::story(&compared)?;
         discards::story(&compared, FEW_CUTS)?;
         discards::worked_example(&compared)?;
         discards::longest(&compared)?;
+        kinds::both(&compared, 48, 400)?;
+        kinds::bench_cases(&compared)?;
         benches::one_sheet(&compared)?;
         compared.verdict()?;
         compared.spans().all_tried()?;
         compared.charges().all_tried()?;
         compared.discards().all_tried()?;
+        compared.kinds().all_tried()?;
         calls += compared.calls();
     }
     Ok(Found::new(format!("{calls} calls as the reference"), &[("calls compared", calls)]))

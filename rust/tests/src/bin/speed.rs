@@ -12,7 +12,9 @@
 //! Writes that copy nothing, discards, saves and reads find every spare paired that
 //! can be, unless the row's name says how many are. The calls are lent the record of one
 //! console, for which every spare is kept, or those of two, each with half of them,
-//! where the row's name says so. The line
+//! where the row's name says so. The module is of kind 0, or of kind 1 where the row's
+//! name says so: an opening that copies levels to their spares, writes and a save of
+//! all marks, which have no flushes then. The line
 //! `worst: copies=C writes=W rust=R small=Q calls=K limit=L` has the greatest ratios
 //! of the library's time to Rust's: C over openings and writes that copy, of 1,000
 //! orders or more, W over all writes that copy, R over calls of 1,000 orders or
@@ -104,13 +106,18 @@ struct Case {
 impl Case {
     fn call(&mut self, side: Side, session: &mut Session, run: &mut [Client]) -> u64 {
         let Case { sizes, action, image, tape, out, extent, .. } = self;
+        let kind = self.session.domain;
         let frame = sizes.frames - 1;
         match (action, side) {
             (Action::Format, Side::Library) => raw::format(image, *sizes),
             (Action::Format, _) => fast::format(image, *sizes),
-            (Action::Open, Side::Library) => raw::open(image, *sizes, session, run, tape, out),
-            (Action::Open, Side::Indexed) => fast::open::<Indexed>(image, *sizes, session, run, tape, out),
-            (Action::Open, Side::Chunked) => fast::open::<Chunked>(image, *sizes, session, run, tape, out),
+            (Action::Open, Side::Library) => raw::open(image, *sizes, kind, session, run, tape, out),
+            (Action::Open, Side::Indexed) => {
+                fast::open::<Indexed>(image, *sizes, kind, session, run, tape, out)
+            }
+            (Action::Open, Side::Chunked) => {
+                fast::open::<Chunked>(image, *sizes, kind, session, run, tape, out)
+            }
             (Action::Write(t, b), Side::Library) => raw::write(image, session, run, *t, b, tape, out),
             (Action::Write(t, b), Side::Indexed) => {
                 fast::write::<Indexed>(image, session, run, *t, b, tape, out)
@@ -207,7 +214,7 @@ fn unpaired(sizes: Sizes, state: u8) -> Metadata {
 
 /// A session with these touched bits and this mark word in so many levels.
 fn session(sizes: Sizes, touched: u64, levels: usize, marks: u64) -> Session {
-    let mut card = Card::fresh(sizes);
+    let mut card = Card::fresh(sizes, ADR);
     card.touched = touched;
     card.marks[..levels].fill(marks);
     session_of(&card)
@@ -275,6 +282,15 @@ fn cases(sizes: Sizes) -> Vec<Case> {
         case("saved read", Action::Read(Page::Saved, last), &in_spares, fresh),
         case("likeness, alike", Action::Same(image(&in_spares)), &in_spares, fresh),
     ];
+    for (name, action, metadata, session) in [
+        ("open, kind 1", Action::Open, &with_spares, fresh),
+        ("write 1 word, kind 1", write(8), &in_spares, touched_few),
+        ("write, copy, kind 1", write(8), &with_spares, full),
+        ("write, new spare, kind 1", write(8), &own, few),
+        ("save, kind 1", Action::Save, &in_spares, touched_full),
+    ] {
+        cases.push(case(name, action, metadata, Session { domain: EADR, ..session }));
+    }
     for (name, offset, length) in LONG {
         if length <= FRAME * sizes.frames as usize {
             let target = Target { console: 0, level: 0, frame: 0, offset };
@@ -548,7 +564,7 @@ impl Bench {
         let mut board = Bench { sizes, image, card, run, tape };
         Library.lay_out(&mut board.image, sizes);
         let Bench { image, card, run, tape, .. } = &mut board;
-        let opened = Library.make(&Deed::Open(sizes), image, Given::of(card, run, tape));
+        let opened = Library.make(&Deed::Open(sizes, ADR), image, Given::of(card, run, tape));
         board.played(opened, &mut Cost::default())?;
         Ok(board)
     }

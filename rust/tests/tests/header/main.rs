@@ -6,7 +6,7 @@
 mod c;
 
 use crpm::ffi::Session;
-use crpm::{Client, Layout, Refusal};
+use crpm::{Client, Domain, Layout, Refusal};
 use crpm_tests::calls::*;
 use crpm_tests::reference::Refusal as Number;
 use std::mem::{offset_of, size_of};
@@ -37,6 +37,8 @@ fn numbers() -> Vec<(&'static str, u64, u64)> {
         ("OP_STORE", crpm::OP_STORE, kind(Order::Store { place: 0, word: 0 })),
         ("OP_CLWB", crpm::OP_CLWB, kind(Order::Flush { place: 0 })),
         ("OP_SFENCE", crpm::OP_SFENCE, kind(Order::Fence)),
+        ("ADR", Domain::Adr.number(), ADR),
+        ("EADR", Domain::Eadr.number(), EADR),
         ("SERVED", 0, 0),
         ("BAD_SIZE", Refusal::BadSize.number(), Number::Size as u64),
         ("BAD_LENGTH", Refusal::BadLength.number(), Number::Length as u64),
@@ -104,12 +106,13 @@ const MACROS: [(&str, Formula, Formula); 8] = [
 ];
 
 /// The fields of the session: declaration, and where the crate has it.
-const FIELDS: [(&str, usize); 5] = [
+const FIELDS: [(&str, usize); 6] = [
     ("uint64_t mains", offset_of!(Session, mains)),
     ("uint64_t backups", offset_of!(Session, backups)),
     ("uint64_t blocks", offset_of!(Session, blocks)),
     ("uint64_t dirty_segments", offset_of!(Session, dirty_segments)),
     ("uint64_t dirty_blocks [ CRPM_MOST ]", offset_of!(Session, dirty_blocks)),
+    ("uint64_t domain", offset_of!(Session, domain)),
 ];
 
 /// The fields of a client, likewise.
@@ -151,7 +154,12 @@ fn compare(text: &str) -> Result<usize, String> {
 fn compare_fields(header: &c::Header, name: &str, fields: &[(&str, usize)]) -> Result<(), String> {
     let declared = fields.iter().map(|(field, _)| field.to_string()).collect();
     due(&format!("fields of {name}"), header.fields(name)?, declared)?;
-    fields.iter().enumerate().try_for_each(|(i, (field, at))| due(field, *at, WORD * i))
+    let mut words = 0;
+    for (field, at) in fields {
+        due(field, *at, WORD * words)?;
+        words += if field.ends_with(']') { MOST as usize } else { 1 };
+    }
+    Ok(())
 }
 
 fn due<T: PartialEq + std::fmt::Debug>(what: &str, got: T, expected: T) -> Result<(), String> {
@@ -218,6 +226,7 @@ fn spoiled() -> Vec<(String, String)> {
         ("fields exchanged", "uint64_t mains; ", "uint64_t backups; "),
         ("a field of 32 bits", "uint64_t blocks;", "uint32_t blocks;"),
         ("a field more", "uint64_t mains; ", "uint64_t later; uint64_t mains; "),
+        ("the last field left out", "uint64_t domain; ", ""),
         ("a client's fields exchanged", "uint64_t reserved; ", "uint64_t quota; "),
         ("a client's field of 32 bits", "uint64_t quota; ", "uint32_t quota; "),
         ("a client's field more", "uint64_t used; ", "uint64_t used; uint64_t later; "),
