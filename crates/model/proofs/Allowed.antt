@@ -36,7 +36,7 @@ module _ (l : Layout) (I : Image) (i b : ℕ) where
   working-one W P W′ P′ x y = sym (x .working) ∙ y .working
 
   -- a page of full length has no empty block
-  empty-block : (P : Page) → pageAt l i b + blockSize ≤ length P → pageBlock l P i b ≡ [] → ⊥
+  pub empty-block : (P : Page) → pageAt l i b + blockSize ≤ length P → pageBlock l P i b ≡ [] → ⊥
   empty-block P long e =
       let n : length (pageBlock l P i b) ≡ blockSize = length-take-le blockSize (drop (pageAt l i b) P) (omega (arith, length-drop (pageAt l i b) P)) in
       omega (arith, n, ap length e)

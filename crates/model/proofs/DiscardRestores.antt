@@ -32,7 +32,7 @@ use Rattle.model.proofs.CrashSafety.{history-stands}
 use Rattle.model.proofs.Sisters.{stands-read}
 
 -- two pages with the same contents in a main segment have the same blocks there
-block-same : (l : Layout) (P Q : Page) → Whole l P → Whole l Q → (i b : ℕ) → i < l .mains → b < l .blocks
+pub block-same : (l : Layout) (P Q : Page) → Whole l P → Whole l Q → (i b : ℕ) → i < l .mains → b < l .blocks
     → ((x : ℕ) → x < segmentSize l → contentsOf l P i x ≡ contentsOf l Q i x) → pageBlock l P i b ≡ pageBlock l Q i b
 block-same l P Q wp wq i b hi hb same =
     parts-same P Q (pageAt l i b) (pageAt l i b) (omega (arith, wp, block-inside l i b hi hb)) (omega (arith, wq, block-inside l i b hi hb))

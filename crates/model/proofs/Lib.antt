@@ -11,6 +11,7 @@ pub mod Sisters
 pub mod FlushDurable
 pub mod DiscardRestores
 pub mod States
+pub mod SameCheckpoint
 pub mod FreeBackups
 pub mod Shares
 pub mod CleanSegments

@@ -163,7 +163,7 @@ run-empty s (c ∷ cs) i st permitted m e none =
     go false n = e .state
 
 -- the checkpoint read of a main segment in state 0
-read-empty : (l : Layout) (I : Image) (i b : ℕ) → activeState I i ≡ 0 → checkpointBlock l I i b ≡ []
+pub read-empty : (l : Layout) (I : Image) (i b : ℕ) → activeState I i ≡ 0 → checkpointBlock l I i b ≡ []
 unfolding checkpointPart checkpointLocated byState
 read-empty l I i b e = go (served (readStatus l I i b))
   where

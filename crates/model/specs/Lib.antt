@@ -31,14 +31,15 @@ pub mod CrashSafety
 pub mod Sisters
 pub mod Domains
 pub mod FlushDurable
--- further statements: what no call reads, which backup segment a write takes, what it meets, what a discard restores, the epoch, segment states and pairs, free
--- backup segments, what a share guarantees, main segments that are not dirty, lengths of a trace, the crash relation taken apart
+-- further statements: what no call reads, which backup segment a write takes, what it meets, what a discard restores, the epoch, segment states and pairs, which
+-- images have the same checkpoint, free backup segments, what a share guarantees, main segments that are not dirty, lengths of a trace, the crash relation taken apart
 pub mod Unread
 pub mod NewBackup
 pub mod Span
 pub mod DiscardRestores
 pub mod EpochCounts
 pub mod States
+pub mod SameCheckpoint
 pub mod FreeBackups
 pub mod Shares
 pub mod CleanSegments

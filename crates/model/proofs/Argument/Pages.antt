@@ -146,43 +146,47 @@ module _ (l : Layout) (I : Image) (ok : ContainerOk l I) where
 pub container-of : (l : Layout) (I : Image) (P : Contents) → Recoverable l I P → ContainerOk l I
 container-of l I P r = record { sizes = r .fit .sizes; long = r .fit .long; header = r .fit .header; valid = r .holds .valid }
 
-module _ (l : Layout) (I : Image) (P W : Page) (wp : Whole l P) (ww : Whole l W) (r : Recoverable l I (contentsOf l P))
-    (working : (i x : ℕ) → i < l .mains → x < segmentSize l → byteAt I (mainAt l i + x) ≡ contentsOf l W i x) where
+module _ (l : Layout) (I : Image) (c : ContainerOk l I) where
   read-served : (i b : ℕ) → i < l .mains → b < l .blocks → readStatus l I i b ≡ 0
   unfolding readStatus firstError
-  read-served i b h k = container-passes l I (mainErrors l i ++ blockErrors l b) (container-of l I (contentsOf l P) r) ∙ rw (lt-leb (l .mains) i h, lt-leb (l .blocks) b k)
+  read-served i b h k = container-passes l I (mainErrors l i ++ blockErrors l b) c ∙ rw (lt-leb (l .mains) i h, lt-leb (l .blocks) b k)
 
   -- a block of the image, from a segment that holds the contents of a page
   block-is : (Q : Page) (k i b : ℕ) → Whole l Q → k < l .mains + l .backups → i < l .mains → b < l .blocks
       → ((x : ℕ) → x < segmentSize l → byteAt I (segmentAt l k + x) ≡ contentsOf l Q i x) → partOf I (blockPart (segmentAt l k) b) ≡ pageBlock l Q i b
   block-is Q k i b whole hk hi hb same =
-      parts-same I Q (segmentAt l k + 256 * b) (pageAt l i b) (omega (arith, r .fit .long, segment-in-image l k hk)) (omega (arith, whole, block-inside l i b hi hb))
+      parts-same I Q (segmentAt l k + 256 * b) (pageAt l i b) (omega (arith, c .long, segment-in-image l k hk)) (omega (arith, whole, block-inside l i b hi hb))
       (λ x h. ap (λ (n : ℕ). byteAt I n) (omega arith) ∙ same (256 * b + x) (omega arith) ∙ ap (λ (n : ℕ). getD Q n 0) (omega arith))
 
-  zero-block : (i b : ℕ) → i < l .mains → b < l .blocks → activeState I i ≡ 0 → pageBlock l P i b ≡ replicate 256 0
-  zero-block i b hi hb e =
-      parts-same P (replicate 256 0) (pageAt l i b) 0 (omega (arith, wp, block-inside l i b hi hb)) (omega (arith, length-replicate {A = ℕ} 256 0))
-      (λ x h. ap (λ (n : ℕ). getD P n 0) (omega arith) ∙ r .holds .initial i (256 * b + x) hi (omega arith) e ∙ sym (getD-replicate {A = ℕ} 256 (0 + x) 0 0 (omega arith)))
+  -- the checkpoint read, of an image that holds the contents of a page
+  module _ (P : Page) (wp : Whole l P) (holds : Holds l (activeState I) (backupToMain I) (byteAt I) (contentsOf l P)) where
+    pub zero-block : (i b : ℕ) → i < l .mains → b < l .blocks → activeState I i ≡ 0 → pageBlock l P i b ≡ replicate 256 0
+    zero-block i b hi hb e =
+        parts-same P (replicate 256 0) (pageAt l i b) 0 (omega (arith, wp, block-inside l i b hi hb)) (omega (arith, length-replicate {A = ℕ} 256 0))
+        (λ x h. ap (λ (n : ℕ). getD P n 0) (omega arith) ∙ holds .initial i (256 * b + x) hi (omega arith) e ∙ sym (getD-replicate {A = ℕ} 256 (0 + x) 0 0 (omega arith)))
 
-  saved : (i b : ℕ) → i < l .mains → b < l .blocks → (checkpointBlock l I i b ≡ pageBlock l P i b)
-      ⊎ ((segState I (activeLine I) i ≡ 0) × (checkpointBlock l I i b ≡ []) × (pageBlock l P i b ≡ replicate 256 0))
-  unfolding checkpointPart checkpointLocated byState
-  saved i b hi hb = go (activeState I i) refl
-    where
-      go : (st : ℕ) → activeState I i ≡ st → (checkpointBlock l I i b ≡ pageBlock l P i b)
-          ⊎ ((segState I (activeLine I) i ≡ 0) × (checkpointBlock l I i b ≡ []) × (pageBlock l P i b ≡ replicate 256 0))
-      go zero e = inr (e, rw (read-served i b hi hb, e) refl, zero-block i b hi hb e)
-      go (suc zero) e = inl (rw (read-served i b hi hb, e) (block-is P i i b wp (omega arith) hi hb (λ x k. r .holds .own i x hi k e)))
-      go (suc (suc n)) e =
-          let two : activeState I i ≡ 2 = omega (arith, r .holds .valid .states i hi) in
-          let p = kept-at l (backupToMain I) i (r .holds .valid) hi two in
-          inl (rw (read-served i b hi hb, e) (block-is P (l .mains + pairedBackup l (backupToMain I) i) i b wp (omega (arith, p .0)) hi hb
-          (λ x y. r .holds .backup i (pairedBackup l (backupToMain I) i) x hi (p .0) y two (p .1))))
+    pub saved : (i b : ℕ) → i < l .mains → b < l .blocks → (checkpointBlock l I i b ≡ pageBlock l P i b)
+        ⊎ ((segState I (activeLine I) i ≡ 0) × (checkpointBlock l I i b ≡ []) × (pageBlock l P i b ≡ replicate 256 0))
+    unfolding checkpointPart checkpointLocated byState
+    saved i b hi hb = go (activeState I i) refl
+      where
+        go : (st : ℕ) → activeState I i ≡ st → (checkpointBlock l I i b ≡ pageBlock l P i b)
+            ⊎ ((segState I (activeLine I) i ≡ 0) × (checkpointBlock l I i b ≡ []) × (pageBlock l P i b ≡ replicate 256 0))
+        go zero e = inr (e, rw (read-served i b hi hb, e) refl, zero-block i b hi hb e)
+        go (suc zero) e = inl (rw (read-served i b hi hb, e) (block-is P i i b wp (omega arith) hi hb (λ x k. holds .own i x hi k e)))
+        go (suc (suc n)) e =
+            let two : activeState I i ≡ 2 = omega (arith, holds .valid .states i hi) in
+            let p = kept-at l (backupToMain I) i (holds .valid) hi two in
+            inl (rw (read-served i b hi hb, e) (block-is P (l .mains + pairedBackup l (backupToMain I) i) i b wp (omega (arith, p .0)) hi hb
+            (λ x y. holds .backup i (pairedBackup l (backupToMain I) i) x hi (p .0) y two (p .1))))
 
-  -- the two reads give the two pages
-  pub reads : Reads l I W P
-  reads i b hi hb = record {
-    status = read-served i b hi hb;
-    working = unfold workingPart in (rw (read-served i b hi hb) (block-is W i i b ww (omega arith) hi hb (λ x k. working i x hi k)));
-    checkpoint = saved i b hi hb;
-  }
+-- the two reads give the two pages
+pub reads : (l : Layout) (I : Image) (P W : Page) → Whole l P → Whole l W → Recoverable l I (contentsOf l P)
+    → ((i x : ℕ) → i < l .mains → x < segmentSize l → byteAt I (mainAt l i + x) ≡ contentsOf l W i x) → Reads l I W P
+reads l I P W wp ww r working i b hi hb =
+    let c = container-of l I (contentsOf l P) r in
+    record {
+      status = read-served l I c i b hi hb;
+      working = unfold workingPart in (rw (read-served l I c i b hi hb) (block-is l I c W i i b ww (omega arith) hi hb (λ x k. working i x hi k)));
+      checkpoint = saved l I c P wp (r .holds) i b hi hb;
+    }

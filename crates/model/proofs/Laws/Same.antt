@@ -1,11 +1,13 @@
--- Equality of two checkpoints (the trade: likeness) is equality of their bytes.
+-- Laws of the comparison of two checkpoints (the trade: likeness): how long a checkpoint is, and what its two tests mean.
 use Prim.Native.Nat.{ℕ, zero, suc, _+_, _*_, _<_}
 use mathlib.Core.Path.{_≡_, refl, sym, ap, _∙_}
 use mathlib.Core.Logic.{_↔_}
-use mathlib.Core.Bool.{true, false, cond, false≢true}
+use mathlib.Core.Bool.{true, Bool·beq, false≢true}
 use mathlib.Core.List.{List}
+use native.Mathlib.Decide.{ℕ-discrete}
 use native.Mathlib.Omega.{arith}
 use native.Mathlib.Nat.{mul-comm}
+use lib.Dec.{eqb}
 use lib.ListN.{length, getD, drop, length-replicate, length-drop}
 use lib.Seq.{length-take-le, ext-getD}
 use borrow.Author.Tests.{eqb-true, eq-eqb, ne-eqb}
@@ -13,12 +15,12 @@ use Rattle.model.specs.declared.Layout.{Layout}
 use Rattle.model.specs.declared.Located.the-variants.{Nowhere, At}
 use Rattle.model.specs.Words.{Image}
 use Rattle.model.specs.Layout.{segmentSize, segmentAt, mainAt, backupAt}
-use Rattle.model.specs.Status.{firstError, served}
-use Rattle.model.specs.Container.{activeLine, segState, backupToMain, pairedBackup, byState, segmentBytes, checkpointLocated, locatedBytes, checkpointSegment, checkpointBytes, containerErrors}
-use Rattle.model.specs.Same.{sameErrors, sameBytes, sameCheckpoint, sameOutcome}
+use Rattle.model.specs.Container.{activeLine, activeState, segState, backupToMain, pairedBackup, byState, segmentBytes, checkpointLocated, locatedBytes, checkpointSegment, checkpointBytes}
+use Rattle.model.specs.Same.{sameInitial, sameBytes}
+use Rattle.model.specs.SameCheckpoint.{InitialAgree}
 use Rattle.model.proofs.Laws.Range.{length-cat, all-at, all-from}
 use Rattle.model.proofs.Laws.Layout.{segment-in-image}
-use Rattle.model.proofs.Laws.Container.{ContainerOk, kept-at, container-ok, container-then}
+use Rattle.model.proofs.Laws.Container.{ContainerOk, kept-at}
 
 -- ---- how long a checkpoint is
 
@@ -45,26 +47,30 @@ module _ (l : Layout) (I : Image) (c : ContainerOk l I) where
 
 -- ---- equality of two checkpoints
 
+-- two tests have the same answer exactly if they are of statements that are equivalent
+beq-tests : (m n : ℕ) → (Bool·beq (eqb m 0) (eqb n 0) ≡ true) ↔ ((m ≡ 0) ↔ (n ≡ 0))
+beq-tests m n = go (ℕ-discrete m 0) (ℕ-discrete n 0)
+  where
+    go : Dec (m ≡ 0) → Dec (n ≡ 0) → (Bool·beq (eqb m 0) (eqb n 0) ≡ true) ↔ ((m ≡ 0) ↔ (n ≡ 0))
+    go (yes a) (yes b) = rw (eq-eqb m 0 a, eq-eqb n 0 b) (λ t. (λ x. b, λ x. a), λ e. refl)
+    go (yes a) (no b) = rw (eq-eqb m 0 a, ne-eqb n 0 b) (λ t. absurd (false≢true t), λ e. absurd (b (e .0 a)))
+    go (no a) (yes b) = rw (ne-eqb m 0 a, eq-eqb n 0 b) (λ t. absurd (false≢true t), λ e. absurd (a (e .1 b)))
+    go (no a) (no b) = rw (ne-eqb m 0 a, ne-eqb n 0 b) (λ t. (λ x. absurd (a x), λ x. absurd (b x)), λ e. refl)
+
 module _ (l : Layout) (I J : Image) where
-  pub same-checkpoint : ContainerOk l I → ContainerOk l J
-      → (sameCheckpoint l I J ≡ true) ↔ (checkpointBytes l I (activeLine I) ≡ checkpointBytes l J (activeLine J))
-  unfolding sameCheckpoint sameBytes
-  same-checkpoint c d = (
+  pub initial-agree : (sameInitial (l .mains) (activeState I) (activeState J) ≡ true) ↔ InitialAgree l I J
+  unfolding sameInitial
+  initial-agree = (
+    λ t i h. beq-tests (activeState I i) (activeState J i) .0 (all-at (l .mains) _ t i h),
+    λ a. all-from (l .mains) _ (λ i h. beq-tests (activeState I i) (activeState J i) .1 (a i h)),
+  )
+
+  pub bytes-agree : ContainerOk l I → ContainerOk l J
+      → (sameBytes (segmentSize l * l .mains) (checkpointBytes l I (activeLine I)) (checkpointBytes l J (activeLine J)) ≡ true)
+      ↔ (checkpointBytes l I (activeLine I) ≡ checkpointBytes l J (activeLine J))
+  unfolding sameBytes
+  bytes-agree c d = (
     λ t. ext-getD 0 _ _ (length-checkpoint l I c ∙ sym (length-checkpoint l J d))
         (λ i h. eqb-true _ _ (all-at (segmentSize l * l .mains) _ t i (omega (arith, length-checkpoint l I c)))),
     λ e. all-from (segmentSize l * l .mains) _ (λ i h. eq-eqb _ _ (ap (λ (x : List ℕ). getD x i 0) e)),
   )
-
-  -- the answer is yes exactly if the call is served and all checkpoint bytes agree
-  pub same-answer : (sameOutcome l I J .same ≡ true)
-      ↔ ((sameOutcome l I J .status ≡ 0) × (checkpointBytes l I (activeLine I) ≡ checkpointBytes l J (activeLine J)))
-  unfolding sameOutcome
-  same-answer = (means (firstError (sameErrors l I J)) refl, λ h. rw (eq-eqb _ _ (h .0)) (agree (h .0) .1 (h .1)))
-    where
-      agree : firstError (sameErrors l I J) ≡ 0 → (sameCheckpoint l I J ≡ true) ↔ (checkpointBytes l I (activeLine I) ≡ checkpointBytes l J (activeLine J))
-      agree h = let s = container-then l I (containerErrors l J) h in same-checkpoint (s .0) (container-ok l J (s .1))
-
-      means : (e : ℕ) → firstError (sameErrors l I J) ≡ e → cond (served e) (sameCheckpoint l I J) false ≡ true
-          → (e ≡ 0) × (checkpointBytes l I (activeLine I) ≡ checkpointBytes l J (activeLine J))
-      means zero e t = (refl, agree e .0 t)
-      means (suc n) e t = absurd (false≢true (rw (ne-eqb (suc n) 0 (omega arith)) at t))

@@ -1,21 +1,22 @@
 -- The two reads and the comparison answer the same on images that agree on the named bytes.
 use Prim.Native.Nat.{ℕ, zero, suc, _+_, _*_, _≤_, _<_}
 use mathlib.Core.Path.{_≡_, refl, ap, ap₂, _∙_}
-use mathlib.Core.Bool.{Bool, true, false, cond}
+use mathlib.Core.Bool.{Bool, true, false, cond, _&&_, Bool·beq}
 use mathlib.Core.List.{[], _++_}
 use native.Mathlib.Omega.{arith}
+use lib.Dec.{eqb}
 use borrow.Author.Tests.{eqb-true, leb-false}
 use Rattle.model.specs.declared.Layout.{Layout}
 use Rattle.model.specs.declared.Located.{Located}
 use Rattle.model.specs.declared.Located.the-variants.{Nowhere, At}
 use Rattle.model.specs.Words.{Image}
-use Rattle.model.specs.Layout.{blockSize, metadataSize, SizesOk, segmentSize, mainAt, backupAt}
+use Rattle.model.specs.Layout.{blockSize, metadataSize, ssInitial, SizesOk, segmentSize, mainAt, backupAt}
 use Rattle.model.specs.Status.{firstError, served}
-use Rattle.model.specs.Container.{activeLine, segState, backupToMain, pairedBackup, byState, checkpointLocated, locatedBytes, checkpointSegment, checkpointBytes, containerErrors}
+use Rattle.model.specs.Container.{activeLine, activeState, segState, backupToMain, pairedBackup, byState, checkpointLocated, locatedBytes, checkpointSegment, checkpointBytes, containerErrors}
 use Rattle.model.specs.Reads.{readErrors, readStatus, Part, partOf, noPart, blockPart, locatedPart, workingPart, checkpointPart, workingBlock, checkpointBlock}
-use Rattle.model.specs.Same.{sameBytes, sameCheckpoint, sameOutcome}
+use Rattle.model.specs.Same.{sameInitial, sameBytes, sameCheckpoint, sameOutcome}
 use Rattle.model.specs.Unread.{AgreeNamed}
-use Rattle.model.proofs.Laws.Range.{cat-ext}
+use Rattle.model.proofs.Laws.Range.{cat-ext, all-ext}
 use Rattle.model.proofs.Laws.Status.{served-condition}
 use Rattle.model.proofs.Laws.Container.{container-then}
 use Rattle.model.proofs.Laws.Unread.Metadata.{cond-cong, state-same, segment-part, errors-same, backup-same}
@@ -95,6 +96,12 @@ module _ {I J : Image} (same : AgreeNamed I J) where
       located-bytes-same l (checkpointLocated l I (activeLine I) i) (located-in l i)
       ∙ ap (λ (x : Located). locatedBytes l J x) (located-same l i sizes h))
 
+initial-unread : {I J K L : Image} → AgreeNamed I J → AgreeNamed K L → (l : Layout) → SizesOk l
+    → sameInitial (l .mains) (activeState I) (activeState K) ≡ sameInitial (l .mains) (activeState J) (activeState L)
+unfolding sameInitial
+initial-unread a b l sizes = all-ext (l .mains) _ _ (λ i h.
+    ap₂ (λ (m n : ℕ). Bool·beq (eqb m ssInitial) (eqb n ssInitial)) (state-same a i (omega arith)) (state-same b i (omega arith)))
+
 pub same-unread : {I J K L : Image} → AgreeNamed I J → AgreeNamed K L → (l : Layout) → sameOutcome l I K ≡ sameOutcome l J L
 unfolding sameOutcome sameCheckpoint
 same-unread {I} {J} {K} {L} a b l = λ i. record { status = status i; same = answer i }
@@ -106,5 +113,5 @@ same-unread {I} {J} {K} {L} a b l = λ i. record { status = status i; same = ans
         ≡ cond (served (firstError (containerErrors l J ++ containerErrors l L))) (sameCheckpoint l J L) false
     answer = cond-cong _ _ (ap served status)
         (λ z. let sizes : SizesOk l = container-then l I _ (eqb-true _ 0 z) .0 .sizes in
-        ap₂ (sameBytes (segmentSize l * l .mains)) (checkpoint-same a l sizes) (checkpoint-same b l sizes))
+        ap₂ (λ (x y : Bool). x && y) (initial-unread a b l sizes) (ap₂ (sameBytes (segmentSize l * l .mains)) (checkpoint-same a l sizes) (checkpoint-same b l sizes)))
         (λ z. refl)
