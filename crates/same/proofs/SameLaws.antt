@@ -1,11 +1,12 @@
--- Laws of equality of two checkpoints: a test of many bytes block by block, and where a segment's checkpoint stands.
+-- Laws of equality of two checkpoints: states, a test of many bytes block by block, and where a segment's checkpoint stands.
 use Prim.Native.Nat.{ℕ, zero, suc, _+_, _-_, _*_, _≤_, _<_}
 use mathlib.Core.Path.{_≡_, refl, sym, ap, ap₂, _∙_, subst}
-use mathlib.Core.Bool.{Bool, true, false, _&&_, and-true, and-assoc}
+use mathlib.Core.Logic.{_↔_}
+use mathlib.Core.Bool.{Bool, true, false, _&&_, Bool·beq, and-true, and-assoc}
 use native.Mathlib.Omega.{arith}
 use native.Mathlib.Numerals.{add-one}
 use native.Mathlib.Nat.{add-zero, add-suc, add-sub-cancel-left, mul-assoc, mul-comm, mul-zero, mul-suc}
-use lib.Dec.{eqb, eqb·zero-suc, eqb·suc-zero}
+use lib.Dec.{eqb}
 use lib.ListN.{length, getD, take, drop, getD-replicate}
 use lib.Seq.{getD-take, getD-drop}
 use borrow.Author.Tests.{eq-eqb, eqb-true}
@@ -14,16 +15,27 @@ use Rattle.model.specs.declared.Located.{Located}
 use Rattle.model.specs.declared.Located.the-variants.{Nowhere, At}
 use Rattle.model.specs.Range.{allB}
 use Rattle.model.specs.Words.{Image, byteAt}
-use Rattle.model.specs.Layout.{SizesOk, segmentSize}
+use Rattle.model.specs.Layout.{SizesOk, ssInitial, segmentSize, mainAt, backupAt}
 use Rattle.model.specs.Status.{firstError, served}
-use Rattle.model.specs.Container.{activeLine, segState, backupToMain, Valid, checkpointLocated, checkpointSegment, checkpointBytes, containerErrors}
-use Rattle.model.specs.Same.{sameBytes, sameCheckpoint, sameStatus, sameOutcome}
-use Rattle.model.proofs.Laws.Range.{all-from, all-ext}
+use Rattle.model.specs.Container.{activeLine, activeState, segState, backupToMain, pairedBackup, Valid, byState, checkpointLocated, checkpointSegment, checkpointBytes, containerErrors}
+use Rattle.model.specs.Same.{sameInitial, sameBytes, sameCheckpoint, sameStatus, sameOutcome}
+use Rattle.model.proofs.Laws.Range.{all-none, all-more, all-from, all-ext}
 use Rattle.model.proofs.Laws.Layout.{metadata-inside}
 use Rattle.model.proofs.Laws.Status.{served-parts}
 use Rattle.model.proofs.Laws.Container.{container-ok}
 use Rattle.model.proofs.Argument.Pages.{checkpoint-at}
-use Rattle.metadata.proofs.LocatedLaws.{Inside, located-inside}
+use Rattle.metadata.proofs.LocatedLaws.{Inside, located-nowhere, located-inside}
+
+-- ---- states
+
+pub initial-none : (st su : ℕ → ℕ) → true ≡ sameInitial 0 st su
+unfolding sameInitial
+initial-none st su = all-none _
+
+pub initial-more : (n : ℕ) (st su : ℕ → ℕ) {a b : Bool} → a ≡ sameInitial n st su → b ≡ Bool·beq (eqb (st n) ssInitial) (eqb (su n) ssInitial)
+    → (a && b) ≡ sameInitial (n + 1) st su
+unfolding sameInitial
+initial-more n st su = all-more n _
 
 -- ---- tests in runs of c
 
@@ -51,16 +63,20 @@ part-byte I from n k h =
 
 -- ---- where the checkpoint of a main segment stands
 
-module _ (l : Layout) (I : Image) (i : ℕ) where
-  -- what the code goes by in an image that is not refused, with n the active line that it found
-  pub sizes-and-room : firstError (containerErrors l I) ≡ 0 → SizesOk l × (512 ≤ length I)
-  sizes-and-room accepted = let ok = container-ok l I accepted in (ok .sizes, omega (arith, ok .long, metadata-inside l))
+nowhere-not-at : (p : ℕ) → Nowhere ≡ At p → ⊥
+nowhere-not-at p e = let x : _≡_ {A = ℕ} 0 1 = cc in omega (arith, x)
 
+-- what the code goes by in an image that is not refused
+pub sizes-and-room : (l : Layout) (I : Image) → firstError (containerErrors l I) ≡ 0 → SizesOk l × (512 ≤ length I)
+sizes-and-room l I accepted = let ok = container-ok l I accepted in (ok .sizes, omega (arith, ok .long, metadata-inside l))
+
+module _ (l : Layout) (I : Image) (i : ℕ) where
+  -- the same, with n the active line that it found
   pub searched : firstError (containerErrors l I) ≡ 0 → i < l .mains → (n : ℕ) → n ≡ activeLine I → n ≤ 192
       → ((i < l .mains) × SizesOk l × (320 ≤ length I) × (n + 64 ≤ length I)) × Valid l (segState I n) (backupToMain I)
   searched accepted h n e b =
       let ok = container-ok l I accepted in
-      let m = sizes-and-room accepted in
+      let m = sizes-and-room l I accepted in
       ((h, ok .sizes, omega (arith, m .1), omega (arith, m .1)), subst (λ (k : ℕ). Valid l (segState I k) (backupToMain I)) (sym e) (ok .valid))
 
   -- the place x that it found
@@ -69,6 +85,17 @@ module _ (l : Layout) (I : Image) (i : ℕ) where
 
   abbrev segment : ℕ → ℕ
   segment k = getD (checkpointSegment l I (activeLine I) i) k 0
+
+  -- nowhere only if the main segment is in state 0
+  pub nowhere-initial : Nowhere ≡ checkpointLocated l I (activeLine I) i → activeState I i ≡ ssInitial
+  unfolding checkpointLocated byState
+  nowhere-initial = go (activeState I i) refl
+    where
+      go : (n : ℕ) → activeState I i ≡ n → Nowhere ≡ byState n Nowhere (At (mainAt l i)) (At (backupAt l (pairedBackup l (backupToMain I) i)))
+          → activeState I i ≡ ssInitial
+      go zero e q = e
+      go (suc zero) e q = absurd (nowhere-not-at _ q)
+      go (suc (suc n)) e q = absurd (nowhere-not-at _ q)
 
   -- byte k of it, nowhere and somewhere
   pub byte-nowhere : Nowhere ≡ checkpointLocated l I (activeLine I) i → (k : ℕ) → k < segmentSize l → segment k ≡ 0
@@ -87,10 +114,6 @@ module _ (l : Layout) (I : Image) (i : ℕ) where
 
 -- ---- two images
 
-zero-turned : (n : ℕ) → eqb n 0 ≡ eqb 0 n
-zero-turned zero = refl
-zero-turned (suc n) = eqb·suc-zero n ∙ sym (eqb·zero-suc n)
-
 module _ (l : Layout) (I J : Image) (i : ℕ) where
   abbrev sameSegment : Bool
   sameSegment = sameBytes (segmentSize l) (checkpointSegment l I (activeLine I) i) (checkpointSegment l J (activeLine J) i)
@@ -98,22 +121,18 @@ module _ (l : Layout) (I J : Image) (i : ℕ) where
   abbrev IsAt : Image → Located → Type 0
   IsAt K x = x ≡ checkpointLocated l K (activeLine K) i
 
-  -- by where the two checkpoints stand
-  pub both-nowhere : IsAt I Nowhere → IsAt J Nowhere → true ≡ sameSegment
-  unfolding sameBytes
-  both-nowhere a b = sym (all-from (segmentSize l) _ (λ k m. eq-eqb _ _ (byte-nowhere l I i a k m ∙ sym (byte-nowhere l J i b k m))))
+  -- the main segment is in state 0 in both or in neither: by where the first stands
+  module _ (agree : (activeState I i ≡ ssInitial) ↔ (activeState J i ≡ ssInitial)) where
+    pub both-nowhere : IsAt I Nowhere → true ≡ sameSegment
+    unfolding sameBytes
+    both-nowhere a =
+        let b = located-nowhere l J (activeLine J) i (agree .0 (nowhere-initial l I i a)) in
+        sym (all-from (segmentSize l) _ (λ k m. eq-eqb _ _ (byte-nowhere l I i a k m ∙ sym (byte-nowhere l J i b k m))))
 
-  pub first-nowhere : (y : ℕ) {r : Bool} → IsAt I Nowhere → IsAt J (At y)
-      → r ≡ allB (segmentSize l) (λ k. eqb (byteAt J (y + k)) 0) → r ≡ sameSegment
-  unfolding sameBytes
-  first-nowhere y a b s =
-      s ∙ all-ext (segmentSize l) _ _ (λ k m. zero-turned (byteAt J (y + k)) ∙ ap₂ (λ (x y : ℕ). eqb x y) (sym (byte-nowhere l I i a k m)) (sym (byte-at l J i y b k m)))
-
-  pub second-nowhere : (x : ℕ) {r : Bool} → IsAt I (At x) → IsAt J Nowhere
-      → r ≡ allB (segmentSize l) (λ k. eqb (byteAt I (x + k)) 0) → r ≡ sameSegment
-  unfolding sameBytes
-  second-nowhere x a b s =
-      s ∙ all-ext (segmentSize l) _ _ (λ k m. ap₂ (λ (x y : ℕ). eqb x y) (sym (byte-at l I i x a k m)) (sym (byte-nowhere l J i b k m)))
+    pub not-one : (p : ℕ) → IsAt I (At p) → IsAt J Nowhere → ⊥
+    not-one p a b =
+        let e : Nowhere ≡ At p = located-nowhere l I (activeLine I) i (agree .1 (nowhere-initial l J i b)) ∙ sym a in
+        nowhere-not-at p e
 
   pub none-nowhere : (x y : ℕ) {r : Bool} → IsAt I (At x) → IsAt J (At y)
       → r ≡ allB (segmentSize l) (λ k. eqb (byteAt I (x + k)) (byteAt J (y + k))) → r ≡ sameSegment
@@ -142,6 +161,20 @@ module _ (l : Layout) (I J : Image) where
   pub segments-none : true ≡ sameBytes (segmentSize l * 0) (checkpointBytes l I (activeLine I)) (checkpointBytes l J (activeLine J))
   unfolding sameBytes
   segments-none = runs-none (segmentSize l) _
+
+  -- what the code's test of the states says, with m and n the active lines that it found
+  pub states-tested : {m n : ℕ} {r : Bool} → m ≡ activeLine I → n ≡ activeLine J → r ≡ sameInitial (l .mains) (segState I m) (segState J n)
+      → sameInitial (l .mains) (activeState I) (activeState J) ≡ r
+  states-tested a b e = sym (e ∙ ap₂ (λ (x y : ℕ). sameInitial (l .mains) (segState I x) (segState J y)) a b)
+
+  pub unlike-by-states : sameInitial (l .mains) (activeState I) (activeState J) ≡ false → false ≡ sameCheckpoint l I J
+  unfolding sameCheckpoint
+  unlike-by-states e = rw e
+
+  pub decided-by-bytes : sameInitial (l .mains) (activeState I) (activeState J) ≡ true
+      → sameBytes (segmentSize l * l .mains) (checkpointBytes l I (activeLine I)) (checkpointBytes l J (activeLine J)) ≡ sameCheckpoint l I J
+  unfolding sameCheckpoint
+  decided-by-bytes e = rw e
 
   -- what the code's test of the status says
   pub judged : (n : ℕ) (r : Bool) → n ≡ sameStatus l I J → r ≡ served n → served (sameStatus l I J) ≡ r

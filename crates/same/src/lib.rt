@@ -1,5 +1,5 @@
-// Equality of two checkpoints (SPECIFICATION 13; the trade: likeness): segment by segment, wherever each image holds the
-// segment.
+// Equality of two checkpoints (SPECIFICATION 13; the trade: likeness): whether the same main segments are in state 0, and then the
+// bytes, segment by segment, wherever each image holds the segment.
 use model::Layout;
 use model::Located;
 use model::Status;
@@ -9,10 +9,11 @@ ghost use lib.Dec.{eqb};
 ghost use lib.ListN.{length};
 ghost use Rattle.model.specs.Range.{allB};
 ghost use Rattle.model.specs.Words.{byteAt};
-ghost use Rattle.model.specs.Layout.{blockSize, most, layoutOf, segmentSize};
+ghost use Rattle.model.specs.Layout.{blockSize, lineSize, most, layoutOf, segmentSize};
 ghost use Rattle.model.specs.Status.{codeOf, firstError};
-ghost use Rattle.model.specs.Container.{activeLine, checkpointSegment, containerErrors};
-ghost use Rattle.model.specs.Same.{sameBytes, sameStatus, sameCheckpoint, sameOutcome};
+ghost use Rattle.model.specs.Container.{activeLine, segState, checkpointSegment, checkpointBytes, containerErrors};
+ghost use Rattle.model.specs.Same.{sameInitial, sameBytes, sameStatus, sameCheckpoint, sameOutcome};
+ghost use Rattle.model.specs.SameCheckpoint.{InitialAgree};
 
 // How a comparison ends, and whether the checkpoints are the same.
 pub struct Compared {
@@ -23,19 +24,19 @@ pub struct Compared {
 // Bytes of a block, as indexes count them.
 const BLOCK_SIZE: usize = Layout::BLOCK_SIZE as usize;
 
-// Whether all bytes of so many blocks from a place on are 0.
-fn segment_is_zero(image: &[u8], at: usize, blocks: u64) -> bool
-    requires { ⌜ blocks ≤ most ⌝ }
-    requires { ⌜ at + blockSize * blocks ≤ length (now image) ⌝ }
-    ensures { λ r. ⌜ r ≡ allB (blockSize * blocks) (λ k. eqb (byteAt (now (image .entry)) (at + k)) 0) ⌝ }
+// Whether the same main segments are in state 0 in both images, by the lines of states that stand at these places.
+fn same_initial(a: &[u8], x: usize, b: &[u8], y: usize, mains: u64) -> bool
+    requires { ⌜ mains ≤ most ⌝ }
+    requires { ⌜ x + lineSize ≤ length (now a) ⌝ }
+    requires { ⌜ y + lineSize ≤ length (now b) ⌝ }
+    ensures { λ r. ⌜ r ≡ sameInitial mains (segState (now (a .entry)) x) (segState (now (b .entry)) y) ⌝ }
 {
-    let count = blocks as usize;
+    let count = mains as usize;
     let mut ok = true;
-    let mut n: usize = 0;
-    while n < count {
-        let start = at + BLOCK_SIZE * n;
-        ok = ok & blocks::block_is_zero(&image[start..start + BLOCK_SIZE]);
-        n += 1;
+    let mut i: usize = 0;
+    while i < count {
+        ok = ok & ((a[x + i] == Layout::SS_INITIAL) == (b[y + i] == Layout::SS_INITIAL));
+        i += 1;
     }
     ok
 }
@@ -59,32 +60,30 @@ fn segments_equal(a: &[u8], x: usize, b: &[u8], y: usize, blocks: u64) -> bool
     ok
 }
 
-// Whether a main segment has the same checkpoint in both images.
+// Whether a main segment, which is in state 0 in both images or in neither, has the same checkpoint bytes in both.
 fn segment_same(a: &[u8], b: &[u8], layout: Layout, main: u64) -> bool
     requires { ⌜ firstError (containerErrors layout (now a)) ≡ 0 ⌝ }
     requires { ⌜ firstError (containerErrors layout (now b)) ≡ 0 ⌝ }
-    requires { ⌜ main < layout .mains ⌝ }
+    requires { ⌜ (main < layout .mains) × InitialAgree layout (now a) (now b) ⌝ }
     ensures { λ r. ⌜ r ≡ sameBytes (segmentSize layout) (checkpointSegment layout (now (a .entry)) (activeLine (now (a .entry))) main) (checkpointSegment layout (now (b .entry)) (activeLine (now (b .entry))) main) ⌝ }
 {
     let x = metadata::checkpoint_located(a, layout, metadata::active_at(a), main);
     let y = metadata::checkpoint_located(b, layout, metadata::active_at(b), main);
     match x {
-        Located::Nowhere => match y {
-            Located::Nowhere => true,
-            Located::At(q) => segment_is_zero(b, q as usize, layout.blocks),
-        },
+        Located::Nowhere => true,
         Located::At(p) => match y {
-            Located::Nowhere => segment_is_zero(a, p as usize, layout.blocks),
+            Located::Nowhere => false,
             Located::At(q) => segments_equal(a, p as usize, b, q as usize, layout.blocks),
         },
     }
 }
 
-// Whether every main segment has the same checkpoint in both images.
-fn same_checkpoint(a: &[u8], b: &[u8], layout: Layout) -> bool
+// Whether all checkpoint bytes agree, of images in which the same main segments are in state 0.
+fn same_bytes(a: &[u8], b: &[u8], layout: Layout) -> bool
     requires { ⌜ firstError (containerErrors layout (now a)) ≡ 0 ⌝ }
     requires { ⌜ firstError (containerErrors layout (now b)) ≡ 0 ⌝ }
-    ensures { λ r. ⌜ r ≡ sameCheckpoint layout (now (a .entry)) (now (b .entry)) ⌝ }
+    requires { ⌜ InitialAgree layout (now a) (now b) ⌝ }
+    ensures { λ r. ⌜ r ≡ sameBytes (segmentSize layout * layout .mains) (checkpointBytes layout (now (a .entry)) (activeLine (now (a .entry)))) (checkpointBytes layout (now (b .entry)) (activeLine (now (b .entry)))) ⌝ }
 {
     let mains = layout.mains;
     let mut ok = true;
@@ -94,6 +93,20 @@ fn same_checkpoint(a: &[u8], b: &[u8], layout: Layout) -> bool
         i += 1;
     }
     ok
+}
+
+// Whether the two images have the same checkpoint: by the states first, then by the bytes.
+fn same_checkpoint(a: &[u8], b: &[u8], layout: Layout) -> bool
+    requires { ⌜ firstError (containerErrors layout (now a)) ≡ 0 ⌝ }
+    requires { ⌜ firstError (containerErrors layout (now b)) ≡ 0 ⌝ }
+    ensures { λ r. ⌜ r ≡ sameCheckpoint layout (now (a .entry)) (now (b .entry)) ⌝ }
+{
+    let x = metadata::active_at(a);
+    let y = metadata::active_at(b);
+    if !same_initial(a, x, b, y, layout.mains) {
+        return false;
+    }
+    same_bytes(a, b, layout)
 }
 
 // The status of a comparison: the first image wholly before the second.
