@@ -22,6 +22,7 @@ use Rattle.model.specs.Write.{needsCopy, needsBackup, copyPlan, pairOps, copyDi
 use Rattle.model.specs.Discard.{restoreDirty, discardOps, discardStatus, discardOutcome}
 use Rattle.model.specs.Checkpoint.{flushDirty, nextState, statesOps, epochOps, checkpointOps, checkpointStatus, checkpointOutcome}
 use Rattle.model.specs.Reads.{readStatus, workingPart, checkpointPart}
+use Rattle.model.specs.Same.{sameInitial, sameBytes, sameCheckpoint, sameOutcome}
 use Rattle.model.specs.Reference.{CallArgs, openArgs, writeArgs, discardArgs, checkpointArgs, modelStep}
 use Rattle.model.specs.History.{Call, Device, answers, reported, playedOps, replayedImage, deviceStep, step, run, openedImage, start, PermittedArgs, GivenDomain, OwnDomain}
 use Rattle.cases.specs.Turns.{Point, Turn, callAt, turn, made, Supposed}
@@ -29,7 +30,7 @@ use Rattle.model.proofs.Laws.Range.{and-left, and-right, or-else}
 use Rattle.model.proofs.Argument.Openings.{domain-known}
 
 unfoldable pub model-rules : Unit {0}
-unfolding cat allB anyB orNext firstB sumTo littleEndian wordOf bytesOf storeWord overlay inRange sizesOk imageSize stateLine firstError isPaired validMetadata pairedBackup isFree anyFree freeBackups newBackup byState checkpointLocated checkpointSegment checkpointBytes headerOk bit setBit setBits dirtySegment dirtyBlock freshSession zeroSession withDirty withCheckpoint validSession encode opOf decode written traceShort apply replay stores clwbs putBlock persistCopy persistZero copySegment zeroSegment forDomain charged cleared clientsBad outcomeOf wellFormed allWellFormed replayCount replayedOps replayStatus replayOutcome container formatted formatOutcome recoveryAction actionOps recoverSegment recoveryOps openStatus openOutcome needsCopy needsBackup copyPlan pairOps copyDirty backupOps stateOps copyOnWriteOps spanOps writeOps writeSession writeClients spanBad writeStatus writeOutcome restoreDirty discardOps discardStatus discardOutcome flushDirty nextState statesOps epochOps checkpointOps checkpointStatus checkpointOutcome readStatus workingPart checkpointPart modelStep reported playedOps replayedImage deviceStep step run openedImage start
+unfolding cat allB anyB orNext firstB sumTo littleEndian wordOf bytesOf storeWord overlay inRange sizesOk imageSize stateLine firstError isPaired validMetadata pairedBackup isFree anyFree freeBackups newBackup byState checkpointLocated checkpointSegment checkpointBytes headerOk bit setBit setBits dirtySegment dirtyBlock freshSession zeroSession withDirty withCheckpoint validSession encode opOf decode written traceShort apply replay stores clwbs putBlock persistCopy persistZero copySegment zeroSegment forDomain charged cleared clientsBad outcomeOf wellFormed allWellFormed replayCount replayedOps replayStatus replayOutcome container formatted formatOutcome recoveryAction actionOps recoverSegment recoveryOps openStatus openOutcome needsCopy needsBackup copyPlan pairOps copyDirty backupOps stateOps copyOnWriteOps spanOps writeOps writeSession writeClients spanBad writeStatus writeOutcome restoreDirty discardOps discardStatus discardOutcome flushDirty nextState statesOps epochOps checkpointOps checkpointStatus checkpointOutcome readStatus workingPart checkpointPart sameInitial sameBytes sameCheckpoint sameOutcome modelStep reported playedOps replayedImage deviceStep step run openedImage start
 model-rules = tt
 
 unfoldable pub same : List ℕ → List ℕ → Bool

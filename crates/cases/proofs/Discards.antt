@@ -1,8 +1,8 @@
 -- Edits dropped: the story computed, and the crash inside its first discard by demand 3.
 use Prim.Native.Nat.{ℕ, _<_}
-use mathlib.Core.Path.{_≡_, refl, sym, ap, _∙_}
+use mathlib.Core.Path.{_≡_, refl, ap}
 use mathlib.Core.Bool.{Bool, true, _&&_, false≢true}
-use mathlib.Core.List.{List, [], _∷_, _++_}
+use mathlib.Core.List.{List, [], _++_}
 use native.Mathlib.Omega.{arith}
 use lib.Dec.{eqb}
 use lib.ListN.{length, replicate}
@@ -13,23 +13,18 @@ use Rattle.model.specs.Session.{adr}
 use Rattle.model.specs.Open.{openStatus}
 use Rattle.model.specs.EpochCounts.{isCheckpoint}
 use Rattle.model.specs.CrashSafety.{during, adrModule}
-use Rattle.cases.specs.Turns.{Point, callAt, answerAt, turn, turns, Supposed}
-use Rattle.cases.specs.Table.{Row, Case, l211, fresh, longTrace, lentAlone, follow, opened, calls}
+use Rattle.cases.specs.Turns.{Point, callAt, answerAt, turn, Supposed}
+use Rattle.cases.specs.Table.{Row, l211, fresh, longTrace, lentAlone, follow, opened, calls}
 use Rattle.cases.specs.Cut.{OnlyShows}
 use Rattle.cases.specs.Discards.{discard, edits, drops, edited, dropped, savedPage, DiscardStory}
 use Rattle.model.proofs.Laws.Range.{and-left, and-right}
 use Rattle.cases.proofs.Compute.{model-rules, same, same-equal, small, small-bytes, fitArgs, fitTurns, all-supposed, known}
 use Rattle.cases.proofs.Quick.{quickWrite, quickArgs}
-use Rattle.cases.proofs.Follow.{agree, agree-equal, knownPoint, known-point, followKnown, follow-test}
+use Rattle.cases.proofs.Follow.{agree, agree-equal, knownPoint, followKnown, from-opening}
 use Rattle.cases.proofs.Starts.{Holds, turns-hold}
 use Rattle.cases.proofs.Shown.{shows-during, shows-between}
 
 -- ---- the calls
-
--- a test of a story from the opening on, with the image after the opening computed first
-from-opening : (cs : List Case) (test : List Row → Point → Bool) → knownPoint opened (λ p. followKnown cs p test) ≡ true
-    → test (follow cs opened) (turns opened (calls cs)) ≡ true
-from-opening cs test e = follow-test cs opened test (sym (known-point opened (λ p. followKnown cs p test)) ∙ e)
 
 -- where the first discard is made: it has 32 operations, this page was saved, and main segment 1 has no checkpoint part
 abbrev editedTest : List Row → Point → Bool

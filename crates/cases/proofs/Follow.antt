@@ -6,7 +6,7 @@ use mathlib.Core.Bool.{Bool, true, _&&_}
 use mathlib.Core.List.{List, [], _∷_, map}
 use Rattle.model.specs.Words.{Image}
 use Rattle.cases.specs.Turns.{Point, pointOf, Turn, turn, turns}
-use Rattle.cases.specs.Table.{Row, Case, case, answerOnly, rowOf, follow, AsExpected, calls}
+use Rattle.cases.specs.Table.{Row, Case, case, answerOnly, rowOf, follow, AsExpected, calls, opened}
 use Rattle.model.proofs.Laws.Range.{and-left, and-right}
 use Rattle.cases.proofs.Compute.{same, same-equal, known, known-same}
 use Rattle.cases.proofs.Quick.{quickArgs, quick-same}
@@ -62,6 +62,11 @@ follow-same (c ∷ cs) p k =
 -- a test of them
 pub follow-test : (cs : List Case) (p : Point) (test : List Row → Point → Bool) → followKnown cs p test ≡ true → test (follow cs p) (turns p (calls cs)) ≡ true
 follow-test cs p test e = sym (follow-same cs p test) ∙ e
+
+-- the same from the opening of a fresh board on, with the image after it computed first
+pub from-opening : (cs : List Case) (test : List Row → Point → Bool) → knownPoint opened (λ p. followKnown cs p test) ≡ true
+    → test (follow cs opened) (turns opened (calls cs)) ≡ true
+from-opening cs test e = follow-test cs opened test (sym (known-point opened (λ p. followKnown cs p test)) ∙ e)
 
 -- a story that starts where q stands
 pub as-expected : {p q : Point} → p ≡ q → (cs : List Case) → agree (follow cs q) ≡ true → AsExpected p cs

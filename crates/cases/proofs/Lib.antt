@@ -1,5 +1,6 @@
 -- The bench cases, computed: one run, what lets the checker compute, what a call leaves, the table, how a history starts, what is shown after
--- a crash inside a checkpoint, that of P4, the first checkpoint after a restart, long registrations, two clients, edits dropped, and kind 1.
+-- a crash inside a checkpoint, that of P4, the first checkpoint after a restart, long registrations, two clients, edits dropped, kind 1, and main segments
+-- saved with zeros.
 pub mod Turns
 pub mod Compute
 pub mod Blocks
@@ -16,3 +17,4 @@ pub mod Long
 pub mod Consoles
 pub mod Discards
 pub mod Eadr
+pub mod Silent
