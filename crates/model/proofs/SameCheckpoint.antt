@@ -15,7 +15,7 @@ use borrow.Author.Tests.{eq-eqb, ne-eqb}
 use Rattle.model.specs.declared.Layout.{Layout}
 use Rattle.model.specs.declared.Session.{Session}
 use Rattle.model.specs.Words.{Image}
-use Rattle.model.specs.Layout.{SizesOk, ssBackup}
+use Rattle.model.specs.Layout.{SizesOk, ssBackup, segmentSize}
 use Rattle.model.specs.Status.{firstError, served}
 use Rattle.model.specs.Container.{activeLine, activeState, checkpointBytes, containerErrors}
 use Rattle.model.specs.Session.{dirtySegment}
@@ -24,7 +24,7 @@ use Rattle.model.specs.Format.{formatted, formatOutcome}
 use Rattle.model.specs.Write.{needsCopy}
 use Rattle.model.specs.Checkpoint.{nextState, checkpointStatus, checkpointOutcome}
 use Rattle.model.specs.Reads.{checkpointBlock}
-use Rattle.model.specs.Same.{sameErrors, sameInitial, sameCheckpoint, sameOutcome}
+use Rattle.model.specs.Same.{sameErrors, sameInitial, sameBytes, sameCheckpoint, sameOutcome}
 use Rattle.model.specs.Reference.{Page, pageAt, pageBlock, Model, CallArgs, openArgs, writeArgs, discardArgs, checkpointArgs, modelStep}
 use Rattle.model.specs.History.{Call, callCheckpoint, State, outcome, deviceStep, step, Permitted}
 use Rattle.model.specs.EpochCounts.{isCheckpoint}
@@ -55,14 +55,22 @@ same-means : (l : Layout) (I J : Image) → Same l I J → Agreed l I J
 unfolding sameOutcome sameCheckpoint
 same-means l I J = go (firstError (sameErrors l I J)) refl
   where
+    states : Bool
+    states = sameInitial (l .mains) (activeState I) (activeState J)
+
+    bytes : Bool
+    bytes = sameBytes (segmentSize l * l .mains) (checkpointBytes l I (activeLine I)) (checkpointBytes l J (activeLine J))
+
+    agree : Accepted l I → Accepted l J → (states && bytes) ≡ true → Agreed l I J
+    agree a b t = (
+      a,
+      b,
+      initial-agree l I J .0 (and-left states bytes t),
+      bytes-agree l I J (container-ok l I a) (container-ok l J b) .0 (and-right states bytes t),
+    )
+
     go : (e : ℕ) → firstError (sameErrors l I J) ≡ e → cond (served e) (sameCheckpoint l I J) false ≡ true → Agreed l I J
-    go zero e t =
-        let s = served-parts (containerErrors l I) (containerErrors l J) (omega arith) e in (
-          s .0,
-          s .1,
-          initial-agree l I J .0 (and-left _ _ t),
-          bytes-agree l I J (container-ok l I (s .0)) (container-ok l J (s .1)) .0 (and-right (sameInitial (l .mains) (activeState I) (activeState J)) _ t),
-        )
+    go zero e t = let s = served-parts (containerErrors l I) (containerErrors l J) (omega arith) e in agree (s .0) (s .1) t
     go (suc n) e t = absurd (false≢true (rw (ne-eqb (suc n) 0 (omega arith)) at t))
 
 same-test : (l : Layout) (I J : Image) → Agreed l I J → Same l I J

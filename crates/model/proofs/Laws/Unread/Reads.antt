@@ -10,7 +10,7 @@ use Rattle.model.specs.declared.Layout.{Layout}
 use Rattle.model.specs.declared.Located.{Located}
 use Rattle.model.specs.declared.Located.the-variants.{Nowhere, At}
 use Rattle.model.specs.Words.{Image}
-use Rattle.model.specs.Layout.{blockSize, metadataSize, ssInitial, SizesOk, segmentSize, mainAt, backupAt}
+use Rattle.model.specs.Layout.{blockSize, metadataSize, most, ssInitial, SizesOk, segmentSize, mainAt, backupAt}
 use Rattle.model.specs.Status.{firstError, served}
 use Rattle.model.specs.Container.{activeLine, activeState, segState, backupToMain, pairedBackup, byState, checkpointLocated, locatedBytes, checkpointSegment, checkpointBytes, containerErrors}
 use Rattle.model.specs.Reads.{readErrors, readStatus, Part, partOf, noPart, blockPart, locatedPart, workingPart, checkpointPart, workingBlock, checkpointBlock}
@@ -96,10 +96,10 @@ module _ {I J : Image} (same : AgreeNamed I J) where
       located-bytes-same l (checkpointLocated l I (activeLine I) i) (located-in l i)
       ∙ ap (λ (x : Located). locatedBytes l J x) (located-same l i sizes h))
 
-initial-unread : {I J K L : Image} → AgreeNamed I J → AgreeNamed K L → (l : Layout) → SizesOk l
-    → sameInitial (l .mains) (activeState I) (activeState K) ≡ sameInitial (l .mains) (activeState J) (activeState L)
+initial-unread : {I J K L : Image} → AgreeNamed I J → AgreeNamed K L → (n : ℕ) → n ≤ most
+    → sameInitial n (activeState I) (activeState K) ≡ sameInitial n (activeState J) (activeState L)
 unfolding sameInitial
-initial-unread a b l sizes = all-ext (l .mains) _ _ (λ i h.
+initial-unread a b n room = all-ext n _ _ (λ i h.
     ap₂ (λ (m n : ℕ). Bool·beq (eqb m ssInitial) (eqb n ssInitial)) (state-same a i (omega arith)) (state-same b i (omega arith)))
 
 pub same-unread : {I J K L : Image} → AgreeNamed I J → AgreeNamed K L → (l : Layout) → sameOutcome l I K ≡ sameOutcome l J L
@@ -113,5 +113,5 @@ same-unread {I} {J} {K} {L} a b l = λ i. record { status = status i; same = ans
         ≡ cond (served (firstError (containerErrors l J ++ containerErrors l L))) (sameCheckpoint l J L) false
     answer = cond-cong _ _ (ap served status)
         (λ z. let sizes : SizesOk l = container-then l I _ (eqb-true _ 0 z) .0 .sizes in
-        ap₂ (λ (x y : Bool). x && y) (initial-unread a b l sizes) (ap₂ (sameBytes (segmentSize l * l .mains)) (checkpoint-same a l sizes) (checkpoint-same b l sizes)))
+        ap₂ (λ (x y : Bool). x && y) (initial-unread a b _ (omega (arith, sizes .0))) (ap₂ (sameBytes (segmentSize l * l .mains)) (checkpoint-same a l sizes) (checkpoint-same b l sizes)))
         (λ z. refl)
