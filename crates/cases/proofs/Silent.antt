@@ -5,7 +5,7 @@ use mathlib.Core.List.{List, _++_}
 use Rattle.model.specs.Session.{adr}
 use Rattle.cases.specs.Turns.{Point, turn, Supposed}
 use Rattle.cases.specs.Table.{Row, l211, follow, opened, calls}
-use Rattle.cases.specs.Silent.{silentBoard, zerosSaved, zerosAgain, SilentStory, IdleElsewhere}
+use Rattle.cases.specs.Silent.{zerosBoard, zerosSaved, zerosAgain, SilentStory, CleanElsewhere}
 use Rattle.model.proofs.Laws.Session.{fresh-segment}
 use Rattle.cases.proofs.Compute.{model-rules, same, same-equal, small, fitArgs, fitTurns, all-supposed, known}
 use Rattle.cases.proofs.Quick.{quickWrite, quickArgs}
@@ -21,7 +21,7 @@ story-tested = refl
 
 -- the board after the first checkpoint
 abbrev silentTest : List Row → Point → Bool
-silentTest rs last = same (last .state .device .image) silentBoard
+silentTest rs last = same (last .state .device .image) zerosBoard
 
 silent-tested : knownPoint opened (λ p. followKnown zerosSaved p silentTest) ≡ true
 unfolding model-rules turn zerosSaved quickWrite quickArgs followKnown known small same
@@ -39,6 +39,6 @@ silent-story = record {
   silent = same-equal _ _ (from-opening zerosSaved silentTest silent-tested);
 }
 
-pub idle-elsewhere : IdleElsewhere
+pub clean-elsewhere : CleanElsewhere
 unfolding model-rules
-idle-elsewhere = record { clean = fresh-segment l211 adr; served = refl; accepted = refl; unlike = refl }
+clean-elsewhere = record { clean = fresh-segment l211 adr; served = refl; accepted = refl; unlike = refl }

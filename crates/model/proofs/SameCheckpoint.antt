@@ -14,19 +14,20 @@ use lib.Seq.{getD-take, getD-drop, ext-getD}
 use borrow.Author.Tests.{eq-eqb, ne-eqb}
 use Rattle.model.specs.declared.Layout.{Layout}
 use Rattle.model.specs.declared.Session.{Session}
-use Rattle.model.specs.Words.{Image}
+use Rattle.model.specs.Words.{Image, Bytes}
 use Rattle.model.specs.Layout.{SizesOk, ssBackup, segmentSize}
 use Rattle.model.specs.Status.{firstError, served}
 use Rattle.model.specs.Container.{activeLine, activeState, checkpointBytes, containerErrors}
 use Rattle.model.specs.Session.{dirtySegment}
 use Rattle.model.specs.Outcome.{Lent, outcomeOf}
 use Rattle.model.specs.Format.{formatted, formatOutcome}
+use Rattle.model.specs.Open.{openStatus}
 use Rattle.model.specs.Write.{needsCopy}
 use Rattle.model.specs.Checkpoint.{nextState, checkpointStatus, checkpointOutcome}
 use Rattle.model.specs.Reads.{checkpointBlock}
 use Rattle.model.specs.Same.{sameErrors, sameInitial, sameBytes, sameCheckpoint, sameOutcome}
 use Rattle.model.specs.Reference.{Page, pageAt, pageBlock, Model, CallArgs, openArgs, writeArgs, discardArgs, checkpointArgs, modelStep}
-use Rattle.model.specs.History.{Call, callCheckpoint, State, outcome, deviceStep, step, Permitted}
+use Rattle.model.specs.History.{Call, callCheckpoint, State, outcome, deviceStep, step, openedImage, start, Permitted}
 use Rattle.model.specs.EpochCounts.{isCheckpoint}
 use Rattle.model.specs.States.{servedState}
 use Rattle.model.specs.SameCheckpoint.{Same, Accepted, InitialAgree, SameExactly, SameReads, SameEquivalence, FormatsSame, KeepsCheckpoint, NoneDirty, CheckpointKept}
@@ -41,9 +42,10 @@ use Rattle.model.proofs.Laws.Checkpoint.{next-initial, next-clean}
 use Rattle.model.proofs.Laws.Same.{length-checkpoint, initial-agree, bytes-agree}
 use Rattle.model.proofs.Argument.Pages.{Whole, block-inside, checkpoint-holds, checkpoint-is, container-of, zero-block, saved}
 use Rattle.model.proofs.Argument.Stands.{imageOf, Stands, session-known}
+use Rattle.model.proofs.Argument.Openings.{starting, start-stands}
 use Rattle.model.proofs.CrashSafety.{argument, history-stands}
 use Rattle.model.proofs.DiscardRestores.{block-same}
-use Rattle.model.proofs.States.{read-empty}
+use Rattle.model.proofs.States.{opened-states, read-empty}
 
 -- ---- two images
 
@@ -248,7 +250,7 @@ state-kept s I (discardArgs n) true i h = (λ e. e, λ e. e)
 state-kept s I checkpointArgs true i h = absurd (true≢false h)
 
 -- a served checkpoint while no main segment is dirty
-module _ (s : State) (st : Stands s) (k : Lent) (clean : NoneDirty (s .device)) (h : outcome (s .device) (callCheckpoint k) .status ≡ 0) where
+module _ (s : State) (st : Stands s) (k : Lent) (none : NoneDirty (s .device)) (h : outcome (s .device) (callCheckpoint k) .status ≡ 0) where
   abbrev l : Layout
   l = s .device .layout
 
@@ -260,7 +262,7 @@ module _ (s : State) (st : Stands s) (k : Lent) (clean : NoneDirty (s .device)) 
   pages-same : s .model .working ≡ s .model .checkpoint
   pages-same = pages-equal l _ _ (st .inv .recovers .fit .sizes) (st .wholeWorking) (st .wholeCheckpoint) (λ i b hi hb.
       block-same l (s .model .working) (s .model .checkpoint) (st .wholeWorking) (st .wholeCheckpoint) i b hi hb
-      (λ x hx. st .inv .clean i x hi hx (ap (λ (z : Session). dirtySegment z i) (sym known) ∙ clean i hi)))
+      (λ x hx. st .inv .clean i x hi hx (ap (λ (z : Session). dirtySegment z i) (sym known) ∙ none i hi)))
 
   page-kept : modelStep l checkpointArgs (served (outcome (s .device) (callCheckpoint k) .status)) (s .model) .checkpoint ≡ s .model .checkpoint
   unfolding modelStep
@@ -268,15 +270,29 @@ module _ (s : State) (st : Stands s) (k : Lent) (clean : NoneDirty (s .device)) 
 
   states-kept : (i : ℕ) → i < l .mains → (activeState (s .device .image) i ≡ 0)
       ↔ (cond (served (outcome (s .device) (callCheckpoint k) .status)) (nextState (activeState (s .device .image) i) (dirtySegment (s .device .session) i)) (activeState (s .device .image) i) ≡ 0)
-  states-kept i hi = rw (eq-eqb _ _ h, clean i hi)
+  states-kept i hi = rw (eq-eqb _ _ h, none i hi)
       (λ e. ap (λ (n : ℕ). nextState n false) e ∙ next-clean, λ e. next-initial (activeState (s .device .image) i) false e .0)
 
-  idle-keeps : KeepsCheckpoint s (callCheckpoint k)
-  idle-keeps = keeps s (callCheckpoint k) st tt states-kept page-kept
+  clean-keeps : KeepsCheckpoint s (callCheckpoint k)
+  clean-keeps = keeps s (callCheckpoint k) st tt states-kept page-kept
+
+-- the opening that a history starts with
+opening-keeps : (l : Layout) (d : ℕ) (I : Image) (k : Lent) → Bytes I → openStatus l d I k ≡ 0 → Same l I (openedImage l d I k)
+unfolding start
+opening-keeps l d I k b h =
+    let x = stands-holds (start l d I k) (start-stands l d I k b h) in
+    let same : (i : ℕ) → i < l .mains → activeState (openedImage l d I k) i ≡ activeState I i = opened-states l d I k b h in
+    same-test l I (openedImage l d I k) (
+      accepted l I (container-of l I _ (starting l d I k b h)),
+      x .0,
+      λ i m. (λ e. same i m ∙ e, λ e. sym (same i m) ∙ e),
+      sym (x .1),
+    )
 
 pub checkpoint-kept : CheckpointKept
 checkpoint-kept = record {
+  opening = opening-keeps;
   others = λ l d I t b h cs permitted c p n.
       keeps _ c (history-stands l d I t b h cs permitted) p (λ i m. state-kept _ _ (c .args) _ i n) (model-kept _ (c .args) _ _ n);
-  idle = λ l d I t b h cs permitted k clean ok. idle-keeps _ (history-stands l d I t b h cs permitted) k clean ok;
+  clean = λ l d I t b h cs permitted k none ok. clean-keeps _ (history-stands l d I t b h cs permitted) k none ok;
 }

@@ -1,4 +1,5 @@
--- Equality of two checkpoints (SPECIFICATION 13; the trade: likeness). Assumes nothing.
+-- The comparison of two checkpoints (SPECIFICATION 13; the trade: likeness): which main segments have none, and the bytes of the others.
+-- Assumes nothing.
 use Prim.Native.Nat.{ℕ, _*_}
 use mathlib.Core.Bool.{Bool, false, cond, _&&_, Bool·beq}
 use mathlib.Core.List.{List, _++_}

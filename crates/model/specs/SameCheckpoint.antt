@@ -6,16 +6,17 @@ use mathlib.Core.Path.{_≡_}
 use mathlib.Core.Logic.{_↔_}
 use mathlib.Core.Bool.{true, false, _&&_}
 use Rattle.model.specs.declared.Layout.{Layout}
-use Rattle.model.specs.Words.{Image}
+use Rattle.model.specs.Words.{Image, Bytes}
 use Rattle.model.specs.Layout.{ssInitial}
 use Rattle.model.specs.Status.{firstError, served}
 use Rattle.model.specs.Container.{activeLine, activeState, checkpointBytes, containerErrors}
 use Rattle.model.specs.Session.{dirtySegment}
 use Rattle.model.specs.Outcome.{Lent}
 use Rattle.model.specs.Format.{formatOutcome}
+use Rattle.model.specs.Open.{openStatus}
 use Rattle.model.specs.Reads.{checkpointBlock}
 use Rattle.model.specs.Same.{sameOutcome}
-use Rattle.model.specs.History.{Call, callCheckpoint, Device, State, outcome, step, Permitted}
+use Rattle.model.specs.History.{Call, callCheckpoint, Device, State, outcome, step, openedImage, Permitted}
 use Rattle.model.specs.CrashSafety.{InEveryHistory}
 use Rattle.model.specs.EpochCounts.{isCheckpoint}
 
@@ -38,7 +39,8 @@ SameExactly =
     → Same l I J
     ↔ (Accepted l I × Accepted l J × InitialAgree l I J × (checkpointBytes l I (activeLine I) ≡ checkpointBytes l J (activeLine J)))
 
--- and exactly if no checkpoint read tells the two apart: every block is read with the same bytes, or with none, in both
+-- and exactly if neither image is refused and no checkpoint read tells the two apart: every block is read with the same bytes, or with
+-- none, in both
 abbrev pub SameReads : Type 0
 SameReads =
     (l : Layout) (I J : Image)
@@ -67,11 +69,12 @@ KeepsCheckpoint s c = Same (s .device .layout) (s .device .image) (step s c .dev
 abbrev pub NoneDirty : Device → Type 0
 NoneDirty d = (i : ℕ) → i < d .layout .mains → dirtySegment (d .session) i ≡ false
 
--- in every history each call but a served checkpoint keeps it, and so does a served checkpoint that is made while no main segment is
--- dirty. The second is not so on any image with any valid session: a main segment in state 2 that is not dirty may there differ from its
--- backup segment (`IdleElsewhere` in crate cases)
+-- the opening that a history starts with keeps it; in every history each call but a served checkpoint does, and so does a served checkpoint
+-- that is made while no main segment is dirty. This last is a fact of histories: of an image and a valid session that no history left, a main
+-- segment in state 2 that is not dirty may differ from its backup segment (`CleanElsewhere` in crate cases)
 pub record CheckpointKept : Type 0 where
+  pub opening : (l : Layout) (d : ℕ) (I : Image) (k : Lent) → Bytes I → openStatus l d I k ≡ 0 → Same l I (openedImage l d I k)
   pub others : InEveryHistory (λ s.
       (c : Call) → Permitted c → (isCheckpoint (c .args) && served (outcome (s .device) c .status)) ≡ false → KeepsCheckpoint s c)
-  pub idle : InEveryHistory (λ s.
+  pub clean : InEveryHistory (λ s.
       (k : Lent) → NoneDirty (s .device) → outcome (s .device) (callCheckpoint k) .status ≡ 0 → KeepsCheckpoint s (callCheckpoint k))

@@ -1,21 +1,22 @@
-// Equality of two checkpoints (SPECIFICATION 13; the trade: likeness): whether the same main segments are in state 0, and then the
-// bytes, segment by segment, wherever each image holds the segment.
+// The comparison of two checkpoints (SPECIFICATION 13; the trade: likeness): whether the same main segments are in state 0, and then
+// the bytes, segment by segment, wherever each image holds the segment.
 use model::Layout;
 use model::Located;
 use model::Status;
 ghost use mathlib.Core.Path.{_≡_};
+ghost use mathlib.Core.Logic.{_↔_};
 ghost use Prim.Native.Nat.{_+_, _*_, _≤_, _<_};
 ghost use lib.Dec.{eqb};
 ghost use lib.ListN.{length};
 ghost use Rattle.model.specs.Range.{allB};
 ghost use Rattle.model.specs.Words.{byteAt};
-ghost use Rattle.model.specs.Layout.{blockSize, lineSize, most, layoutOf, segmentSize};
+ghost use Rattle.model.specs.Layout.{blockSize, lineSize, most, layoutOf, ssInitial, segmentSize};
 ghost use Rattle.model.specs.Status.{codeOf, firstError};
-ghost use Rattle.model.specs.Container.{activeLine, segState, checkpointSegment, checkpointBytes, containerErrors};
+ghost use Rattle.model.specs.Container.{activeLine, activeState, segState, checkpointSegment, checkpointBytes, containerErrors};
 ghost use Rattle.model.specs.Same.{sameInitial, sameBytes, sameStatus, sameCheckpoint, sameOutcome};
 ghost use Rattle.model.specs.SameCheckpoint.{InitialAgree};
 
-// How a comparison ends, and whether the checkpoints are the same.
+// How a comparison ends, and whether the images have the same checkpoint.
 pub struct Compared {
     pub status: Status,
     pub same: bool,
@@ -64,7 +65,8 @@ fn segments_equal(a: &[u8], x: usize, b: &[u8], y: usize, blocks: u64) -> bool
 fn segment_same(a: &[u8], b: &[u8], layout: Layout, main: u64) -> bool
     requires { ⌜ firstError (containerErrors layout (now a)) ≡ 0 ⌝ }
     requires { ⌜ firstError (containerErrors layout (now b)) ≡ 0 ⌝ }
-    requires { ⌜ (main < layout .mains) × InitialAgree layout (now a) (now b) ⌝ }
+    requires { ⌜ main < layout .mains ⌝ }
+    requires { ⌜ (activeState (now a) main ≡ ssInitial) ↔ (activeState (now b) main ≡ ssInitial) ⌝ }
     ensures { λ r. ⌜ r ≡ sameBytes (segmentSize layout) (checkpointSegment layout (now (a .entry)) (activeLine (now (a .entry))) main) (checkpointSegment layout (now (b .entry)) (activeLine (now (b .entry))) main) ⌝ }
 {
     let x = metadata::checkpoint_located(a, layout, metadata::active_at(a), main);
@@ -72,6 +74,7 @@ fn segment_same(a: &[u8], b: &[u8], layout: Layout, main: u64) -> bool
     match x {
         Located::Nowhere => true,
         Located::At(p) => match y {
+            // cannot be, since the states agree
             Located::Nowhere => false,
             Located::At(q) => segments_equal(a, p as usize, b, q as usize, layout.blocks),
         },

@@ -1,4 +1,4 @@
-use Prim.Native.Nat.{_-_, _*_, _≤_}
+use Prim.Native.Nat.{_-_, _*_, _≤_, _<_}
 use mathlib.Core.Path.{_≡_}
 use native.Mathlib.Omega.{arith}
 use borrow.Author.Needs.{needs}
@@ -19,7 +19,10 @@ loop-holds : tie.Need-loop-holds Inv-loop μ-loop
 loop-holds c = (search needs, segments-none _ _ _)
 
 segment-same-requires : tie.Need-segment-same-requires Inv-loop μ-loop
-segment-same-requires c κs = search needs
+segment-same-requires c κs =
+    let s = c .before .before .before .before in
+    let n : c .before .loop .i < s .args .layout .mains = omega arith in
+    (s .pre .0, (s .pre .1 .0, (n, s .pre .1 .1 _ n)))
 
 add-i : tie.Need-add-i Inv-loop μ-loop
 add-i c = search needs

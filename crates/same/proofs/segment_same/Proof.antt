@@ -62,7 +62,7 @@ returns c =
     let s = u .before .before .before in
     let a = s .args in
     let x = found-at (a .layout) (a .a .now) (a .main) (c .enum-told .given .1) (k .checkpoint-located .ensures) (u .active-at .ensures .0) in
-    both-nowhere (a .layout) (a .a .now) (a .b .now) (a .main) (s .pre .1 .1 .1 (a .main) (s .pre .1 .1 .0)) x
+    both-nowhere (a .layout) (a .a .now) (a .b .now) (a .main) (s .pre .1 .1 .1) x
 
 returns-2 : tie.Need-returns-2
 returns-2 c =
@@ -74,7 +74,7 @@ returns-2 c =
     let a = s .args in
     let x = found-at (a .layout) (a .a .now) (a .main) (c .before .before .before .x .given .1) (k .checkpoint-located .ensures) (u .active-at .ensures .0) in
     let y = found-at (a .layout) (a .b .now) (a .main) (c .enum-told2 .given .1) (m .checkpoint-located2 .ensures) (v .active-at2 .ensures .0) in
-    absurd (not-one (a .layout) (a .a .now) (a .b .now) (a .main) (s .pre .1 .1 .1 (a .main) (s .pre .1 .1 .0)) _ x y)
+    absurd (not-one (a .layout) (a .a .now) (a .b .now) (a .main) (s .pre .1 .1 .1) _ x y)
 
 returns-3 : tie.Need-returns-3
 returns-3 c =
