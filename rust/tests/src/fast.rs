@@ -752,20 +752,26 @@ pub fn same(first: &[u8], second: &[u8], sizes: Sizes, same: &mut u64) -> u64 {
     alike.err().unwrap_or(0)
 }
 
+/// The empty levels first, all at once; then the saved bytes of the others.
 fn likeness(first: &[u8], second: &[u8], sizes: Sizes) -> Result<bool, u64> {
     let (a, b) = (Sound::of(first, sizes)?, Sound::of(second, sizes)?);
+    let mut set = a.own | a.spared;
+    if set != b.own | b.spared {
+        return Ok(false);
+    }
     let length = FRAME * sizes.frames as usize;
-    let saved = |sound: &Sound, l: usize| match sound.states[l] {
-        1 => sizes.in_level(l, 0),
-        _ => sizes.in_spare(sound.spare_of(l), 0),
+    let start = |sound: &Sound, l: usize| match has(sound.own, l) {
+        true => sizes.in_level(l, 0),
+        false => sizes.in_spare(sound.spare_of(l), 0),
     };
-    let agree = |l: usize| match (a.states[l], b.states[l]) {
-        (0, 0) => true,
-        (0, _) => second[saved(&b, l)..][..length].iter().all(|byte| *byte == 0),
-        (_, 0) => first[saved(&a, l)..][..length].iter().all(|byte| *byte == 0),
-        _ => first[saved(&a, l)..][..length] == second[saved(&b, l)..][..length],
-    };
-    Ok((0..sizes.levels as usize).all(agree))
+    while set != 0 {
+        let l = set.trailing_zeros() as usize;
+        if first[start(&a, l)..][..length] != second[start(&b, l)..][..length] {
+            return Ok(false);
+        }
+        set &= set - 1;
+    }
+    Ok(true)
 }
 
 /// The fast calls in one of the forms, behind the common interface.

@@ -36,8 +36,8 @@ pub enum Refusal {
 /// worthless programs of section 18.2 or like them: three wrong rules for the
 /// states that a save stores (section 11.2), five for long writes (section 10),
 /// six for the spare that a write takes (section 3.4), eleven for consoles
-/// (sections 5.7 and 10.10), nine for discards (sections 10.12 and 10.13) and six for
-/// the kinds of module.
+/// (sections 5.7 and 10.10), nine for discards (sections 10.12 and 10.13), six for
+/// the kinds of module and six for likeness (section 13).
 #[derive(Clone, Copy, PartialEq, Eq, Debug)]
 pub enum Fault {
     StateBeforeFence,
@@ -129,6 +129,21 @@ pub enum Fault {
     KindAfterRun,
     /// A write leaves a card of kind 0.
     WriteForgetsKind,
+    /// Boards of equal saved bytes are alike, whatever is empty, as up to 3.0.0: program
+    /// 46.
+    LikeByBytes,
+    /// The second image's states are read on the line that is active in the first:
+    /// program 47.
+    LikeByFirstLine,
+    /// Both images' states are read on their idle lines: program 47 again.
+    LikeByIdleLines,
+    /// A level in state 2 is unlike one in state 1: program 48.
+    LikeByStates,
+    /// Only levels that are empty in the first image must be so in the other: program
+    /// 49.
+    LikeByFirstEmpties,
+    /// As many levels must be empty in both, and not the same ones.
+    LikeByCount,
 }
 
 #[derive(Clone, Copy)]
@@ -248,6 +263,14 @@ impl Board {
     fn free(&self) -> usize {
         let in_use = |level: usize| self.levels[level].state() == 2;
         self.owners.iter().filter(|owner| !owner.is_some_and(in_use)).count()
+    }
+
+    /// A frame's saved bytes: zeros in an empty level (section 2.6).
+    fn saved(&self, image: &[u8], level: usize, frame: usize) -> Vec<u8> {
+        match self.saved_start(level, frame) {
+            Some(start) => image[start..start + FRAME].to_vec(),
+            None => vec![0; FRAME],
+        }
     }
 
     /// Where a frame's saved bytes stand; nowhere in an empty level.
@@ -695,6 +718,36 @@ impl Reference {
     }
 }
 
+/// Likeness (section 13.1): the same levels are empty, and all saved bytes agree.
+impl Reference {
+    fn likeness(&self, first: &[u8], second: &[u8], sizes: Sizes) -> Result<bool, Refusal> {
+        let (a, b) = (Board::of(first, sizes)?, Board::of(second, sizes)?);
+        let (own, others) = match self.fault {
+            Some(Fault::LikeByFirstLine) => (active_line(a.epoch), active_line(a.epoch)),
+            Some(Fault::LikeByIdleLines) => (idle_line(a.epoch), idle_line(b.epoch)),
+            _ => (active_line(a.epoch), active_line(b.epoch)),
+        };
+        let levels = a.levels.len();
+        let agree = |l| a.frames().all(|f| a.saved(first, l, f) == b.saved(second, l, f));
+        let empties_agree = self.empties_agree(&first[own..][..levels], &second[others..][..levels]);
+        Ok(empties_agree && (0..levels).all(agree))
+    }
+
+    /// Are the same levels in state 0? Which of the other states a level has makes no
+    /// difference.
+    fn empties_agree(&self, first: &[u8], second: &[u8]) -> bool {
+        let count = |states: &[u8]| states.iter().filter(|state| **state == 0).count();
+        let mut both = first.iter().zip(second);
+        match self.fault {
+            Some(Fault::LikeByBytes) => true,
+            Some(Fault::LikeByStates) => first == second,
+            Some(Fault::LikeByFirstEmpties) => both.all(|(a, b)| *a != 0 || *b == 0),
+            Some(Fault::LikeByCount) => count(first) == count(second),
+            _ => both.all(|(a, b)| (*a == 0) == (*b == 0)),
+        }
+    }
+}
+
 /// The orders that the player is to play.
 fn playing(image: &[u8], tape: &[u64], n: u64) -> Result<Vec<Order>, Refusal> {
     if !image.len().is_multiple_of(LINE) {
@@ -724,16 +777,6 @@ fn reading(page: Page, image: &[u8], sizes: Sizes, level: u64, frame: u64) -> Re
         Some(start) => Part { number: 0, start: start as u64, length: FRAME as u64 },
         None => Part { number: 0, start: 0, length: 0 },
     })
-}
-
-fn likeness(first: &[u8], second: &[u8], sizes: Sizes) -> Result<bool, Refusal> {
-    let (a, b) = (Board::of(first, sizes)?, Board::of(second, sizes)?);
-    let saved = |image: &[u8], board: &Board, l, f| match board.saved_start(l, f) {
-        Some(start) => image[start..start + FRAME].to_vec(),
-        None => vec![0; FRAME],
-    };
-    let agree = |l, f| saved(first, &a, l, f) == saved(second, &b, l, f);
-    Ok((0..a.levels.len()).all(|l| a.frames().all(|f| agree(l, f))))
 }
 
 /// The calls of a history: their orders on the tape, and what a served one leaves in
@@ -856,7 +899,7 @@ impl Calls for Reference {
     }
 
     fn like(&self, first: &[u8], second: &[u8], sizes: Sizes) -> (u64, bool) {
-        match likeness(first, second, sizes) {
+        match self.likeness(first, second, sizes) {
             Ok(yes) => (0, yes),
             Err(refusal) => (refusal as u64, false),
         }
