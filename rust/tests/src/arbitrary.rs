@@ -1,12 +1,13 @@
 //! Images, cards, runs, tapes and calls of every kind, made from a fixed seed.
 //!
 //! Sound images (section 3) have any states, pairs and epochs and rubbish in
-//! every byte that is not named; damage of each kind of refusal is put on top.
+//! every byte that is not named, some levels with all stops off; damage of each kind
+//! of refusal is put on top. Twins of a sound image have its saved bytes elsewhere.
 //! Runs (section 5.7) likewise have any numbers that 13 does not refuse, or are
 //! spoiled. Kinds of module are 0 and 1, sometimes others. Nothing here calls an
 //! implementation.
 
-use crate::book::{saved_bytes, Call};
+use crate::book::{saved_bytes, state_of, Call};
 use crate::calls::*;
 use crate::prng::Rng;
 
@@ -112,14 +113,7 @@ pub fn edge_sizes(rng: &mut Rng) -> Sizes {
 
 pub fn metadata(rng: &mut Rng, sizes: Sizes) -> Metadata {
     let levels = sizes.levels as usize;
-    let mut open: Vec<u8> = (0..levels as u8).collect();
-    let often = rng.range(1, 4);
-    let pairs: Vec<u8> = (0..sizes.spares)
-        .map(|_| match open.is_empty() || rng.once_in(often) {
-            true => UNPAIRED,
-            false => open.swap_remove(rng.below(open.len())),
-        })
-        .collect();
+    let pairs = pairs_of(rng, sizes, (0..levels as u8).collect());
     let state = |level: usize| {
         let paired = pairs.contains(&(level as u8));
         if paired {
@@ -130,6 +124,38 @@ pub fn metadata(rng: &mut Rng, sizes: Sizes) -> Metadata {
     };
     let states = (0..levels).map(state).collect();
     Metadata { states, pairs }
+}
+
+/// Metadata in which these levels are empty and no others.
+fn metadata_with(rng: &mut Rng, sizes: Sizes, empty: &[bool]) -> Metadata {
+    let set = (0..sizes.levels as u8).filter(|level| !empty[*level as usize]).collect();
+    let pairs = pairs_of(rng, sizes, set);
+    let state = |(level, empty): (usize, &bool)| match pairs.contains(&(level as u8)) {
+        true => rng.pick(&[1, 2]),
+        false => u8::from(!empty),
+    };
+    let states = empty.iter().enumerate().map(state).collect();
+    Metadata { states, pairs }
+}
+
+/// Any pairs of the spares with these levels.
+fn pairs_of(rng: &mut Rng, sizes: Sizes, mut open: Vec<u8>) -> Vec<u8> {
+    let often = rng.range(1, 4);
+    let pair = |_| match open.is_empty() || rng.once_in(often) {
+        true => UNPAIRED,
+        false => open.swap_remove(rng.below(open.len())),
+    };
+    (0..sizes.spares).map(pair).collect()
+}
+
+/// Where the saved bytes of a level start; an empty one has none.
+fn saved_at(metadata: &Metadata, sizes: Sizes, level: usize) -> Option<usize> {
+    let paired = || metadata.pairs.iter().position(|paired| *paired as usize == level);
+    match metadata.states[level] {
+        0 => None,
+        1 => Some(sizes.in_level(level, 0)),
+        _ => paired().map(|spare| sizes.in_spare(spare, 0)),
+    }
 }
 
 pub fn epoch(rng: &mut Rng) -> u64 {
@@ -146,33 +172,78 @@ pub fn sound_image(rng: &mut Rng, sizes: Sizes) -> Vec<u8> {
         like_spares_and_levels(rng, &mut image, sizes, &metadata);
     }
     if rng.once_in(2) {
-        let line = if image[EPOCH].is_multiple_of(2) { ODD_STATES } else { EVEN_STATES };
-        image[line..line + LINE].iter_mut().for_each(|state| *state %= 3);
+        silence(rng, &mut image, sizes, &metadata);
     }
+    idle_states(rng, &mut image);
     image
 }
 
-/// Another image with the same saved bytes as this sound one: other states
-/// and pairs, the rest rubbish.
+/// Makes the rubbish of the idle line states, or leaves it.
+fn idle_states(rng: &mut Rng, image: &mut [u8]) {
+    if rng.once_in(2) {
+        let line = if image[EPOCH].is_multiple_of(2) { ODD_STATES } else { EVEN_STATES };
+        image[line..line + LINE].iter_mut().for_each(|state| *state %= 3);
+    }
+}
+
+/// Another image that is alike this sound one (section 13.1): the same saved bytes
+/// and the same empty levels; other pairs, states 1 and 2 and epoch, the rest
+/// rubbish.
 pub fn alike(rng: &mut Rng, image: &[u8], sizes: Sizes) -> Vec<u8> {
+    twin(rng, image, sizes, &empties(image, sizes))
+}
+
+/// Another image with the same saved bytes that differs from this sound one in its
+/// empty levels: of those whose saved bytes are zeros some, one at least, are empty
+/// in one image and silent in the other. None if there is no such level.
+pub fn silent_twin(rng: &mut Rng, image: &[u8], sizes: Sizes) -> Option<Vec<u8>> {
+    let saved = saved_bytes(image, sizes);
+    let levels = saved.chunks(FRAME * sizes.frames as usize);
+    let zeros: Vec<usize> =
+        (0..).zip(levels).filter(|(_, saved)| is_zero(saved)).map(|(level, _)| level).collect();
+    if zeros.is_empty() {
+        return None;
+    }
+    let surely = rng.pick(&zeros);
+    let mut empty = empties(image, sizes);
+    for level in zeros {
+        empty[level] ^= level == surely || rng.once_in(2);
+    }
+    Some(twin(rng, image, sizes, &empty))
+}
+
+fn is_zero(bytes: &[u8]) -> bool {
+    bytes.iter().all(|byte| *byte == 0)
+}
+
+/// Which levels of a sound image are empty.
+fn empties(image: &[u8], sizes: Sizes) -> Vec<bool> {
+    (0..sizes.levels as usize).map(|level| state_of(image, level) == 0).collect()
+}
+
+/// Another image with the same saved bytes as this sound one, in which these levels
+/// are empty, and no others.
+fn twin(rng: &mut Rng, image: &[u8], sizes: Sizes, empty: &[bool]) -> Vec<u8> {
     let mut other = rng.bytes(sizes.image_length());
-    let mut metadata = metadata(rng, sizes);
+    let metadata = metadata_with(rng, sizes, empty);
     let length = FRAME * sizes.frames as usize;
     for (level, saved) in saved_bytes(image, sizes).chunks(length).enumerate() {
-        let state = &mut metadata.states[level];
-        if *state == 0 && saved.iter().any(|byte| *byte != 0) {
-            *state = 1;
-        }
-        let start = match metadata.pairs.iter().position(|paired| *paired as usize == level) {
-            Some(spare) if *state == 2 => sizes.in_spare(spare, 0),
-            _ => sizes.in_level(level, 0),
-        };
-        if *state != 0 {
+        if let Some(start) = saved_at(&metadata, sizes, level) {
             other[start..start + length].copy_from_slice(saved);
         }
     }
     set_metadata(&mut other, sizes, epoch(rng), &metadata);
+    idle_states(rng, &mut other);
     other
+}
+
+/// Makes some levels silent: their saved bytes are zeros.
+fn silence(rng: &mut Rng, image: &mut [u8], sizes: Sizes, metadata: &Metadata) {
+    for level in 0..sizes.levels as usize {
+        if let Some(start) = saved_at(metadata, sizes, level).filter(|_| rng.once_in(2)) {
+            image[start..start + FRAME * sizes.frames as usize].fill(0);
+        }
+    }
 }
 
 /// Makes some paired spares equal to their levels, and some empty levels zero.
@@ -374,7 +445,8 @@ pub fn console(rng: &mut Rng, run: &[Console]) -> u64 {
 /// A write's target and bytes, of console 0: mostly good, about half of them over
 /// several frames where a level has them, sometimes out of range: offsets behind
 /// the frame with every kind of length, no bytes, one byte more than is left of the
-/// level, as many bytes as a level has from any place on.
+/// level, as many bytes as a level has from any place on. Of one write in eight the
+/// bytes are zeros.
 pub fn writing(rng: &mut Rng, sizes: Sizes) -> (Target, Vec<u8>) {
     let frames = sizes.frames.clamp(1, 64) as usize;
     let offset = match rng.below(4) {
@@ -404,6 +476,9 @@ pub fn writing(rng: &mut Rng, sizes: Sizes) -> (Target, Vec<u8>) {
         4 => bytes = rng.bytes(left + 1),
         5 => bytes = rng.bytes(FRAME * frames),
         _ => {}
+    }
+    if rng.once_in(8) {
+        bytes.fill(0);
     }
     (target, bytes)
 }

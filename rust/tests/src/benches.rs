@@ -10,7 +10,7 @@
 //! the calls; over a `Compared` what the benches do is the reference's too.
 
 use crate::arbitrary;
-use crate::book::Call;
+use crate::book::{alike, Call};
 use crate::calls::*;
 use crate::groups::{due, laws_tried, lines_due, plain};
 use crate::laws::{Seen, Tally, Tried};
@@ -71,7 +71,7 @@ pub struct Ran {
 
 impl Ran {
     /// Feeds a tally the call, whose orders are well formed, and holds its tape.
-    pub fn feed(&self, tally: &mut Tally, call: &Call) -> Result<Tried, String> {
+    pub fn feed<C: Calls>(&self, calls: &C, tally: &mut Tally, call: &Call) -> Result<Tried, String> {
         let orders = orders_of(&self.orders, self.dump.len()).ok_or("an order is ill formed")?;
         let Ran { answer, tape, card_lent, card, lent, left, before, dump, .. } = self;
         let seen = Seen {
@@ -85,6 +85,7 @@ impl Ran {
             left,
             before,
             after: dump,
+            alike: alike(calls, before, dump, tally.sizes)?,
         };
         tally.feed(seen).and_then(|tried| tapes::hold(seen, tried))
     }
@@ -169,15 +170,15 @@ fn as_written<C: Calls>(calls: &C, written: &Written, rubbish: Rubbish) -> Resul
 
 /// Both benches ran this call with the same outcome.
 fn same(call: &str, first: &Ran, second: &Ran) -> Result<(), String> {
-    let alike = |what: &str, alike: bool| match alike {
+    let agree = |what: &str, agree: bool| match agree {
         true => Ok(()),
         false => Err(format!("{call}: two benches have different {what}")),
     };
-    alike("answers", first.answer == second.answer)?;
-    alike("orders", first.orders == second.orders)?;
-    alike("cards", first.card == second.card)?;
-    alike("runs", first.left == second.left)?;
-    alike("dumps", first.before == second.before && first.dump == second.dump)
+    agree("answers", first.answer == second.answer)?;
+    agree("orders", first.orders == second.orders)?;
+    agree("cards", first.card == second.card)?;
+    agree("runs", first.left == second.left)?;
+    agree("dumps", first.before == second.before && first.dump == second.dump)
 }
 
 /// The sheet of 17.6 on two benches: as written, and the same after every call.
@@ -224,7 +225,7 @@ pub fn random_histories<C: Calls>(calls: &C, seed: u64, histories: u64) -> Outco
             let second = other.run(&call, longer);
             let told = format!("history {number}, sizes {sizes}: {call}");
             same(&told, &first, &second)?;
-            let fed = first.feed(&mut tally, &call);
+            let fed = first.feed(calls, &mut tally, &call);
             tried.add(fed.map_err(|what| format!("{told}: {what}"))?);
             ran += 1;
         }

@@ -2,7 +2,8 @@
 //!
 //! The book is fed each call's arguments without image, card, run and tape, and
 //! of the answer only whether it was served. `pages_read` is what the two reads of
-//! the implementation under test give; the explorer compares the two.
+//! the implementation under test give, and `alike` what its likeness does; the
+//! explorer compares them with the book.
 
 use crate::calls::*;
 use std::fmt;
@@ -145,4 +146,12 @@ pub fn pages_read<C: Calls>(calls: &C, image: &[u8], sizes: Sizes) -> Result<(Ve
         }
     }
     Ok((working, saved))
+}
+
+/// Are two boards alike? Asked in both orders, which must be served and agree.
+pub fn alike<C: Calls>(calls: &C, first: &[u8], second: &[u8], sizes: Sizes) -> Result<bool, String> {
+    match (calls.like(first, second, sizes), calls.like(second, first, sizes)) {
+        ((0, yes), (0, turned)) if yes == turned => Ok(yes),
+        (answer, turned) => Err(format!("likeness answers {answer:?}, and turned round {turned:?}")),
+    }
 }

@@ -6,11 +6,11 @@
 //! over a `Compared` is a history through the tested one, held against the other
 //! step by step. The numbers that each call knows are those of section 14.
 //! Writes are counted by their spans, calls by the records and by the kind of module,
-//! and discards by what they store (`laws`).
+//! discards by what they store, and likenesses by what decides them (`laws`).
 
 use crate::book::{state_of, told};
 use crate::calls::*;
-use crate::laws::{Charges, Discards, OfKind, Spans};
+use crate::laws::{Charges, Discards, Likes, OfKind, Spans};
 use std::cell::{Cell, RefCell};
 use std::collections::BTreeMap;
 
@@ -67,6 +67,7 @@ pub struct Compared<'a, G: Calls, T: Calls> {
     charges: Cell<Charges>,
     discards: Cell<Discards>,
     kinds: Cell<OfKind>,
+    likes: Cell<Likes>,
     differences: Cell<u64>,
     first: RefCell<Option<String>>,
 }
@@ -75,8 +76,8 @@ impl<'a, G: Calls, T: Calls> Compared<'a, G, T> {
     pub fn new(good: &'a G, tested: &'a T) -> Compared<'a, G, T> {
         let (answers, first, differences) = (RefCell::default(), RefCell::default(), Cell::new(0));
         let (spans, charges) = (Cell::default(), Cell::default());
-        let (discards, kinds) = (Cell::default(), Cell::default());
-        Compared { good, tested, answers, spans, charges, discards, kinds, differences, first }
+        let (discards, kinds, likes) = (Cell::default(), Cell::default(), Cell::default());
+        Compared { good, tested, answers, spans, charges, discards, kinds, likes, differences, first }
     }
 
     /// How many writes of each kind of span were compared.
@@ -97,6 +98,11 @@ impl<'a, G: Calls, T: Calls> Compared<'a, G, T> {
     /// How many calls of each that the kind of module decides were compared.
     pub fn kinds(&self) -> OfKind {
         self.kinds.get()
+    }
+
+    /// How many pairs of sound images of each kind were compared for likeness.
+    pub fn likes(&self) -> Likes {
+        self.likes.get()
     }
 
     /// How many calls were compared.
@@ -252,6 +258,11 @@ impl<G: Calls, T: Calls> Calls for Compared<'_, G, T> {
         let due = self.good.like(first, second, sizes);
         let got = self.tested.like(first, second, sizes);
         let same = due == got && unchanged(kept.0, first) && unchanged(kept.1, second);
+        if due.0 == 0 {
+            let mut likes = self.likes.get();
+            likes.feed(first, second, sizes);
+            self.likes.set(likes);
+        }
         self.judge("like", due.0, same, || format!("like {sizes}: {got:?}, due {due:?}"));
         got
     }

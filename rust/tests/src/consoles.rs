@@ -14,7 +14,9 @@ use crate::book::{told, Call};
 use crate::calls::*;
 use crate::explore::*;
 use crate::groups::{add, all_found, due, laid_out, metadata_of, plain, starts, states, Going};
-use crate::laws::{never_at, EMPTY_KEPT, OF_DISCARDS, OF_SPANS, TO_ZEROS, UNFLUSHED};
+use crate::laws::{
+    never_at, EMPTY_IN_BOTH, EMPTY_IN_FIRST, EMPTY_KEPT, OF_DISCARDS, OF_SPANS, TO_ZEROS, UNFLUSHED, UNLIKE,
+};
 use crate::report::Outcome;
 
 /// A console at the start of a level.
@@ -152,8 +154,9 @@ pub fn of_two<C: Calls>(calls: &C, sizes: Sizes, depth: usize, runs: usize, plan
         add(&mut total, Counts { histories, ..explorer.counts() });
     }
     let mut left_out = [never_at(sizes), OF_SPANS.to_vec(), vec![UNFLUSHED]].concat();
-    left_out.extend([EMPTY_KEPT, TO_ZEROS].iter().filter(|_| sizes.spares > 1));
-    left_out.extend(OF_DISCARDS.iter().filter(|_| depth < 3));
+    let of_empty_levels = [EMPTY_KEPT, TO_ZEROS, EMPTY_IN_BOTH, EMPTY_IN_FIRST];
+    left_out.extend(of_empty_levels.iter().filter(|_| sizes.spares > 1));
+    left_out.extend(OF_DISCARDS.iter().chain(&UNLIKE).filter(|_| depth < 3));
     total.tried.all_tried(&left_out)?;
     Ok(all_found(total))
 }

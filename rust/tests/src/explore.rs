@@ -7,7 +7,7 @@
 //! lent any run that 13 does not refuse, and the first opening that finishes must
 //! be served and show a permitted page. The faults of section 18 are caught by it
 //! (`selftest`). After each call both reads must give the book's pages, and the
-//! laws of sections 11.5, 10.9, 3.4, 10.10, 15.7 and 10.12 (`laws`) and those of the
+//! laws of sections 11.5, 10.9, 3.4, 10.10, 15.7, 10.12 and 13 (`laws`) and those of the
 //! tapes (`tapes`) must hold.
 //!
 //! A module has a kind, and its openings are given one. Demand 3 supposes that they
@@ -107,7 +107,9 @@ spares taken: by writes that needed a new one; passed over: with a lower one who
 long writes: served writes over several frames; refusals 8: those by one of its conditions alone
 shares needed: copying writes of a console below its share, since a save, while another was above its own
 discards from a spare, to zeros: of marked frames of touched levels; untouched levels get no order, whatever the tape
-unflushed tapes: of served calls in a session of kind 1; refusals 5 of a kind: of openings that were given one above 1";
+unflushed tapes: of served calls in a session of kind 1; refusals 5 of a kind: of openings that were given one above 1
+boards alike: two, in a history those before and after a call; with a level moved: in state 1 in one, in state 2 in the other
+boards unlike by a level empty: in one of them alone, of equal saved bytes; by bytes: with the same levels empty";
 
 /// A history in progress: what stands, the card last answered, the consoles'
 /// records as the last call left them, the book, and the tally of the laws.
@@ -224,7 +226,10 @@ impl<'a, C: Calls> Explorer<'a, C> {
         let card = Card::fresh(self.sizes, self.kinds.given);
         let history = History { module, card, run, book, tally };
         self.check_reads(&history)?;
-        Ok(history)
+        match !self.laws || alike(self.calls, image, history.module.image(), self.sizes)? {
+            true => Ok(history),
+            false => Err("a finished opening leaves a board unlike the one before".to_string()),
+        }
     }
 
     /// The module with this image on it, all held.
@@ -266,6 +271,8 @@ impl<'a, C: Calls> Explorer<'a, C> {
         }
         self.check_reads(history)?;
         if self.laws {
+            let alike = self.check_likeness(&image, &before, history);
+            let alike = alike.map_err(|what| format!("{call}: {what}"))?;
             let seen = Seen {
                 deed: &call.deed,
                 number: answer.number,
@@ -277,6 +284,7 @@ impl<'a, C: Calls> Explorer<'a, C> {
                 left: &left,
                 before: &image,
                 after: history.module.image(),
+                alike,
             };
             let tried = history.tally.feed(seen).and_then(|tried| tapes::hold(seen, tried));
             self.counts.tried.add(tried.map_err(|what| format!("{call}: {what}"))?);
@@ -325,6 +333,16 @@ impl<'a, C: Calls> Explorer<'a, C> {
         match working == history.book.working.frames && saved == history.book.saved {
             true => Ok(()),
             false => Err("the reads do not give the book's pages".to_string()),
+        }
+    }
+
+    /// Whether the board before a call, with its book, and the one after it are alike:
+    /// exactly if the saved read of every frame gives the same in both, or no part.
+    fn check_likeness(&self, image: &[u8], before: &Book, history: &History) -> Result<bool, String> {
+        let alike = alike(self.calls, image, history.module.image(), self.sizes)?;
+        match alike == (before.saved == history.book.saved) {
+            true => Ok(alike),
+            false => Err(format!("alike the board before: {alike}, due {}", !alike)),
         }
     }
 

@@ -1,7 +1,7 @@
 //! Groups of checks that run over any implementation of the calls: the bench
 //! cases, every permitted image of single calls and short histories, random
 //! histories, and calls with any contents. `restart`, `long`, `consoles`,
-//! `discards`, `kinds` and `benches` have more.
+//! `discards`, `kinds`, `likeness` and `benches` have more.
 //!
 //! `selftest` runs them over the reference, `differential` over the library.
 //! Each gives a line of counts or the first failure.
@@ -12,8 +12,8 @@ use crate::calls::*;
 use crate::crash::{permitted, Module};
 use crate::explore::*;
 use crate::laws::{
-    never_at, Tried, OF_CONSOLES, OF_DISCARDS, OF_KINDS, OF_SPANS, OF_SPARES, PASSED_OVER, SHARES_NEEDED,
-    UNFLUSHED,
+    never_at, Tried, OF_CONSOLES, OF_DISCARDS, OF_KINDS, OF_LIKES, OF_SPANS, OF_SPARES, PASSED_OVER,
+    SHARES_NEEDED, UNFLUSHED, UNLIKE,
 };
 use crate::prng::Rng;
 use crate::report::{Found, Outcome};
@@ -259,10 +259,10 @@ pub(crate) fn found(text: impl Into<String>, counts: Counts) -> Found {
     found
 }
 
-/// How often the laws were tried, in words; of spares, spans, consoles, discards and
-/// kinds those that there were.
+/// How often the laws were tried, in words; of spares, spans, consoles, discards,
+/// kinds and likeness those that there were.
 pub(crate) fn laws_tried(tried: Tried) -> String {
-    let sometimes = [&OF_SPANS[..], &OF_SPARES, &OF_CONSOLES, &OF_DISCARDS, &OF_KINDS].concat();
+    let sometimes = [&OF_SPANS[..], &OF_SPARES, &OF_CONSOLES, &OF_DISCARDS, &OF_KINDS, &OF_LIKES].concat();
     let mut named = tried.named();
     named.retain(|(name, count)| *count > 0 || !sometimes.contains(name));
     let told: Vec<String> = named.iter().map(|(name, count)| format!("{count} {name}")).collect();
@@ -391,8 +391,8 @@ fn told_after(path: &[Call], what: String) -> String {
 
 /// Every history of `depth` calls from the alphabet, and with it each shorter
 /// one, from every start image, at every cut, over every permitted image. One
-/// call is enough to try each law that these sizes allow but those of discards,
-/// for which there must be three.
+/// call is enough to try each law that these sizes allow but those of discards and of
+/// boards unlike the one before, for which there must be three.
 pub fn short_histories<C: Calls>(calls: &C, sizes: Sizes, depth: usize, kinds: Kinds) -> Outcome {
     let starts = starts(sizes, &arbitrary::sparse_data(sizes));
     let total = all_short(|| Explorer::new(calls, sizes, 5), sizes, depth, kinds, &starts)?;
@@ -400,7 +400,7 @@ pub fn short_histories<C: Calls>(calls: &C, sizes: Sizes, depth: usize, kinds: K
     left_out.extend([UNFLUSHED].iter().filter(|_| kinds.given == ADR));
     left_out.extend(OF_CONSOLES);
     left_out.extend(OF_SPANS.iter().filter(|_| sizes.frames == 1));
-    left_out.extend(OF_DISCARDS.iter().filter(|_| depth < 3));
+    left_out.extend(OF_DISCARDS.iter().chain(&UNLIKE).filter(|_| depth < 3));
     total.tried.all_tried(&left_out)?;
     Ok(all_found(total))
 }
@@ -517,7 +517,7 @@ pub fn any_contents<C: Calls>(calls: &C, seed: u64, rounds: usize, sizes: fn(&mu
     for _ in 0..rounds {
         let sizes = sizes(&mut rng);
         let mut image = arbitrary::sound_image(&mut rng, sizes);
-        like_its_twin(calls, &mut rng, &image, sizes);
+        like_its_twins(calls, &mut rng, &image, sizes);
         if rng.once_in(3) {
             (0..rng.range(1, 2)).for_each(|_| arbitrary::damage(&mut rng, &mut image, sizes));
         }
@@ -549,16 +549,23 @@ fn lay_out_and_read<C: Calls>(calls: &C, rng: &mut Rng, image: &[u8], sizes: Siz
     }
 }
 
-/// Likeness of a sound image with one of the same saved bytes, then with one
-/// bit of the levels and spares changed.
-fn like_its_twin<C: Calls>(calls: &C, rng: &mut Rng, image: &[u8], sizes: Sizes) {
-    let mut twin = arbitrary::alike(rng, image, sizes);
-    for _ in 0..2 {
-        calls.like(image, &twin, sizes);
-        calls.like(&twin, image, sizes);
-        let at = rng.range(DATA, twin.len() - 1);
-        twin[at] ^= 1 << rng.below(8);
+/// Likeness of a sound image with one that is alike, and with one that differs from
+/// it in its empty levels alone; then with one bit of the levels and spares changed.
+fn like_its_twins<C: Calls>(calls: &C, rng: &mut Rng, image: &[u8], sizes: Sizes) {
+    let twins = [Some(arbitrary::alike(rng, image, sizes)), arbitrary::silent_twin(rng, image, sizes)];
+    for mut twin in twins.into_iter().flatten() {
+        for _ in 0..2 {
+            like_both(calls, image, &twin, sizes);
+            let at = rng.range(DATA, twin.len() - 1);
+            twin[at] ^= 1 << rng.below(8);
+        }
     }
+}
+
+/// Likeness of two images in both orders.
+fn like_both<C: Calls>(calls: &C, image: &[u8], other: &[u8], sizes: Sizes) {
+    calls.like(image, other, sizes);
+    calls.like(other, image, sizes);
 }
 
 /// Likeness with itself, with a recovered copy, a changed one, another one.
@@ -569,7 +576,7 @@ fn like_others<C: Calls>(calls: &C, rng: &mut Rng, image: &[u8], sizes: Sizes, n
         let at = rng.below(other.len());
         other[at] ^= 1 << rng.below(8);
     }
-    calls.like(image, &other, named);
+    like_both(calls, image, &other, named);
     let mut tape = vec![0; sizes.opening_room()];
     let opened = calls.make(
         &Deed::Open(sizes, ADR),
@@ -578,10 +585,8 @@ fn like_others<C: Calls>(calls: &C, rng: &mut Rng, image: &[u8], sizes: Sizes, n
     );
     let mut recovered = image.to_vec();
     calls.play(&mut recovered, &tape[..3 * opened.orders as usize], u64::MAX);
-    calls.like(image, &recovered, named);
-    let unlike = arbitrary::sound_image(rng, sizes);
-    calls.like(&unlike, image, named);
-    calls.like(image, &unlike, named);
+    like_both(calls, image, &recovered, named);
+    like_both(calls, image, &arbitrary::sound_image(rng, sizes), named);
 }
 
 /// Runs a call with a long tape, then with exact and short ones, each full of

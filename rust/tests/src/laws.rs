@@ -1,17 +1,17 @@
 //! The laws of section 11.5, counted over a history, refusal 8 by its conditions
 //! (section 10.9), which spare a write takes (section 3.4), what is kept for
-//! consoles (sections 5.7, 10.10 and 15.7), and what a discard stores and leaves
-//! (sections 10.12 to 10.14).
+//! consoles (sections 5.7, 10.10 and 15.7), what a discard stores and leaves
+//! (sections 10.12 to 10.14), and which calls leave a board alike (section 13).
 //!
 //! A tally is fed each call's arguments, its number, tape and orders, card and run
-//! as they were lent and left, and the images before and after it, of which it
-//! reads states and pairs (section 2) by itself. The explorer feeds one in every
-//! history, so the laws are held against whatever histories are run over. What a
-//! write's span is follows from its arguments alone; writes over several frames are
-//! counted, and each of refusal 8's conditions where no other holds. A spare that is
-//! taken is known by the pair byte that changed, and is judged by the image before.
-//! That one run is lent on is known by the records: they are as the last call left
-//! them. Which levels are touched and which frames marked is known by the writes.
+//! as they were lent and left, the images before and after it, of which it reads
+//! states and pairs (section 2) by itself, and whether these are alike. The explorer
+//! feeds one in every history, so the laws are held against whatever histories are run
+//! over. What a write's span is follows from its arguments alone; writes over several
+//! frames are counted, and each of refusal 8's conditions where no other holds. A spare
+//! that is taken is known by the pair byte that changed, and is judged by the image
+//! before. That one run is lent on is known by the records: they are as the last call
+//! left them. Which levels are touched and which frames marked is known by the writes.
 
 use crate::book::{saved_bytes, state_of, told};
 use crate::calls::*;
@@ -34,12 +34,14 @@ pub struct Seen<'a> {
     /// The image, and the same once the orders are played.
     pub before: &'a [u8],
     pub after: &'a [u8],
+    /// Whether these two are alike.
+    pub alike: bool,
 }
 
 /// What happened since the last served save, or since the start of a history.
 #[derive(Clone)]
 pub struct Tally {
-    sizes: Sizes,
+    pub(crate) sizes: Sizes,
     /// Levels in state 2 then: none after a save, at the start any number.
     found: u64,
     /// Writes served since that copied a level.
@@ -83,6 +85,81 @@ pub struct Tried {
     pub discards: Discards,
     /// Calls by the kind of module.
     pub kinds: OfKind,
+    /// Calls by what makes the boards before and after them alike or not.
+    pub likes: Likes,
+}
+
+/// How many pairs of boards there were of each kind that likeness (section 13.1)
+/// tells apart.
+#[derive(Clone, Copy, Default, PartialEq, Eq, Debug)]
+pub struct Likes {
+    /// Alike; of these, with a level in state 1 in one board and in state 2 in the
+    /// other, and with a level that is empty in both.
+    pub alike: u64,
+    pub moved: u64,
+    pub empty: u64,
+    /// Of equal saved bytes, but with a level that is empty in one board alone: in the
+    /// first, in the second, and as many in each. In a history none becomes empty.
+    pub in_first: u64,
+    pub in_second: u64,
+    pub exchanged: u64,
+    /// With the same levels empty and other saved bytes.
+    pub by_bytes: u64,
+}
+
+impl Likes {
+    /// Counts two sound boards.
+    pub fn feed(&mut self, first: &[u8], second: &[u8], sizes: Sizes) {
+        let states: Vec<(u8, u8)> = (0..sizes.levels as usize)
+            .map(|level| (state_of(first, level), state_of(second, level)))
+            .collect();
+        let count = |is: fn(&&(u8, u8)) -> bool| states.iter().filter(is).count();
+        let (in_first, in_second) = (count(|(a, b)| *a == 0 && *b != 0), count(|(a, b)| *a != 0 && *b == 0));
+        match (saved_bytes(first, sizes) == saved_bytes(second, sizes), in_first + in_second) {
+            (true, 0) => {
+                self.alike += 1;
+                self.moved += u64::from(count(|(a, b)| a != b) > 0);
+                self.empty += u64::from(count(|(a, _)| *a == 0) > 0);
+            }
+            (true, _) => {
+                self.in_first += u64::from(in_second == 0);
+                self.in_second += u64::from(in_first == 0);
+                self.exchanged += u64::from(in_first == in_second);
+            }
+            (false, 0) => self.by_bytes += 1,
+            (false, _) => {}
+        }
+    }
+
+    pub fn add(&mut self, other: Likes) {
+        self.alike += other.alike;
+        self.moved += other.moved;
+        self.empty += other.empty;
+        self.in_first += other.in_first;
+        self.in_second += other.in_second;
+        self.exchanged += other.exchanged;
+        self.by_bytes += other.by_bytes;
+    }
+
+    /// The counts under the names that are printed.
+    pub fn named(self) -> [(&'static str, u64); 7] {
+        let Likes { alike, moved, empty, in_first, in_second, exchanged, by_bytes } = self;
+        let [of_moved, of_empty, of_first, of_bytes] = OF_LIKES;
+        [
+            ("boards alike", alike),
+            (of_moved, moved),
+            (of_empty, empty),
+            (of_first, in_first),
+            (EMPTY_IN_SECOND, in_second),
+            (AS_MANY_EMPTY, exchanged),
+            (of_bytes, by_bytes),
+        ]
+    }
+
+    /// Fails if one kind was never tried.
+    pub fn all_tried(self) -> Result<(), String> {
+        none_is_zero(&self.named(), &[])
+    }
 }
 
 /// How many calls there were of each that the kind of module decides (`tapes`).
@@ -380,11 +457,13 @@ impl Tried {
         self.heard.add(other.heard);
         self.discards.add(other.discards);
         self.kinds.add(other.kinds);
+        self.likes.add(other.likes);
     }
 
     /// The counts under the names that are printed.
     pub fn named(self) -> Vec<(&'static str, u64)> {
-        let Tried { saves, settled, empty, copies, nines, taken, spans, heard, discards, kinds } = self;
+        let Tried { saves, settled, empty, copies, nines, taken, spans, heard, discards, kinds, likes } =
+            self;
         let mut named = vec![
             ("served saves", saves),
             ("restored levels settled", settled),
@@ -397,7 +476,8 @@ impl Tried {
         named.extend(heard.named());
         named.extend(discards.named());
         named.extend(kinds.named());
-        named.retain(|(name, _)| ![OF_NO_FRAME, OF_CARDS].contains(name));
+        named.extend(likes.named());
+        named.retain(|(name, _)| ![OF_NO_FRAME, OF_CARDS, EMPTY_IN_SECOND, AS_MANY_EMPTY].contains(name));
         named
     }
 
@@ -466,6 +546,16 @@ const OF_NO_FRAME: &str = "discards of no frame";
 pub const OF_KINDS: [&str; 2] = [UNFLUSHED, "refusals 5 of a kind"];
 pub const UNFLUSHED: &str = "unflushed tapes";
 const OF_CARDS: &str = "refusals 5 of a card's kind";
+
+/// Where every level was saved none is empty, neither in both boards nor in one.
+pub const OF_LIKES: [&str; 4] = ["boards alike with a level moved", EMPTY_IN_BOTH, EMPTY_IN_FIRST, BY_BYTES];
+pub const EMPTY_IN_BOTH: &str = "boards alike with a level empty";
+pub const EMPTY_IN_FIRST: &str = "boards unlike by a level empty in the first";
+const EMPTY_IN_SECOND: &str = "boards unlike by a level empty in the second";
+const AS_MANY_EMPTY: &str = "boards unlike with as many empty";
+const BY_BYTES: &str = "boards unlike by bytes";
+/// Only a save of what was written makes a board unlike the one before.
+pub const UNLIKE: [&str; 2] = [EMPTY_IN_FIRST, BY_BYTES];
 
 /// The numbers that are given only where 13 does not apply, and those of a write
 /// to which none of the refusals before 8 applies.
@@ -566,7 +656,7 @@ impl Tally {
             (self.kept, self.alone) = (false, false);
         }
         self.hold_13(seen, &mut tried)?;
-        let copied = self.copied;
+        let (copied, touched) = (self.copied, self.touched);
         match deed {
             Deed::Write(target, bytes) if JUDGED.contains(&number) => {
                 taker = self.feed_write(*target, bytes.len(), seen, &mut tried)?
@@ -580,11 +670,28 @@ impl Tally {
         tried.taken = spare_taken(taker, before, after, self.sizes)?;
         let due = self.found + self.copied;
         let (levels, spares) = (in_state_2(after, self.sizes), not_free(after, self.sizes));
-        match (levels, spares) == (due, due) {
-            true => Ok(tried),
-            false => {
-                Err(format!("levels in state 2: {levels}, spares not free: {spares}, due {due} of each"))
-            }
+        if (levels, spares) != (due, due) {
+            return Err(format!("levels in state 2: {levels}, spares not free: {spares}, due {due} of each"));
+        }
+        self.hold_likeness(touched, seen)?;
+        tried.likes.feed(before, after, self.sizes);
+        Ok(tried)
+    }
+
+    /// Every call leaves a board alike the one before, but for a served save of these
+    /// touched levels: that one exactly if none of them was empty, which it sets, and
+    /// the saved bytes are what they were.
+    fn hold_likeness(&self, touched: u64, seen: Seen) -> Result<(), String> {
+        let Seen { deed, number, before, after, alike, .. } = seen;
+        let saves = *deed == Deed::Save && number == 0 && touched != 0;
+        let sets = |level: usize| touched >> level & 1 == 1 && state_of(before, level) == 0;
+        let keeps = || {
+            let sets_none = !(0..self.sizes.levels as usize).any(sets);
+            sets_none && saved_bytes(before, self.sizes) == saved_bytes(after, self.sizes)
+        };
+        match alike == (!saves || keeps()) {
+            true => Ok(()),
+            false => Err(format!("a call leaves a board alike the one before: {alike}, due {}", !alike)),
         }
     }
 

@@ -1,9 +1,12 @@
-//! The random writes, runs, discards and cards: how often each kind of span, of record,
-//! of tape and of module occurs.
+//! The random writes, runs, discards, cards and twins: how often each kind of span, of
+//! record, of tape, of module and of likeness occurs.
 
-use crpm_tests::arbitrary::{any_kind, any_run, call, card, console, run, sound_image, writing};
+use crpm_tests::arbitrary::{
+    alike, any_kind, any_run, call, card, console, run, silent_twin, sound_image, writing,
+};
+use crpm_tests::book::{saved_bytes, state_of};
 use crpm_tests::calls::*;
-use crpm_tests::laws::{conditions_of_13, conditions_of_8, frames_met};
+use crpm_tests::laws::{conditions_of_13, conditions_of_8, frames_met, Likes};
 use crpm_tests::prng::Rng;
 
 const WRITES: usize = 6000;
@@ -201,4 +204,72 @@ fn every_kind_occurs() {
             assert!(count > least, "kind {kind}: {count}");
         }
     }
+}
+
+const IMAGES: usize = 3000;
+
+/// A twin that is alike has the saved bytes and the empty levels of its image, and a
+/// silent one only the bytes: it has at least one level empty where the other is silent.
+/// Both have epochs of either parity, levels moved between themselves and their spares,
+/// and on the idle line rubbish or states.
+#[test]
+fn every_twin_occurs() {
+    let mut rng = Rng::new(10);
+    let (mut likes, mut silent, mut without) = (Likes::default(), Likes::default(), 0);
+    let (mut turned, mut idle) = (0, [0; 2]);
+    let mut count = |image: &[u8], twin: &[u8]| {
+        turned += usize::from((image[EPOCH] ^ twin[EPOCH]) & 1 == 1);
+        let line = if twin[EPOCH].is_multiple_of(2) { ODD_STATES } else { EVEN_STATES };
+        idle[usize::from(twin[line..line + LINE].iter().all(|state| *state < 3))] += 1;
+    };
+    for _ in 0..IMAGES {
+        let sizes = Sizes::new(3, 2, 1);
+        let image = sound_image(&mut rng, sizes);
+        let twin = alike(&mut rng, &image, sizes);
+        likes.feed(&image, &twin, sizes);
+        count(&image, &twin);
+        let Some(other) = silent_twin(&mut rng, &image, sizes) else {
+            let saved = saved_bytes(&image, sizes);
+            assert!(saved.chunks(FRAME).all(|level| level.iter().any(|byte| *byte != 0)));
+            without += 1;
+            continue;
+        };
+        assert_eq!(saved_bytes(&image, sizes), saved_bytes(&other, sizes));
+        assert!((0..3).any(|level| (state_of(&image, level) == 0) != (state_of(&other, level) == 0)));
+        silent.feed(&image, &other, sizes);
+        count(&image, &other);
+    }
+    let Likes { alike, moved, empty, .. } = likes;
+    assert_eq!(likes, Likes { alike: IMAGES as u64, moved, empty, ..Likes::default() });
+    let Likes { in_first, in_second, exchanged, .. } = silent;
+    assert_eq!(silent, Likes { in_first, in_second, exchanged, ..Likes::default() });
+    for (what, count) in [
+        ("moved", moved),
+        ("a level that stays", alike - moved),
+        ("empty", empty),
+        ("none empty", alike - empty),
+        ("empty in the first", in_first),
+        ("empty in the second", in_second),
+        ("as many empty", exchanged),
+        ("no level of zeros", without),
+        ("another parity", turned as u64),
+        ("rubbish on the idle line", idle[0]),
+        ("states on the idle line", idle[1]),
+    ] {
+        assert!(count > IMAGES as u64 / 50, "{what}: {count} of {IMAGES}");
+    }
+}
+
+/// One write in eight is of zeros, short ones and long ones.
+#[test]
+fn zeros_are_written() {
+    let (mut rng, sizes) = (Rng::new(11), Sizes::new(2, 1, 3));
+    let spans: Vec<Vec<u8>> = (0..WRITES).map(|_| writing(&mut rng, sizes).1).collect();
+    let zeros = |least: usize, most: usize| {
+        let is =
+            |bytes: &&Vec<u8>| (least..=most).contains(&bytes.len()) && bytes.iter().all(|byte| *byte == 0);
+        spans.iter().filter(is).count()
+    };
+    assert!((WRITES / 10..WRITES / 6).contains(&zeros(2, 768)), "{}", zeros(2, 768));
+    assert!(zeros(2, 256) > 100 && zeros(257, 768) > 100, "{} {}", zeros(2, 256), zeros(257, 768));
 }

@@ -12,7 +12,8 @@ fn image(states: [u8; 3], pairs: [u8; 2]) -> Vec<u8> {
     image_of(SIZES, 6, &metadata, 0, &distinct_data(SIZES))
 }
 
-/// A call without a tape and on the card of zeros, for laws that look at neither.
+/// A call without a tape, on the card of zeros and with a board alike the one before, for
+/// laws that look at none of these.
 const SEEN: Seen<'static> = Seen {
     deed: &Deed::Save,
     number: 0,
@@ -24,6 +25,7 @@ const SEEN: Seen<'static> = Seen {
     left: &[],
     before: &[],
     after: &[],
+    alike: true,
 };
 
 fn write_to(level: u64) -> Deed {
@@ -129,7 +131,7 @@ fn from_save_to_save() {
         total.add(tally.feed(seen).expect("the laws hold"));
         run = left;
     }
-    let Tried { saves, settled, empty, copies, nines, taken, spans, heard, discards, kinds } = total;
+    let Tried { saves, settled, empty, copies, nines, taken, spans, heard, discards, kinds, .. } = total;
     assert_eq!((saves, settled, empty, copies, nines), (1, 2, 0, 2, 2));
     assert_eq!(taken, Taken { unpaired: 1, ..Taken::default() });
     assert_eq!((spans, heard, discards), (Spans::default(), Heard::default(), Discards::default()));
@@ -269,8 +271,9 @@ fn untried_laws_fail() {
     let discards =
         Discards { from_spare: 1, to_zeros: 1, of_no_frame: 0, untouched: 1, short: 1, elevens: 1 };
     let kinds = OfKind { unflushed: 1, fives: 1, of_cards: 0 };
+    let likes = Likes { alike: 1, moved: 1, empty: 1, in_first: 1, by_bytes: 1, ..Likes::default() };
     let (saves, settled, empty, copies, nines) = (1, 1, 1, 1, 1);
-    let tried = Tried { saves, settled, empty, copies, nines, taken, spans, heard, discards, kinds };
+    let tried = Tried { saves, settled, empty, copies, nines, taken, spans, heard, discards, kinds, likes };
     assert!(tried.all_tried(&[]).is_ok());
     assert!(Tried { nines: 0, ..tried }.all_tried(&[NINES]).is_ok());
     assert!(Tried { spans: Spans::default(), ..tried }.all_tried(&OF_SPANS).is_ok());
@@ -307,6 +310,18 @@ fn untried_laws_fail() {
         Discards { elevens: 0, ..discards },
     ] {
         assert!(Tried { discards, ..tried }.all_tried(&[NINES]).is_err());
+    }
+    assert!(likes.all_tried().is_err());
+    assert!(Likes { in_second: 1, exchanged: 1, ..likes }.all_tried().is_ok());
+    assert!(Tried { likes: Likes { alike: 1, ..Likes::default() }, ..tried }.all_tried(&OF_LIKES).is_ok());
+    for likes in [
+        Likes { alike: 0, ..likes },
+        Likes { moved: 0, ..likes },
+        Likes { empty: 0, ..likes },
+        Likes { in_first: 0, ..likes },
+        Likes { by_bytes: 0, ..likes },
+    ] {
+        assert!(Tried { likes, ..tried }.all_tried(&[NINES]).is_err());
     }
     for spans in [
         Spans { long: 0, ..spans },
@@ -594,8 +609,19 @@ fn judged((tally, seen): (Tally, Discarded)) -> Result<Discards, String> {
     let Discarded { level, number, tape, orders, card, left, before, after } = &seen;
     let (run, deed) = (&[Console::alone(TWO_FRAMES)], &Deed::Discard(*level));
     let (number, tape) = (*number, *tape);
-    let seen =
-        Seen { deed, number, tape, orders, card, card_left: left, lent: run, left: run, before, after };
+    let seen = Seen {
+        deed,
+        number,
+        tape,
+        orders,
+        card,
+        card_left: left,
+        lent: run,
+        left: run,
+        before,
+        after,
+        alike: true,
+    };
     tally.clone().feed(seen).map(|tried| tried.discards)
 }
 
@@ -665,5 +691,79 @@ fn discards_store_what_is_due() {
         let (tally, mut seen) = edited(2, &[1]);
         seen.after[place] ^= 1;
         assert_eq!(judged((tally, seen)), Err(bytes.to_string()), "{place}");
+    }
+}
+
+/// A board of three levels whose saved bytes are zeros, in these states.
+fn silent(states: [u8; 3], pairs: [u8; 2]) -> Vec<u8> {
+    let metadata = Metadata { states: states.to_vec(), pairs: pairs.to_vec() };
+    image_of(SIZES, 7, &metadata, 0, &vec![0; SIZES.image_length() - DATA])
+}
+
+/// Pairs of boards by what makes them alike or not.
+#[test]
+fn likes_are_counted() {
+    let fed = |first: &[u8], second: &[u8]| {
+        let mut likes = Likes::default();
+        likes.feed(first, second, SIZES);
+        likes
+    };
+    let none = Likes::default();
+    let (set, moved) = (silent([1; 3], [UNPAIRED; 2]), silent([1, 2, 1], [UNPAIRED, 1]));
+    assert_eq!(fed(&set, &set), Likes { alike: 1, ..none });
+    assert_eq!(fed(&set, &moved), Likes { alike: 1, moved: 1, ..none });
+    let [empty, two, other] = [[0, 1, 1], [0, 0, 1], [1, 1, 0]].map(|states| silent(states, [UNPAIRED; 2]));
+    assert_eq!(fed(&empty, &empty), Likes { alike: 1, empty: 1, ..none });
+    assert_eq!(fed(&empty, &set), Likes { in_first: 1, ..none });
+    assert_eq!(fed(&moved, &empty), Likes { in_second: 1, ..none });
+    assert_eq!(fed(&two, &empty), Likes { in_first: 1, ..none });
+    assert_eq!(fed(&empty, &other), Likes { exchanged: 1, ..none });
+    assert_eq!(fed(&two, &other), none, "one is empty in the second alone, two in the first");
+    let mut sounding = moved.clone();
+    sounding[SIZES.in_spare(1, 0) + 255] = 1;
+    assert_eq!(fed(&sounding, &moved), Likes { by_bytes: 1, ..none });
+    assert_eq!(fed(&sounding, &empty), none, "by bytes and by an empty level");
+    sounding[SIZES.in_level(1, 0)] = 1;
+    sounding[SIZES.in_spare(1, 0) + 255] = 0;
+    assert_eq!(
+        fed(&sounding, &set),
+        Likes { alike: 1, moved: 1, ..none },
+        "what is not saved does not count"
+    );
+}
+
+/// Every call leaves a board alike the one before, and so does a save while nothing is
+/// touched; a save of touched levels, if none was empty and the saved bytes stay.
+#[test]
+fn boards_stay_alike_up_to_a_save() {
+    let run = [Console::alone(SIZES)];
+    let fed = |tally: &mut Tally, deed: &Deed, number, boards: [&[u8]; 2], alike| {
+        let [before, after] = boards;
+        tally.feed(Seen { deed, number, lent: &run, left: &run, before, after, alike, ..SEEN }).map(drop)
+    };
+    let said = |alike: bool| format!("a call leaves a board alike the one before: {alike}, due {}", !alike);
+    let (empty, set) = (silent([0, 2, 1], [UNPAIRED, 1]), silent([1; 3], [UNPAIRED, 1]));
+    let saved = silent([0, 1, 1], [UNPAIRED, 1]);
+    let start = Tally::start(&empty, SIZES, &run);
+    let calls = [(write_to(0), 0), (write_to(2), 11), (Deed::Open(SIZES, ADR), 0), (Deed::Save, 11)];
+    for (deed, number) in calls {
+        for alike in [true, false] {
+            let got = fed(&mut start.clone(), &deed, number, [&empty, &empty], alike);
+            assert_eq!(got.err(), (!alike).then(|| said(alike)), "{deed}");
+        }
+    }
+    let mut sounding = saved.clone();
+    sounding[SIZES.in_level(1, 0)] = 1;
+    for (level, after, due) in
+        [(None, &saved, true), (Some(0), &set, false), (Some(1), &saved, true), (Some(1), &sounding, false)]
+    {
+        let mut tally = start.clone();
+        if let Some(level) = level {
+            fed(&mut tally, &write_to(level), 0, [&empty, &empty], true).expect("the write keeps the laws");
+        }
+        for alike in [true, false] {
+            let got = fed(&mut tally.clone(), &Deed::Save, 0, [&empty, after], alike);
+            assert_eq!(got.err(), (alike != due).then(|| said(alike)), "{level:?}");
+        }
     }
 }

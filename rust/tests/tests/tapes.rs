@@ -27,7 +27,8 @@ fn held(deed: &Deed, number: u64, card: &Card, counts: [usize; 3], left: u64) ->
     let card_left = &Card { kind: left, ..*card };
     let (orders, before) = (&orders(counts), &image());
     let (tape, lent, after) = (0, &[], before);
-    let seen = Seen { deed, number, tape, orders, card, card_left, lent, left: lent, before, after };
+    let seen =
+        Seen { deed, number, tape, orders, card, card_left, lent, left: lent, before, after, alike: true };
     hold(seen, Tried::default()).map(|tried| tried.kinds)
 }
 

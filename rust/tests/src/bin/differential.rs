@@ -122,7 +122,7 @@ fn quick(suite: &mut Suite) {
     suite.add("bench cases, kind 1", || compared(&Library, |both| kinds::bench_cases(both)));
     suite.add("two benches, one sheet", || compared(&Library, |both| benches::one_sheet(both)));
     suite.add("two benches, random histories", || two_benches(200));
-    suite.add("random histories, sizes 1 to 3", || histories(random(41, 40, 12, 3, EVERY_CUT)));
+    suite.add("random histories, sizes 1 to 3", || histories(random(41, 60, 12, 3, EVERY_CUT)));
     suite.add("histories up to 3 at 2,1,1", || short(TWO, 3, Kinds::ADR));
     suite.add("histories up to 3 at 2,1,1, kind 1", || short(TWO, 3, Kinds::EADR));
     suite.add("histories up to 3 at 1,1,2", || short(SMALL_OF_FRAMES, 3, Kinds::ADR));

@@ -452,7 +452,7 @@ fn differ(good: &Reference) -> Outcome {
         let both = Compared::new(good, &faulty);
         match of_frames.contains(fault) {
             true => groups::any_contents(&both, 33, 200, |rng| arbitrary::sizes(rng, 3)),
-            false => groups::any_contents(&both, 33, 400, |_| FIVE),
+            false => groups::any_contents(&both, 33, 1000, |_| FIVE),
         }
         if both.differences() == 0 {
             return Err(format!("{fault:?} is not noticed"));

@@ -181,7 +181,7 @@ fn printed_by_laws(input: &[u8]) -> Result<(Vec<u8>, Tried), String> {
     let due = sheet::printed_on(&good, Rubbish::Zeros, sheet::HALF, input, |_, call, ran| {
         match (&call.deed, &mut tally, &mut all) {
             (Deed::Open(sizes, _), _, _) => tally = Some(Tally::start(&ran.before, *sizes, &ran.left)),
-            (_, Some(tally), Ok(tried)) => match ran.feed(tally, call) {
+            (_, Some(tally), Ok(tried)) => match ran.feed(&good, tally, call) {
                 Ok(more) => tried.add(more),
                 Err(what) => all = Err(format!("{call}: {what}")),
             },
