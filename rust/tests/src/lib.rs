@@ -29,6 +29,7 @@ pub mod groups;
 pub mod kinds;
 pub mod laws;
 pub mod library;
+pub mod likeness;
 pub mod long;
 pub mod prng;
 pub mod raw;

@@ -6,9 +6,10 @@
 //! calls; every permitted image of single calls, of short histories of one console
 //! and of two and of the first save after a restart; the stories of long writes, of
 //! two consoles and of discards at every cut; both kinds of module, each call for
-//! both and histories on either; sheets and random histories on two benches. In every
-//! history the laws of sections 11.5, 10.9, 3.4, 10.10, 15.7 and 10.12 and those of the
-//! tapes are counted. Then the library's answers are spoiled one at a time, and each
+//! both and histories on either; likeness of images with their twins and of boards, each
+//! with each; sheets and random histories on two benches. In every history the laws of
+//! sections 11.5, 10.9, 3.4, 10.10, 15.7, 10.12 and 13 and those of the tapes are
+//! counted. Then the library's answers are spoiled one at a time, and each
 //! group must notice. Seeds are fixed.
 
 use crpm_tests::calls::*;
@@ -21,7 +22,7 @@ use crpm_tests::long::{after_cuts, long_writes, longest_writes};
 use crpm_tests::reference::Reference;
 use crpm_tests::report::{arguments, Found, Outcome, Suite};
 use crpm_tests::restart::restored_levels;
-use crpm_tests::{arbitrary, benches, consoles, discards, kinds};
+use crpm_tests::{arbitrary, benches, consoles, discards, kinds, likeness};
 use std::process::ExitCode;
 
 const USAGE: &str = "usage: differential [--quick]
@@ -83,6 +84,8 @@ fn all(suite: &mut Suite) {
     suite.add("both kinds", || compared(&Library, |both| kinds::both(both, 46, 20_000)));
     suite.add("bench cases, kind 1", || compared(&Library, |both| kinds::bench_cases(both)));
     suite.add("wrong kinds", || compared(&Library, |both| kinds::wrong_kind(both)));
+    suite.add("likeness of 17.11", || compared(&Library, |both| likeness::worked_example(both)));
+    suite.add("likeness of boards", || compared(&Library, |both| likeness::boards(both, 49, 500)));
     suite.add("two benches, one sheet", || compared(&Library, |both| benches::one_sheet(both)));
     suite.add("two benches, random histories", || two_benches(1000));
     suite.add("random histories, sizes 1 to 3", || histories(random(41, 1200, 12, 3, EVERY_CUT)));
@@ -105,6 +108,7 @@ fn all(suite: &mut Suite) {
     suite.add("safe calls, both kinds", || compared(&Wrapped, |both| kinds::both(both, 47, 5_000)));
     suite.add("safe calls, stage and gallery", || compared(&Wrapped, |both| consoles::story(both)));
     suite.add("safe calls, discards", || compared(&Wrapped, |both| discards::story(both, FEW_CUTS)));
+    suite.add("safe calls, likeness of 17.11", || compared(&Wrapped, |both| likeness::worked_example(both)));
     suite.add("safe calls, long writes", || compared(&Wrapped, |both| long_writes(both, SOME_OF_SAVES)));
     suite.add("spoiled answers, any contents", spoiled_contents);
     suite.add("spoiled answers, histories", spoiled_histories);
@@ -120,6 +124,8 @@ fn quick(suite: &mut Suite) {
     suite.add("two consoles up to 3 at 3,2,1", || of_two(FIVE, 1, FEW_CUTS));
     suite.add("both kinds", || compared(&Library, |both| kinds::both(both, 46, 2_000)));
     suite.add("bench cases, kind 1", || compared(&Library, |both| kinds::bench_cases(both)));
+    suite.add("likeness of 17.11", || compared(&Library, |both| likeness::worked_example(both)));
+    suite.add("likeness of boards", || compared(&Library, |both| likeness::boards(both, 49, 100)));
     suite.add("two benches, one sheet", || compared(&Library, |both| benches::one_sheet(both)));
     suite.add("two benches, random histories", || two_benches(200));
     suite.add("random histories, sizes 1 to 3", || histories(random(41, 60, 12, 3, EVERY_CUT)));
@@ -159,15 +165,18 @@ fn any_large() -> Outcome {
     })
 }
 
-/// Adds the writes by their spans, the calls by the records and by the kind of module
-/// and the discards by what they store, of which none may be missing.
+/// Adds the writes by their spans, the calls by the records and by the kind of module,
+/// the discards by what they store and the likenesses by what decides them, of which
+/// none may be missing.
 fn kinds_tried<C: Calls>(both: &Pair<C>, text: &str) -> Outcome {
     both.spans().all_tried()?;
     both.charges().all_tried()?;
     both.discards().all_tried()?;
     both.kinds().all_tried()?;
+    both.likes().all_tried()?;
     let mut named = [&both.spans().named()[..], &both.charges().named(), &both.discards().named()].concat();
     named.extend(both.kinds().named());
+    named.extend(both.likes().named());
     let told: Vec<String> = named.iter().map(|(name, count)| format!("{count} {name}")).collect();
     Ok(Found::new(format!("{text}; {}", told.join(", ")), &named))
 }
@@ -232,7 +241,8 @@ fn spoiled_histories() -> Outcome {
     let plan = Plan { images: Images::Some { samples: 1 }, every_cut_up_to: 20 };
     let random = Random { laws: Laws::Held, ..random(44, 8, 8, 2, plan) };
     let (all, few) = (Spoil::all(), [Spoil::Number(CallKind::Write), Spoil::PlayedImage, Spoil::ReadStart]);
-    let runs: [(&str, &[Spoil], SpoiledRun); 12] = [
+    let few_of_likeness = [Spoil::LikeNumber, Spoil::Likeness, Spoil::ReadLength];
+    let runs: [(&str, &[Spoil], SpoiledRun); 14] = [
         ("bench cases", &all, &|both| groups::bench_cases(both)),
         ("waiting lines", &all, &|both| groups::waiting_lines(both)),
         ("restored levels", &all, &|both| restored_levels(both, SHORT_STORY, Kinds::ADR)),
@@ -241,6 +251,8 @@ fn spoiled_histories() -> Outcome {
         ("discards", &all, &|both| discards::story(both, plan)),
         ("stage and gallery", &all, &|both| consoles::story(both)),
         ("bench cases, kind 1", &all, &|both| kinds::bench_cases(both)),
+        ("likeness of 17.11", &all, &|both| likeness::worked_example(both)),
+        ("likeness of boards", &few_of_likeness, &|both| likeness::boards(both, 49, 20)),
         ("two benches", &all, &|both| benches::one_sheet(both)),
         ("random histories", &all, &|both| groups::random_histories(both, random)),
         ("single calls", &few, &|both| groups::single_calls(both, Kinds::ADR)),

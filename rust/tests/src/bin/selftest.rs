@@ -4,11 +4,12 @@
 //! over every permitted image of single calls, of short histories of one console
 //! and of two and of the first save after a restart, over the stories of long
 //! writes, of two consoles and of discards and over random histories, with the laws
-//! of sections 11.5, 10.9, 3.4, 10.10, 15.7 and 10.12 and those of the tapes counted in
-//! all of them; both kinds of module, and openings that are given the wrong one; sheets
-//! and random histories on two benches; each fault must be caught by what it breaks,
-//! and those that keep demand 3 must keep it; the corner sheets print as they should,
-//! and wrong rules for spares left out and wrong upgrades of sheets do not.
+//! of sections 11.5, 10.9, 3.4, 10.10, 15.7, 10.12 and 13 and those of the tapes counted
+//! in all of them; both kinds of module, and openings that are given the wrong one;
+//! likeness of boards, each with each; sheets and random histories on two benches; each
+//! fault must be caught by what it breaks, and those that keep demand 3 must keep it;
+//! the corner sheets print as they should, and wrong rules for spares left out and wrong
+//! upgrades of sheets do not.
 
 use crpm_tests::calls::Sizes;
 use crpm_tests::compared::Compared;
@@ -20,7 +21,7 @@ use crpm_tests::reference::{Fault, Reference};
 use crpm_tests::report::{arguments, Found, Outcome, Suite};
 use crpm_tests::restart::{restored_levels, restored_levels_without_laws};
 use crpm_tests::sheet::{self, Rule, Upgrade};
-use crpm_tests::{arbitrary, benches, consoles, corners, corners::Corner, discards, kinds};
+use crpm_tests::{arbitrary, benches, consoles, corners, corners::Corner, discards, kinds, likeness};
 use std::process::ExitCode;
 
 const USAGE: &str = "usage: selftest
@@ -81,6 +82,8 @@ fn all_good<'a>(suite: &mut Suite<'a>, good: &'a Reference) {
     suite.add("both kinds", || kinds::both(good, 46, 4000));
     suite.add("bench cases, kind 1", || kinds::bench_cases(good));
     suite.add("wrong kinds", || kinds::wrong_kind(good));
+    suite.add("likeness of 17.11", || likeness::worked_example(good));
+    suite.add("likeness of boards", || likeness::boards(good, 49, 200));
     suite.add("two benches, one sheet", || benches::one_sheet(good));
     suite.add("two benches, random histories", || benches::random_histories(good, 45, 200));
 }
@@ -153,6 +156,13 @@ fn faults(suite: &mut Suite) {
     for fault in DISCARDS_THAT_KEEP_DEMAND_3 {
         suite.add(format!("fault {fault:?} keeps demand 3"), move || discards_keep_demand_3(fault));
     }
+    for (fault, in_story, of_boards) in FAULTS_OF_LIKENESS {
+        let faulty = Reference::faulty(fault);
+        let story = move || likeness::worked_example(&faulty);
+        suite.add(format!("fault {fault:?} in 17.11"), move || heard(story(), in_story));
+        let boards = move || likeness::boards(&faulty, 49, 200);
+        suite.add(format!("fault {fault:?} among boards"), move || heard(boards(), of_boards));
+    }
     let clears_touch = Reference::faulty(Fault::DiscardClearsTouch);
     suite.add("fault DiscardClearsTouch keeps demand 3 where no level is empty", move || {
         groups::short_histories_of_set_levels(&clears_touch, TWO, 4)
@@ -162,6 +172,12 @@ fn faults(suite: &mut Suite) {
     });
     suite.add("fault OverdrawnShares on two benches", || {
         heard(on_two_benches(Fault::OverdrawnShares), "due of 14 and 15: Some(15)")
+    });
+    suite.add("fault LikeByBytes on two benches", || {
+        heard(on_two_benches(Fault::LikeByBytes), "a board alike the one before: true, due false")
+    });
+    suite.add("fault LikeByStates on two benches", || {
+        heard(on_two_benches(Fault::LikeByStates), "a board alike the one before: false, due true")
     });
 }
 
@@ -184,9 +200,9 @@ const FRAMES: &[Sizes] = &[SMALL_OF_FRAMES];
 
 /// Each fault that the explorer shows, the sizes of the histories, and what
 /// must be said of it. A save that keeps restored levels, a write that takes offset
-/// 256 and the discards that keep demand 3 break neither it nor the book, and only
-/// the laws show them.
-const FAULTS: [(Fault, &[Sizes], &str); 22] = [
+/// 256, the discards that keep demand 3 and wrong likenesses break neither it nor the
+/// book, and only the laws show them.
+const FAULTS: [(Fault, &[Sizes], &str); 27] = [
     (Fault::StateBeforeFence, ONE_FRAME, "opening again answers 4"),
     (Fault::MarksClearedAtSave, ONE_FRAME, "opening again shows a page that is not permitted"),
     (Fault::OpeningSkipsLevelToSpare, ONE_FRAME, "opening again shows a page that is not permitted"),
@@ -213,6 +229,11 @@ const FAULTS: [(Fault, &[Sizes], &str); 22] = [
     ),
     (Fault::DiscardsUntouched, ONE_FRAME, "opening again shows a page that is not permitted"),
     (Fault::DiscardRefusesUntouched, ONE_FRAME, "a discard with a tape of 95 numbers answers 11, due 0"),
+    (Fault::LikeByBytes, ONE_FRAME, "save: alike the board before: true, due false"),
+    (Fault::LikeByFirstLine, ONE_FRAME, "save: likeness answers (0, true), and turned round (0, false)"),
+    (Fault::LikeByIdleLines, ONE_FRAME, "save: alike the board before: false, due true"),
+    (Fault::LikeByStates, ONE_FRAME, "at 0: alike the board before: false, due true"),
+    (Fault::LikeByFirstEmpties, ONE_FRAME, "save: likeness answers (0, false), and turned round (0, true)"),
 ];
 
 /// The faults of discards, and what is due otherwise in their story.
@@ -261,6 +282,41 @@ const FAULTS_OF_KIND: [(Fault, &str); 5] = [
 /// Those of them that no page shows on a module of kind 1, at any cut.
 const KINDS_THAT_KEEP_DEMAND_3: [Fault; 4] =
     [Fault::KeepsAFlush, Fault::DropsAFence, Fault::FlushesAll, Fault::WriteForgetsKind];
+
+/// The faults of likeness, and what is due otherwise in the table of 17.11 and among
+/// boards. In a history none becomes empty, so that its laws show all but the last.
+const FAULTS_OF_LIKENESS: [(Fault, &str, &str); 6] = [
+    (
+        Fault::LikeByBytes,
+        "step 2: save, with the board of step 0, alike: true, due false",
+        "alike, as the saved reads are: (0, true), due (0, false)",
+    ),
+    (
+        Fault::LikeByFirstLine,
+        "step 2: save, with the board of step 0, likeness answers (0, true), and turned round (0, false)",
+        "a likeness turned round: (0, false), due (0, true)",
+    ),
+    (
+        Fault::LikeByIdleLines,
+        "step 2: save, with the board of step 0, alike: true, due false",
+        "alike, as the saved reads are: (0, true), due (0, false)",
+    ),
+    (
+        Fault::LikeByStates,
+        "to level 0 frame 0 at 0, with the board of step 2, alike: false, due true",
+        "alike, as the saved reads are: (0, false), due (0, true)",
+    ),
+    (
+        Fault::LikeByFirstEmpties,
+        "step 2: save, with the board of step 0, likeness answers (0, false), and turned round (0, true)",
+        "a likeness turned round: (0, true), due (0, false)",
+    ),
+    (
+        Fault::LikeByCount,
+        "the other level and the board of step 2, alike: true, due false",
+        "alike, as the saved reads are: (0, true), due (0, false)",
+    ),
+];
 
 /// The faults of a save's states, and what is heard after a restart.
 const FAULTS_OF_SAVE: [(Fault, &str); 3] = [
@@ -420,7 +476,8 @@ fn discards_keep_demand_3(fault: Fault) -> Outcome {
 }
 
 /// What random histories on two benches show of a fault: one that takes spares by
-/// what stood on the tape, one that only three consoles show.
+/// what stood on the tape, one that only three consoles show, wrong likenesses by the
+/// law alone.
 fn on_two_benches(fault: Fault) -> Outcome {
     benches::random_histories(&Reference::faulty(fault), 45, 200)
 }
@@ -434,8 +491,8 @@ fn heard(story: Outcome, breaks: &str) -> Outcome {
 }
 
 /// Among calls with any contents each fault of long writes, of the new spare, of
-/// consoles, of discards and of kinds answers or leaves something else than the
-/// reference.
+/// consoles, of discards, of kinds and of likeness answers or leaves something else
+/// than the reference.
 fn differ(good: &Reference) -> Outcome {
     let mut differences = Vec::new();
     let of_writes = FAULTS_OF_WRITE.map(|(fault, _)| fault);
@@ -445,7 +502,8 @@ fn differ(good: &Reference) -> Outcome {
     let of_consoles = FAULTS_OF_CONSOLES.map(|(fault, _)| fault);
     let of_three = [Fault::OverdrawnShares];
     let of_kinds = FAULTS_OF_KIND.map(|(fault, _)| fault);
-    let others = [&of_spares[..], &in_use, &of_consoles, &of_three, &of_kinds].concat();
+    let of_likeness = FAULTS_OF_LIKENESS.map(|(fault, ..)| fault);
+    let others = [&of_spares[..], &in_use, &of_consoles, &of_three, &of_kinds, &of_likeness].concat();
     let of_frames = [&of_writes[..], &of_discards].concat();
     for fault in of_frames.iter().chain(&others) {
         let faulty = Reference::faulty(*fault);
@@ -487,12 +545,15 @@ fn forms_agree(good: &Reference) -> Outcome {
         discards::longest(&compared)?;
         kinds::both(&compared, 48, 400)?;
         kinds::bench_cases(&compared)?;
+        likeness::worked_example(&compared)?;
+        likeness::boards(&compared, 50, 20)?;
         benches::one_sheet(&compared)?;
         compared.verdict()?;
         compared.spans().all_tried()?;
         compared.charges().all_tried()?;
         compared.discards().all_tried()?;
         compared.kinds().all_tried()?;
+        compared.likes().all_tried()?;
         calls += compared.calls();
     }
     Ok(Found::new(format!("{calls} calls as the reference"), &[("calls compared", calls)]))
