@@ -14,7 +14,9 @@
 //! console, for which every spare is kept, or those of two, each with half of them,
 //! where the row's name says so. The module is of kind 0, or of kind 1 where the row's
 //! name says so: an opening that copies levels to their spares, writes and a save of
-//! all marks, which have no flushes then. The line
+//! all marks, which have no flushes then. Likeness is measured of equal images, with
+//! every level saved and with none, and of two in one of which the last level is empty:
+//! the states tell these apart, all bytes of the others being equal. The line
 //! `worst: copies=C writes=W rust=R small=Q calls=K limit=L` has the greatest ratios
 //! of the library's time to Rust's: C over openings and writes that copy, of 1,000
 //! orders or more, W over all writes that copy, R over calls of 1,000 orders or
@@ -260,6 +262,8 @@ fn cases(sizes: Sizes) -> Vec<Case> {
     let (empty, own) = (unpaired(sizes, 0), unpaired(sizes, 1));
     let (with_spares, in_spares) = (paired(sizes, MOST, 1), paired(sizes, MOST, 2));
     let last = sizes.levels - 1;
+    let mut last_empty = own.clone();
+    last_empty.states[last as usize] = 0;
     let mut cases = vec![
         case("format", Action::Format, &empty, fresh),
         case("open, all empty", Action::Open, &empty, fresh),
@@ -281,6 +285,8 @@ fn cases(sizes: Sizes) -> Vec<Case> {
         case("working read", Action::Read(Page::Working, last), &in_spares, fresh),
         case("saved read", Action::Read(Page::Saved, last), &in_spares, fresh),
         case("likeness, alike", Action::Same(image(&in_spares)), &in_spares, fresh),
+        case("likeness, all empty", Action::Same(image(&empty)), &empty, fresh),
+        case("likeness, unlike by state", Action::Same(image(&last_empty)), &own, fresh),
     ];
     for (name, action, metadata, session) in [
         ("open, kind 1", Action::Open, &with_spares, fresh),
