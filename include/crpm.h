@@ -103,7 +103,7 @@ extern "C" {
    or a struct changes, its second when a call is added, or when what a call does,
    or what is promised of it, changes and programs need no change.
    `pkg-config --modversion crpm` says the same. */
-#define CRPM_VERSION "3.0.0"
+#define CRPM_VERSION "3.1.0"
 
 /* ---- the layout of an image */
 
@@ -122,8 +122,10 @@ extern "C" {
 #define CRPM_PAIRS_AT 256  /* the main segment of each backup segment: a byte each */
 #define CRPM_UNPAIRED 255  /* the pair byte of a backup segment that has none */
 
-/* The states of a main segment: its checkpoint is all zero, stands in itself,
-   stands in its backup segment. */
+/* The states of a main segment. Initial: no checkpoint since the format has found
+   it written to, so it has no checkpoint part, and its checkpoint bytes count as
+   zeros; one that was written to and is all zero in the checkpoint is in another
+   state. Else its checkpoint stands in itself, or in its backup segment. */
 #define CRPM_SS_INITIAL 0
 #define CRPM_SS_MAIN 1
 #define CRPM_SS_BACKUP 2
@@ -344,16 +346,25 @@ uint64_t crpm_read_working(
     uint64_t *start, uint64_t *size);
 
 /* Finds a block as of the last checkpoint: where in the image it starts and
-   its size, 256; or 0 and 0 if no checkpoint has bytes of this main segment:
-   they are then all zero. The place holds until operations are next carried out
-   on the image; read again then. Refusals in order: 1 to 4, 6, 7. */
+   its size, 256. A main segment that was never written to since the format, or
+   that no checkpoint has found written to since then, has no checkpoint part: the
+   call is served, and start and size are 0. Its bytes then count as zeros. One that
+   was written to and was all zero at the checkpoint has a part, of 256 zeros. The
+   place holds until operations are next carried out on the image; read again then.
+   Refusals in order: 1 to 4, 6, 7. */
 uint64_t crpm_read_checkpoint(
     const uint8_t *image, size_t image_length,
     uint64_t mains, uint64_t backups, uint64_t blocks,
     uint64_t main, uint64_t block,
     uint64_t *start, uint64_t *size);
 
-/* Whether two images of these sizes have the same checkpoint: 1 or 0.
+/* Whether two images of these sizes have the same checkpoint: 1 if
+   crpm_read_checkpoint finds the same bytes of every block in both, or no part of it
+   in both; else 0. So a main segment that was never written to, which has no
+   checkpoint part, and one whose part is zeros are not the same, although all their
+   bytes are zero; up to version 3.0.0 they were. Whether a main segment's checkpoint
+   stands in itself or in its backup segment makes no difference, and neither do
+   epochs, pairs and bytes of no checkpoint. 0 if the call is refused.
    Refusals in order: 1 to 4, the first image wholly before the second. */
 uint64_t crpm_same_checkpoint(
     const uint8_t *a, size_t a_length,

@@ -161,7 +161,7 @@ extern "C" {
         start: *mut u64,
         size: *mut u64,
     ) -> u64;
-    /// Finds a block as of the last checkpoint.
+    /// Finds a block as of the last checkpoint; there may be none.
     pub fn crpm_read_checkpoint(
         image: *const u8,
         image_length: usize,
@@ -173,7 +173,8 @@ extern "C" {
         start: *mut u64,
         size: *mut u64,
     ) -> u64;
-    /// Whether two images have the same checkpoint.
+    /// Whether two images have the same checkpoint: the same bytes, and no part of the
+    /// same main segments.
     pub fn crpm_same_checkpoint(
         a: *const u8,
         a_length: usize,

@@ -31,7 +31,8 @@ pub const PAIRS_AT: usize = 256;
 /// The pair byte of a backup segment that has no main segment.
 pub const UNPAIRED: u8 = 255;
 
-/// State of a main segment whose checkpoint is all zero.
+/// State of a main segment that has no checkpoint part: no checkpoint since the format
+/// has found it written to. Its checkpoint bytes count as zeros.
 pub const SS_INITIAL: u8 = 0;
 /// State of a main segment whose checkpoint stands in itself.
 pub const SS_MAIN: u8 = 1;

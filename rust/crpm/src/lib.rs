@@ -435,9 +435,12 @@ pub fn read_working(
     Ok(part.expect("a working block has bytes"))
 }
 
-/// A block as of the last checkpoint: that part of the image, or none if no
-/// checkpoint has bytes of this main segment: they are then all zero. It is
-/// borrowed from the image, as by [`read_working`].
+/// A block as of the last checkpoint: that part of the image. It is borrowed from
+/// the image, as by [`read_working`].
+///
+/// There is none of a main segment that was never written to since the format, or that
+/// no checkpoint has found written to since then; its bytes then count as zeros. One
+/// that was written to and was all zero at the checkpoint has a part, of zeros.
 ///
 /// # Errors
 ///
@@ -480,8 +483,44 @@ fn read(
     Ok(image[start as usize..][..size as usize].first_chunk())
 }
 
-/// Whether two images of this layout have the same checkpoint. A refusal of
-/// the first image comes before one of the second.
+/// Whether two images of this layout have the same checkpoint: whether
+/// [`read_checkpoint`] gives the same bytes of every block in both, or none in both.
+/// A refusal of the first image comes before one of the second.
+///
+/// So a main segment that was never written to, which has no checkpoint part, and one
+/// whose part is zeros are not the same, although all their bytes are zero. Whether a
+/// checkpoint stands in its main segment or in the backup segment makes no difference,
+/// and neither do epochs and pairs.
+///
+/// ```
+/// # fn main() -> Result<(), crpm::Refusal> {
+/// let layout = crpm::Layout::new(2, 1, 1)?;
+/// let mut image = vec![0; layout.image_size()];
+/// let mut trace = vec![0; layout.trace_length()];
+/// let mut clients = [crpm::Client::new(1, 1)];
+/// crpm::format(&mut image, layout)?;
+/// let formatted = image.clone();
+/// let (mut session, ops) = crpm::open(&image, layout, crpm::Domain::Adr, &mut clients, &mut trace)?;
+/// crpm::replay(&mut image, ops, ops.len())?; // stands for carrying out
+///
+/// // a zero where zeros stand, and a checkpoint of it
+/// let ops = crpm::write(&image, &mut session, &mut clients, 0, 0, 0, 0, &[0], &mut trace)?;
+/// crpm::replay(&mut image, ops, ops.len())?;
+/// assert!(crpm::same_checkpoint(&formatted, &image, layout)?);
+/// let ops = crpm::checkpoint(&image, &mut session, &mut clients, &mut trace)?;
+/// crpm::replay(&mut image, ops, ops.len())?;
+/// assert_eq!(crpm::read_checkpoint(&image, layout, 0, 0)?, Some(&[0; 256]));
+/// assert_eq!(crpm::read_checkpoint(&image, layout, 1, 0)?, None);
+/// assert!(!crpm::same_checkpoint(&formatted, &image, layout)?);
+///
+/// // the next write copies it to the backup segment, where it is the same checkpoint
+/// let saved = image.clone();
+/// let ops = crpm::write(&image, &mut session, &mut clients, 0, 0, 0, 0, b"oboe", &mut trace)?;
+/// crpm::replay(&mut image, ops, ops.len())?;
+/// assert!(crpm::same_checkpoint(&saved, &image, layout)?);
+/// # Ok(())
+/// # }
+/// ```
 ///
 /// # Errors
 ///
