@@ -334,13 +334,15 @@ static void reads_at(const struct bench *t, uint64_t main, uint64_t block, uint6
     CHECK(start_of == saved && size == (saved == 0 ? 0 : 256));
 }
 
-/* Whether the checkpoint of a bench is that of an image. */
+/* Whether the checkpoint of a bench is that of an image, which is so both ways round. */
 static int same(const struct bench *t, const uint8_t *image)
 {
-    uint64_t yes = UNWRITTEN;
+    uint64_t yes = UNWRITTEN, turned = UNWRITTEN;
     SERVED(crpm_same_checkpoint(t->image, t->image_length, image, t->image_length,
                                 t->mains, t->backups, t->blocks, &yes));
-    CHECK(yes <= 1);
+    SERVED(crpm_same_checkpoint(image, t->image_length, t->image, t->image_length,
+                                t->mains, t->backups, t->blocks, &turned));
+    CHECK(yes <= 1 && turned == yes);
     return yes == 1;
 }
 
@@ -730,6 +732,83 @@ static void discards(void)
     discard_to_zeros(&t, want);
     discard_from_backup(&t, want);
     discard_and_checkpoint(&t);
+    finish(&t);
+}
+
+/* ---- the same checkpoint, as in docs/SPECIFICATION.md 17.11: two main segments, one
+   backup segment, one block in each, and nothing but zeros in every checkpoint. What
+   tells checkpoints apart is which main segments have none. */
+
+static const uint8_t ZERO[1] = {0};
+
+/* The states of both main segments, and where the checkpoint read finds them. */
+static void checkpoint_is(const struct bench *t, uint8_t first, uint8_t second, uint64_t first_at,
+                          uint64_t second_at)
+{
+    CHECK(state_of(t, 0) == first && state_of(t, 1) == second);
+    reads_at(t, 0, 0, 512, first_at);
+    reads_at(t, 1, 0, 768, second_at);
+    CHECK(first_at == 0 || all(t->image + first_at, 256, 0));
+    CHECK(second_at == 0 || all(t->image + second_at, 256, 0));
+}
+
+/* A bench in whose first checkpoint this main segment alone is, of zeros. */
+static void start_with_zeros(struct bench *t, uint64_t main)
+{
+    static uint8_t formatted[1280];
+    start(t, 2, 1, 1);
+    memcpy(formatted, t->image, 1280);
+    SERVED(open_image(t));
+    STEP(play(t, 64, 8, 1));
+    SERVED(write_bytes(at(t, main, 0, 0, ZERO, 1)));
+    STEP(play(t, 1, 0, 0));
+    STEP(checkpoint_is(t, CRPM_SS_INITIAL, CRPM_SS_INITIAL, 0, 0));
+    CHECK(same(t, formatted)); /* it is in no checkpoint yet */
+    SERVED(checkpoint(t));
+    STEP(play(t, 9, 6, 3));
+    CHECK(!same(t, formatted));
+}
+
+static void same_checkpoints(void)
+{
+    static uint8_t saved[1280];
+    struct bench t, other;
+    start_with_zeros(&t, 0);
+    STEP(checkpoint_is(&t, CRPM_SS_MAIN, CRPM_SS_INITIAL, 512, 0));
+    memcpy(saved, t.image, 1280);
+    CHECK(same(&t, saved));
+    start_with_zeros(&other, 1);
+    STEP(checkpoint_is(&other, CRPM_SS_INITIAL, CRPM_SS_MAIN, 0, 768));
+    CHECK(!same(&other, saved)); /* as many have none, and not the same */
+    finish(&other);
+
+    /* another epoch: nothing was written */
+    SERVED(checkpoint(&t));
+    STEP(play(&t, 9, 6, 3));
+    CHECK(same(&t, saved));
+
+    /* another state, and a pair: the checkpoint stands in the backup segment, then in the main segment again */
+    SERVED(write_bytes(at(&t, 0, 0, 0, ZERO, 1)));
+    STEP(play(&t, 35, 6, 2));
+    STEP(checkpoint_is(&t, CRPM_SS_BACKUP, CRPM_SS_INITIAL, 1024, 0));
+    CHECK(same(&t, saved));
+    SERVED(checkpoint(&t));
+    STEP(play(&t, 9, 6, 3));
+    STEP(checkpoint_is(&t, CRPM_SS_MAIN, CRPM_SS_INITIAL, 512, 0));
+    CHECK(same(&t, saved));
+
+    /* an edit of main segment 1, discarded: at the next checkpoint it has one, of zeros */
+    SERVED(write_bytes(at(&t, 1, 0, 0, ONE, 1)));
+    STEP(play(&t, 1, 0, 0));
+    CHECK(same(&t, saved));
+    SERVED(discard(&t));
+    STEP(play(&t, 32, 0, 0));
+    STEP(checkpoint_is(&t, CRPM_SS_MAIN, CRPM_SS_INITIAL, 512, 0));
+    CHECK(same(&t, saved));
+    SERVED(checkpoint(&t));
+    STEP(play(&t, 9, 10, 3));
+    STEP(checkpoint_is(&t, CRPM_SS_MAIN, CRPM_SS_MAIN, 512, 768));
+    CHECK(!same(&t, saved));
     finish(&t);
 }
 
@@ -1586,6 +1665,7 @@ int main(int count, char **arguments)
     long_marks();
     longer_than_4_gib();
     discards();
+    same_checkpoints();
     kinds_of_module();
     places();
     trace_lengths();
