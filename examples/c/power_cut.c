@@ -96,7 +96,8 @@ static void write_bytes(uint8_t *image, struct crpm_session *session, struct crp
 
 static const uint8_t zeros[CRPM_BLOCK_SIZE];
 
-/* The block as of the last checkpoint, and as it stands now. */
+/* The block as of the last checkpoint, zeros where that has none of it, and the block
+   as it stands now. */
 static const uint8_t *checkpoint_block(const uint8_t *image)
 {
     uint64_t start, size;
