@@ -122,10 +122,10 @@ extern "C" {
 #define CRPM_PAIRS_AT 256  /* the main segment of each backup segment: a byte each */
 #define CRPM_UNPAIRED 255  /* the pair byte of a backup segment that has none */
 
-/* The states of a main segment. Initial: no checkpoint since the format has found
-   it written to, so it has no checkpoint part, and its checkpoint bytes count as
-   zeros; one that was written to and is all zero in the checkpoint is in another
-   state. Else its checkpoint stands in itself, or in its backup segment. */
+/* The states of a main segment. Initial: it is empty, no checkpoint was ever made of
+   it, so it has no checkpoint part, and its checkpoint bytes count as zeros; one that
+   was saved with all bytes zero is in another state. Main, backup: its checkpoint
+   stands in itself, in its backup segment. */
 #define CRPM_SS_INITIAL 0
 #define CRPM_SS_MAIN 1
 #define CRPM_SS_BACKUP 2
@@ -346,12 +346,11 @@ uint64_t crpm_read_working(
     uint64_t *start, uint64_t *size);
 
 /* Finds a block as of the last checkpoint: where in the image it starts and
-   its size, 256. A main segment that was never written to since the format, or
-   that no checkpoint has found written to since then, has no checkpoint part: the
-   call is served, and start and size are 0. Its bytes then count as zeros. One that
-   was written to and was all zero at the checkpoint has a part, of 256 zeros. The
-   place holds until operations are next carried out on the image; read again then.
-   Refusals in order: 1 to 4, 6, 7. */
+   its size, 256. A main segment that is empty, of which no checkpoint was ever made,
+   has no checkpoint part: the call is served, and start and size are 0; its bytes
+   count as zeros. One that was saved with all bytes zero has a part, of 256 zeros.
+   The place holds until operations are next carried out on the image; read again
+   then. Refusals in order: 1 to 4, 6, 7. */
 uint64_t crpm_read_checkpoint(
     const uint8_t *image, size_t image_length,
     uint64_t mains, uint64_t backups, uint64_t blocks,
@@ -360,9 +359,9 @@ uint64_t crpm_read_checkpoint(
 
 /* Whether two images of these sizes have the same checkpoint: 1 if
    crpm_read_checkpoint finds the same bytes of every block in both, or no part of it
-   in both; else 0. So a main segment that was never written to, which has no
-   checkpoint part, and one whose part is zeros are not the same, although all their
-   bytes are zero; up to version 3.0.0 they were. Whether a main segment's checkpoint
+   in both; else 0. So one that is empty, which has no checkpoint part, and one that
+   was saved with all bytes zero are not the same, although all their bytes are zero;
+   up to version 3.0.0 they were. Whether a main segment's checkpoint
    stands in itself or in its backup segment makes no difference, and neither do
    epochs, pairs and bytes of no checkpoint. 0 if the call is refused.
    Refusals in order: 1 to 4, the first image wholly before the second. */

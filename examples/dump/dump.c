@@ -51,7 +51,7 @@ int main(int argc, char **argv)
             if (image[CRPM_PAIRS_AT + spare] == level)
                 printf(" spare=%" PRIu64, spare);
         if (size == 0)
-            printf(" saved=nothing\n");
+            printf(" saved=empty\n");
         else
             printf(" saved=0x%" PRIx64 " (%" PRIu64 ")\n", start, start);
     }
