@@ -31,8 +31,8 @@ pub const PAIRS_AT: usize = 256;
 /// The pair byte of a backup segment that has no main segment.
 pub const UNPAIRED: u8 = 255;
 
-/// State of a main segment that has no checkpoint part: no checkpoint since the format
-/// has found it written to. Its checkpoint bytes count as zeros.
+/// State of a main segment that is empty: no checkpoint was ever made of it, so it has
+/// no checkpoint part, and its checkpoint bytes count as zeros.
 pub const SS_INITIAL: u8 = 0;
 /// State of a main segment whose checkpoint stands in itself.
 pub const SS_MAIN: u8 = 1;

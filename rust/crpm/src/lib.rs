@@ -438,9 +438,8 @@ pub fn read_working(
 /// A block as of the last checkpoint: that part of the image. It is borrowed from
 /// the image, as by [`read_working`].
 ///
-/// There is none of a main segment that was never written to since the format, or that
-/// no checkpoint has found written to since then; its bytes then count as zeros. One
-/// that was written to and was all zero at the checkpoint has a part, of zeros.
+/// There is none of a main segment that is empty, of which no checkpoint was ever made;
+/// its bytes count as zeros. One that was saved with all bytes zero has a part, of zeros.
 ///
 /// # Errors
 ///
@@ -487,8 +486,8 @@ fn read(
 /// [`read_checkpoint`] gives the same bytes of every block in both, or none in both.
 /// A refusal of the first image comes before one of the second.
 ///
-/// So a main segment that was never written to, which has no checkpoint part, and one
-/// whose part is zeros are not the same, although all their bytes are zero. Whether a
+/// So one that is empty, which has no checkpoint part, and one that was saved with all
+/// bytes zero are not the same, although all their bytes are zero. Whether a
 /// checkpoint stands in its main segment or in the backup segment makes no difference,
 /// and neither do epochs and pairs.
 ///
