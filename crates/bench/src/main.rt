@@ -5,6 +5,9 @@
 // file `stdout` has the expected lines, worked out by hand from the specification. The cuts of P4, and those of a restart like this one,
 // are tried by the second program (rust/, `bench cases` and `restored levels`), over every permitted image, and those of the long writes
 // (`long writes`) over every image where there are 256 or fewer, and over samples where there are more.
+
+#![tactic(auto)]
+
 ghost use Rattle.std.specs.Prelude.{◌≤◌};
 
 use clients::CLIENT_WORDS;

@@ -1,6 +1,9 @@
 // One block of 256 bytes (the trade: a frame): copied, zeroed and written back by operations on a trace, and tested. Every
 // function `put_..` writes its operations from number n on, those that the trace has for the kind of module, and answers the number of
 // the next one.
+
+#![tactic(auto)]
+
 ghost use Rattle.std.specs.Prelude.{◌≡◌, ◌+◌, ◌*◌, ◌^◌, ◌≤◌, ◌<◌, eqb, length, get_or};
 ghost use Rattle.model.specs.Range.{all_b};
 ghost use Rattle.model.specs.Words.{word_at};

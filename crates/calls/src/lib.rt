@@ -1,5 +1,8 @@
 // The calls of a bench sheet (SPECIFICATION 16). Each gets a trace of its own and the record of the one client that the last one
 // left, is replayed, and its answer is appended to the printed text.
+
+#![tactic(auto)]
+
 ghost use Rattle.std.specs.Prelude.{◌+◌, ◌≤◌, ◌≡◌, true, length};
 ghost use Rattle.model.specs.Layout.{sizes_ok, image_size};
 ghost use Rattle.printer.specs.Decimal.{Appended};

@@ -3,6 +3,9 @@
 // every number that a call answers with is a pointer to one word, so that no length of theirs can be wrong. Each call returns the number
 // of its status. What opening, write, discard and checkpoint return is said in crates/interface/specs/Interface.antt, the rest in model's
 // terms.
+
+#![tactic(auto)]
+
 ghost use Rattle.std.specs.Prelude.{◌≡◌, ◌≢◌, cond};
 ghost use Rattle.model.specs.Layout.{layout_of};
 ghost use Rattle.model.specs.Clients.{Clients};

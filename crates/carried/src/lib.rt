@@ -1,5 +1,8 @@
 // Callers of the C interface that carry the operations out themselves: the four exported calls of a history, each with what its
 // contract gives in the terms of `CarriedSafety` (specs/Carried.antt), so that the checker holds the one against the other.
+
+#![tactic(auto)]
+
 ghost use Rattle.model.specs.declared.Session.{Session};
 ghost use Rattle.model.specs.Layout.{layout_of};
 ghost use Rattle.model.specs.Write.{write_args_of};

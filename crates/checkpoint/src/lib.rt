@@ -1,6 +1,9 @@
 // Checkpoint (SPECIFICATION 11; the trade: save): the dirty blocks are written back, the next states are stored on the
 // inactive line, and then the epoch is raised. Every function `put_..` writes its operations from number n on, those that the
 // trace has for the kind of module, and answers the number of the next one.
+
+#![tactic(auto)]
+
 ghost use Rattle.std.specs.Prelude.{◌≡◌, true, ◌≢◌, ◌++◌, ℕ, ◌+◌, ◌*◌, ◌^◌, ◌≤◌, ◌<◌, length, get_or};
 ghost use Rattle.model.specs.Words.{Image, word_of};
 ghost use Rattle.model.specs.Layout.{word_size, line_size, line_words, most, metadata_size};

@@ -1,6 +1,9 @@
 // The records of clients (SPECIFICATION 5.7), which opening, write and checkpoint are lent together: taken as a value, judged
 // (refusals 13 to 15), and changed where they are lent. The functions over a slice of records are thin, since each is proved by a walk;
 // the same is here for records that stand in words, as the C interface and programs of this repository lend them.
+
+#![tactic(auto)]
+
 ghost use Rattle.std.specs.Prelude.{◌≡◌, true, cond, suc, ◌-◌, ◌≤◌, ◌<◌, min, leb, eqb, set};
 ghost use Rattle.model.specs.Range.{sum_to};
 ghost use Rattle.model.specs.Status.{code_of, first_error, served};

@@ -13,6 +13,9 @@
 // C21, C22     a console that has no record, and a share above its limit, are refused (13)
 //
 // C13 and C18 are why the promise of a share begins at the first save after an opening (SPECIFICATION 15.7).
+
+#![tactic(auto)]
+
 ghost use Rattle.std.specs.Prelude.{◌≡◌, [], ◌∷◌, ◌≤◌, get_or};
 ghost use Rattle.model.specs.Words.{byte_at};
 ghost use Rattle.model.specs.Layout.{layout_of};

@@ -1,5 +1,8 @@
 // The judge of an image (SPECIFICATION 14: refusals 1 to 4): one pass over pairs and one over states, eight at a time, tell whether the
 // metadata is valid, and which main segments are paired.
+
+#![tactic(auto)]
+
 ghost use Rattle.std.specs.Prelude.{◌≡◌, ◌+◌, ◌*◌, ◌^◌, ◌<◌, ◌≤◌, true, ◌||◌, length, ◌==◌, nat_lt};
 ghost use Rattle.model.specs.Range.{all_b};
 ghost use Rattle.model.specs.Words.{byte_at};

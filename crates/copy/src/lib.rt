@@ -2,6 +2,9 @@
 // is copied to a backup segment and its state becomes 2. The plan of the copy, how many operations it is, and the
 // operations. Every function `put_..` writes its operations from number n on, those that the trace has for the kind of module, and
 // answers the number of the next one.
+
+#![tactic(auto)]
+
 ghost use Rattle.std.specs.Prelude.{◌≡◌, List, [], ◌∷◌, ◌++◌, ℕ, ◌^◌, ◌≤◌, ◌<◌, length};
 ghost use Rattle.model.specs.Words.{Image};
 ghost use Rattle.model.specs.Layout.{most, pairs_at, pairs_end};

@@ -2,6 +2,9 @@
 // consoles) lent by name. Nothing is asked of the caller. Each takes the records as a value, leaves the work to the crate of the call, and
 // puts back what changed: a slice of records is outside the forms that the borrow checker covers, so each is proved by a walk, and has no
 // branch.
+
+#![tactic(auto)]
+
 ghost use Rattle.model.specs.Layout.{layout_of};
 ghost use Rattle.model.specs.Outcome.{Gives, lent};
 ghost use Rattle.model.specs.Open.{open_outcome};

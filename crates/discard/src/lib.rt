@@ -1,6 +1,9 @@
 // Discard (SPECIFICATION 10.11; the trade: the second cancel piston): the edits of one main segment since the last checkpoint are dropped.
 // Every dirty block of a dirty main segment is stored again as its checkpoint has it, which stands in its backup segment, or as zeros where
 // it has no checkpoint. The session stays.
+
+#![tactic(auto)]
+
 ghost use Rattle.std.specs.Prelude.{◌≡◌, cond, ◌++◌, ℕ, ◌^◌, ◌≤◌, ◌<◌, length, get_or};
 ghost use Rattle.model.specs.declared.Layout.{Layout};
 ghost use Rattle.model.specs.declared.Located.{Located};

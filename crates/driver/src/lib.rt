@@ -1,5 +1,8 @@
 // One call of a history: the call, then the replay of the operations that it reports. Its contracts are what `DrivenSafety`,
 // demands 2 and 3 of programs that make such calls, is stated of.
+
+#![tactic(auto)]
+
 ghost use Rattle.std.specs.Prelude.{◌≡◌, ◌*◌, ◌≤◌, length, take};
 ghost use Rattle.model.specs.declared.Session.{Session};
 ghost use Rattle.model.specs.Layout.{layout_of};

@@ -1,6 +1,9 @@
 // Dumps for programs outside (SPECIFICATION 21.8): an image's own sizes, the text of one image and that of two compared, exported under
 // their own names; crate rust/dump calls them. A slice is a pointer and a length, every number that is answered a pointer to one word. A
 // text is put at the start of the buffer that is lent for it if that is long enough; its length is answered in any case.
+
+#![tactic(auto)]
+
 ghost use Rattle.std.specs.Prelude.{◌≡◌, length};
 ghost use Rattle.model.specs.Layout.{layout_of};
 ghost use Rattle.model.specs.Same.{same_outcome};

@@ -1,4 +1,7 @@
 // Format of an image (SPECIFICATION 4; the trade: laying-out): zeros, the three sizes, and every backup segment unpaired.
+
+#![tactic(auto)]
+
 ghost use Rattle.std.specs.Prelude.{◌≡◌, length, replicate};
 ghost use Rattle.model.specs.Layout.{layout_of, image_size};
 ghost use Rattle.model.specs.Status.{code_of};

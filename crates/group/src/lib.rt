@@ -1,4 +1,7 @@
 // One group of a bench sheet (SPECIFICATION 16): its write, its checkpoint if one is wanted, and its line.
+
+#![tactic(auto)]
+
 ghost use Rattle.std.specs.Prelude.{◌+◌, ◌*◌, ◌≤◌, length};
 ghost use Rattle.model.specs.Layout.{word_size};
 ghost use Rattle.calls.specs.Ran.{call_size, group_of_parts};

@@ -1,5 +1,8 @@
 // What a dump shows of one image (SPECIFICATION 21): its own sizes, and the text that says which copy of each main segment counts.
 // The text is appended to a buffer part by part; specs/DumpText.antt says what it is.
+
+#![tactic(auto)]
+
 ghost use Rattle.std.specs.Prelude.{◌≡◌, ◌⊎◌, cond, [], ◌++◌, ◌+◌, ◌≤◌, ◌<◌, eqb, length, drop};
 ghost use Rattle.model.specs.Range.{all_b, cat};
 ghost use Rattle.model.specs.Words.{byte_at, word_at};

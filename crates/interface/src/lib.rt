@@ -1,5 +1,8 @@
 // How a session and an answer cross the C interface: a session stands in words (the trade: the card), and the number of operations
 // goes out as a number of its own. specs/Interface.antt says what the calls of the interface return.
+
+#![tactic(auto)]
+
 ghost use Rattle.std.specs.Prelude.{◌≡◌, ◌≤◌, length};
 ghost use Rattle.model.specs.Status.{code_of};
 ghost use Rattle.interface.specs.Interface.{dirty_segments_at, words_of, session_in};

@@ -1,5 +1,8 @@
 // Opening, write and checkpoint for a program that holds the records of two clients in a local array: each lends it to the call, and answers
 // what the call gave, with the records afterwards. Their parameters are plain, so their callers need no walk.
+
+#![tactic(auto)]
+
 ghost use Rattle.std.specs.Prelude.{◌≡◌};
 ghost use Rattle.model.specs.Layout.{layout_of};
 ghost use Rattle.model.specs.Outcome.{Gives, lent};

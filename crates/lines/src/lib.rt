@@ -1,5 +1,8 @@
 // One line of the bench sheet (SPECIFICATION 16): its key, its value, and whether it is good. A line or a value
 // is a part of the caller's bytes.
+
+#![tactic(auto)]
+
 ghost use Rattle.std.specs.Prelude.{◌≡◌, ◌-◌, ◌≤◌, length, take, drop};
 ghost use Rattle.lines.specs.Line.{checkpoint_key, key, named, value_of, within, is_bytes, good_line, or_zero, number_in};
 ghost use Rattle.lines.specs.Read.{ReadsValue};

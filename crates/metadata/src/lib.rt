@@ -1,5 +1,8 @@
 // The metadata of an image: its two lines of states, the backup segment of a main segment, where its checkpoint stands, and the
 // new backup segment.
+
+#![tactic(auto)]
+
 ghost use Rattle.std.specs.Prelude.{◌≡◌, ℕ, ◌+◌, ◌≤◌, ◌<◌, eqb, length};
 ghost use Rattle.model.specs.Range.{first_b};
 ghost use Rattle.model.specs.Layout.{word_size, line_size, most, states_at, odd_states_at, pairs_end, ss_main, state_line, SizesOk};

@@ -1,5 +1,8 @@
 // The types that every contract speaks of: the sizes of a container, the volatile session, the record of a client, the status of a call
 // and the action of recovery, with the constructors of layout and session. What they mean is said in specs/.
+
+#![tactic(auto)]
+
 ghost use Rattle.std.specs.Prelude.{◌≡◌};
 ghost use Rattle.model.specs.Layout.{layout_of};
 ghost use Rattle.model.specs.Session.{fresh_session};

@@ -1,6 +1,9 @@
 // Opening, which recovers (SPECIFICATION 9): each main segment is treated by the table of states and pairs, so that its
 // bytes are the checkpoint again. What recovery does is given a line of states; an opening goes by the active one. Every function
 // `put_..` writes the operations that the trace has for the kind of module.
+
+#![tactic(auto)]
+
 ghost use Rattle.std.specs.Prelude.{◌≡◌, true, cond, ◌+◌, ◌^◌, ◌≤◌, ◌<◌, length};
 ghost use Rattle.model.specs.Layout.{layout_of, most, pairs_end, ss_backup, SizesOk, image_size};
 ghost use Rattle.model.specs.Status.{code_of, first_error, served};

@@ -1,4 +1,7 @@
 // The bench sheet read (SPECIFICATION 16): the first bad line and with it the verdict, the sizes, and one group after the other.
+
+#![tactic(auto)]
+
 ghost use Rattle.std.specs.Prelude.{◌≡◌, ◌≤◌, length};
 ghost use Rattle.text.specs.Text.{lines_of};
 ghost use Rattle.lines.specs.Line.{mains_key, checkpoint_key};

@@ -1,5 +1,8 @@
 // Places and sizes of an image: where its segments start, how long it is, the sizes that it carries; refusals 1 to 3, which
 // are about them, and 6 and 7, about a main segment and a block that a call names.
+
+#![tactic(auto)]
+
 ghost use Rattle.std.specs.Prelude.{◌≡◌, cond, ◌++◌, ◌+◌, ◌≤◌, ◌<◌, length};
 ghost use Rattle.model.specs.Status.{code_of, first_error};
 ghost use Rattle.model.specs.Layout.{most, most_segments, metadata_size, largest_image, header_end, segment_size, in_range, sizes_ok, image_size, segment_at, main_at, backup_at};

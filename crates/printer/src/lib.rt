@@ -1,4 +1,7 @@
 // Text and numbers, decimal and hexadecimal, appended to what a lent buffer holds already.
+
+#![tactic(auto)]
+
 ghost use Rattle.std.specs.Prelude.{◌+◌, ◌≤◌, ◌++◌, length};
 ghost use Rattle.printer.specs.Decimal.{number_size, decimal, Appended};
 ghost use Rattle.printer.specs.Numbers.{hex_size, hexadecimal};

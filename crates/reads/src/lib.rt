@@ -1,5 +1,8 @@
 // The two reads (SPECIFICATION 12; the trade: working read and saved read), which answer with a part of the caller's image,
 // and the companion that gives their status.
+
+#![tactic(auto)]
+
 ghost use Rattle.std.specs.Prelude.{◌≡◌, ◌+◌, ◌*◌, ◌≤◌, ◌<◌};
 ghost use Rattle.model.specs.Layout.{block_size, most, largest_image, layout_of};
 ghost use Rattle.model.specs.Status.{code_of};

@@ -1,5 +1,8 @@
 // Replay of a trace on an image (SPECIFICATION 6.6; the trade: the player). The operations to be played are judged first, then
 // played.
+
+#![tactic(auto)]
+
 ghost use Rattle.std.specs.Prelude.{◌≡◌, true, ◌*◌, ◌/◌, ◌%◌, ◌≤◌, ◌^◌, ◌<◌, length};
 ghost use Rattle.model.specs.Layout.{line_size};
 ghost use Rattle.model.specs.Status.{code_of};

@@ -1,5 +1,8 @@
 // The comparison of two checkpoints (SPECIFICATION 13; the trade: likeness): whether the same main segments are in state 0, and then
 // the bytes, segment by segment, wherever each image holds the segment.
+
+#![tactic(auto)]
+
 ghost use Rattle.std.specs.Prelude.{◌≡◌, ◌↔◌, ◌+◌, ◌*◌, ◌≤◌, ◌<◌, eqb, length};
 ghost use Rattle.model.specs.Range.{all_b};
 ghost use Rattle.model.specs.Words.{byte_at};

@@ -1,5 +1,8 @@
 // A bench sheet run (SPECIFICATION 16): it is judged, its image laid out and opened, its groups run, and what it
 // prints put into a buffer.
+
+#![tactic(auto)]
+
 ghost use Rattle.std.specs.Prelude.{◌+◌, ◌≤◌, ◌<◌, ◌≡◌, true, ◌++◌, length, drop};
 ghost use Rattle.model.specs.Layout.{word_size, sizes_ok, image_size};
 ghost use Rattle.text.specs.declared.Number.TheVariants.{None};

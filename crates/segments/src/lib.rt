@@ -1,6 +1,9 @@
 // The blocks of a segment (the trade: the frames of a level or a spare): all of them copied or zeroed, the dirty ones copied,
 // zeroed or written back, by operations on a trace. Every function `put_..` writes its operations from number n on, those that the
 // trace has for the kind of module, and answers the number of the next one.
+
+#![tactic(auto)]
+
 ghost use Rattle.std.specs.Prelude.{◌≡◌, false, ◌+◌, ◌*◌, ◌^◌, ◌≤◌, ◌<◌, length};
 ghost use Rattle.model.specs.Words.{word_at};
 ghost use Rattle.model.specs.Layout.{word_size, block_size, block_lines, most, segment_size};

@@ -1,5 +1,8 @@
 // The volatile session (SPECIFICATION 5; the trade: the card), lent by its parts: tests and changes of its dirty bits, its
 // validity against the states of main segments, how many blocks are dirty, and the one judge of an image and a session.
+
+#![tactic(auto)]
+
 ghost use Rattle.std.specs.Prelude.{◌≡◌, true, not, cond, ◌&&◌, ◌||◌, ℕ, ◌+◌, ◌*◌, ◌/◌, ◌^◌, ◌≤◌, ◌<◌, eqb, ltb, length, get_or};
 ghost use Rattle.std.specs.Int.Count.{ones};
 ghost use Rattle.model.specs.Range.{all_b, one_if};

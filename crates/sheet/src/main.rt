@@ -2,6 +2,8 @@
 // prints to standard output. If a read fails, it runs and writes nothing. If a write fails, what is not yet written is lost. A
 // program here has no exit status that could tell: ./sheet reads and writes the streams for it, and tells.
 
+#![tactic(auto)]
+
 // One byte more than a sheet may have, so that a longer one is seen.
 const BUFFER_SIZE: usize = parser::MOST_BYTES + 1;
 

@@ -2,6 +2,8 @@
 // rewritten sheet to standard output, or in a line why there is none. It reads and writes as the sheet program does, and
 // ./sheet --upgrade tells for it.
 
+#![tactic(auto)]
+
 // One byte more than a sheet may have, so that a longer one is seen.
 const BUFFER_SIZE: usize = parser::MOST_BYTES + 1;
 

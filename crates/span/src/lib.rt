@@ -1,6 +1,9 @@
 // The span of a write (the trade: level, frame, offset and bytes): its limits, its place, the words and blocks that it
 // meets, and the stores of its bytes, laid over what stands in the image. Every function `put_..` writes its operations from
 // number n on and answers the number of the next one.
+
+#![tactic(auto)]
+
 ghost use Rattle.std.specs.Prelude.{◌≡◌, List, [], ◌∷◌, ℕ, ◌+◌, ◌-◌, ◌*◌, ◌/◌, ◌%◌, ◌^◌, ◌≤◌, ◌<◌, length};
 ghost use Rattle.model.specs.Words.{byte_at, word_of, overlay};
 ghost use Rattle.model.specs.Layout.{most, line_size, word_size, block_size, largest_image, main_at};

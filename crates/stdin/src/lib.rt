@@ -1,5 +1,8 @@
 // Standard input, read into a lent buffer. What stands there afterwards is the system's: the kit's libc says how many bytes a
 // read gives and nothing of which.
+
+#![tactic(auto)]
+
 ghost use Rattle.io.specs.Counts.{IsPrefixLen};
 
 // What was read: so many bytes at the start of a buffer, and whether a read failed.

@@ -1,5 +1,8 @@
 // What any text of lines has: where a line ends, what it starts with, and the values in it (a number of one to three decimal
 // digits, bytes in pairs of hexadecimal digits). Every function works on the caller's bytes.
+
+#![tactic(auto)]
+
 ghost use Rattle.std.specs.Prelude.{◌≡◌, true, [], ◌∷◌, ◌+◌, ◌*◌, ◌≤◌, ◌<◌, length, drop};
 ghost use Rattle.text.specs.Text.{starts_with, is_digit, digit_of, number_if, number_of, is_hex_digit, hex_digit_of, hex_pairs};
 ghost use Rattle.text.specs.Read.{line_length, Decodes};

@@ -1,5 +1,8 @@
 // The trace of a call (SPECIFICATION 6.1; the trade: tape): three numbers an operation, its kind, its place and its word; one
 // operation, the stores of the words of bytes, and what a trace has for a kind of module.
+
+#![tactic(auto)]
+
 ghost use Rattle.std.specs.Prelude.{◌≡◌, [], ◌∷◌, ◌+◌, ◌*◌, ◌^◌, ◌≤◌, ◌<◌, length};
 ghost use Rattle.std.proofs.lemmas.List.Edits.{sets};
 ghost use Rattle.model.specs.Status.{code_of, first_error};

@@ -1,5 +1,8 @@
 // What the comparison of two dumps shows (SPECIFICATION 21.5): whether they are alike, and if not, the first main segment, block and byte
 // that tell them apart. specs/SameText.antt says what the text is.
+
+#![tactic(auto)]
+
 ghost use Rattle.std.specs.Prelude.{◌≡◌, ◌++◌, ◌+◌, ◌*◌, ◌≤◌, length, drop};
 ghost use Rattle.model.specs.Status.{code_of};
 ghost use Rattle.model.specs.Reads.{checkpoint_block};

@@ -1,5 +1,8 @@
 // Sheets of the older rule (SPECIFICATION 16.8, 16.9): a good sheet that leaves the line of backup segments out gets it, as the older
 // rule meant it, so that it prints what it printed.
+
+#![tactic(auto)]
+
 ghost use Rattle.std.specs.Prelude.{◌≤◌, ◌≡◌, ◌++◌, length, drop};
 ghost use Rattle.io.specs.Counts.{IsPrefixLen};
 ghost use Rattle.text.specs.declared.Number.TheVariants.{None};

@@ -1,4 +1,7 @@
 // Words of an image: 8 bytes, the least significant first; words whose eight bytes are tested or made at once; single bits of a word.
+
+#![tactic(auto)]
+
 ghost use Rattle.std.specs.Prelude.{◌≡◌, cond, ℕ, ◌+◌, ◌*◌, ◌^◌, ◌≤◌, ◌<◌, eqb, ltb, length};
 ghost use Rattle.model.specs.Range.{first_b};
 ghost use Rattle.model.specs.Words.{byte_at, word_of, word_at, store_word};

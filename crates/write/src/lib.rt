@@ -1,5 +1,8 @@
 // Write (SPECIFICATION 10): the bytes of a span come to stand in the blocks of a main segment, from one of them on. Its refusals,
 // the operations (the copy on write, then the span), and the session afterwards.
+
+#![tactic(auto)]
+
 ghost use Rattle.std.specs.Prelude.{◌≡◌, true, false, cond, List, ◌++◌, ℕ, ◌+◌, ◌-◌, ◌*◌, ◌^◌, ◌≤◌, ◌<◌, length, set};
 ghost use Rattle.model.specs.Layout.{most, block_size, pairs_end, SizesOk};
 ghost use Rattle.model.specs.Status.{code_of, first_error, served};
