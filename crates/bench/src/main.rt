@@ -344,14 +344,14 @@ fn back(image: &[u8], layout: Layout, saved: bool, call: Call) -> u64 {
 
 // Where a history stands: the card, and the record of its one console, which makes every write and whose share and limit are all
 // spares.
-#[derive(Drop)]
+#[derive(Clone, Copy)]
 struct Stand {
     session: Session,
     client: [u64; CLIENT_WORDS],
 }
 
 // A call: a write of so many bytes, a save, or a drop with a tape of so many numbers.
-#[derive(Drop)]
+#[derive(Clone, Copy)]
 struct Call {
     case: u64,
     kind: u64,

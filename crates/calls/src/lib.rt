@@ -20,7 +20,7 @@ const TRACE_NUMBERS: usize = trace::OP_NUMBERS
 const CLIENT: u64 = 0;
 
 // What a part of a sheet's run leaves: the session, the record of the one client, and the place behind the printed text.
-#[derive(Drop)]
+#[derive(Clone, Copy)]
 pub struct Ran {
     pub session: Session,
     pub client: [u64; CLIENT_WORDS],
@@ -28,7 +28,7 @@ pub struct Ran {
 }
 
 // A group of a sheet but for its bytes.
-#[derive(Drop)]
+#[derive(Clone, Copy)]
 pub struct GroupParts {
     pub main: u64,
     pub block: u64,

@@ -184,7 +184,7 @@ fn checkpoint_status(
 
 // What a checkpoint on the parts of a session answers: how it ended, and how many operations stand on the trace. Served, it leaves
 // no dirty segment and no client that has taken any, and the words of dirty blocks stay; refused, session and records stay whole.
-#[derive(Drop)]
+#[derive(Clone, Copy)]
 pub struct Checkpointed {
     pub status: Status,
     pub ops: u64,
@@ -230,7 +230,7 @@ pub fn checkpoint_parts(
 
 // What a checkpoint on a session and a run as values answers: the answer, and the record from which on the run is to be cleared: past
 // its end where the call was refused.
-#[derive(Drop)]
+#[derive(Clone, Copy)]
 pub struct CheckpointRun {
     pub answer: Answer,
     pub from: usize,

@@ -17,7 +17,7 @@ use model::{Client, Layout, Status};
 const MOST_CLIENTS: usize = 8;
 
 // The records of all clients as a value: how many there are, and the first 8.
-#[derive(Drop)]
+#[derive(Clone, Copy)]
 pub struct Run {
     pub count: usize,
     pub clients: [Client; MOST_CLIENTS],

@@ -172,7 +172,7 @@ fn play_save(
 // ---- the story
 
 // A call: an opening (0), a write (1) by a console to a level, or a save (2).
-#[derive(Drop)]
+#[derive(Clone, Copy)]
 struct Call {
     kind: u64,
     console: u64,

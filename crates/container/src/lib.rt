@@ -37,14 +37,14 @@ const EACH_HIGH: u64 = 0xfefefefefefefefe;
 
 // What pairs name: the main segments below 64, as bits of a word, and how many pairs are not unpaired. No two name the same main
 // segment, and all name one below 64, exactly if there are as many bits as pairs.
-#[derive(Drop)]
+#[derive(Clone, Copy)]
 pub struct Paired {
     pub set: u64,
     pub count: u64,
 }
 
 // What a pass over metadata finds: whether it is valid, and which main segments are paired, as bits of a word.
-#[derive(Drop)]
+#[derive(Clone, Copy)]
 pub struct Examined {
     pub valid: bool,
     pub paired: u64,

@@ -24,7 +24,7 @@ const PAIR_OPS: u64 = 1;
 const STATE_OPS: u64 = 3;
 
 // A main segment of a layout, with its word of dirty blocks.
-#[derive(Drop)]
+#[derive(Clone, Copy)]
 pub struct Segment {
     pub layout: Layout,
     pub main: u64,

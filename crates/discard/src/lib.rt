@@ -105,7 +105,7 @@ fn put_discard(
 
 // What a discard on the parts of a session answers: how it ended, and how many operations stand on the trace. The session stays, served
 // or not.
-#[derive(Drop)]
+#[derive(Clone, Copy)]
 pub struct Discarded {
     pub status: Status,
     pub ops: u64,

@@ -347,7 +347,7 @@ fn append_levels(image: &[u8], layout: Layout, out: &mut [u8], from: usize) -> u
 // ---- the text
 
 // The number that a read gives, and how many bytes the text has.
-#[derive(Drop)]
+#[derive(Clone, Copy)]
 pub struct Dumped {
     pub status: Status,
     pub size: usize,

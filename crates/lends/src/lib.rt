@@ -17,7 +17,7 @@ use model::{Answer, Client, Session};
 pub const LENT: usize = 2;
 
 // What a call answers, and the records that it leaves.
-#[derive(Drop)]
+#[derive(Clone, Copy)]
 pub struct Lend {
     pub answer: Answer,
     pub clients: [Client; LENT],

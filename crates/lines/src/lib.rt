@@ -68,7 +68,7 @@ fn key_size(k: u64) -> usize
 }
 
 // Where a value stands.
-#[derive(Drop)]
+#[derive(Clone, Copy)]
 pub struct ValueAt {
     pub start: usize,
     pub end: usize,

@@ -50,7 +50,7 @@ pub fn inactive_at(image: &[u8]) -> usize
 // ---- backup segments
 
 // What a search for a backup segment finds: none, or its number.
-#[derive(Drop)]
+#[derive(Clone, Copy)]
 pub enum Found {
     Missing,
     Backup(u64),

@@ -10,7 +10,7 @@ ghost use Rattle.model.specs.Status.{code_of, served};
 ghost use Rattle.model.specs.declared.Status.TheVariants.{Served};
 
 // The sizes of a container (the trade: M levels, S spares, B frames), each 1 to 64 (SPECIFICATION 1.2).
-#[derive(Drop)]
+#[derive(Clone, Copy)]
 pub struct Layout {
     // Main segments (the trade: levels).
     pub mains: u64,
@@ -75,7 +75,7 @@ impl Layout {
 }
 
 // What is kept in volatile memory between calls (the trade: the card; SPECIFICATION 5).
-#[derive(Drop)]
+#[derive(Clone, Copy)]
 pub struct Session {
     pub layout: Layout,
     // One bit for each main segment written since the last checkpoint (the trade: touched).
@@ -108,7 +108,7 @@ impl Session {
 
 // What a client may take of the backup segments (the trade: a console's share, limit and taken spares; SPECIFICATION 5.7). The records
 // of all clients are lent together.
-#[derive(Drop)]
+#[derive(Clone, Copy)]
 pub struct Client {
     // Backup segments that the others leave to it.
     pub reserved: u64,
@@ -119,7 +119,7 @@ pub struct Client {
 }
 
 // How a call ends (SPECIFICATION 14).
-#[derive(Drop)]
+#[derive(Clone, Copy)]
 pub enum Status {
     Served,
     BadSize,
@@ -173,7 +173,7 @@ impl Status {
 }
 
 // What opening, write, discard and checkpoint answer: how the call ended, the session, and how many operations stand on the trace.
-#[derive(Drop)]
+#[derive(Clone, Copy)]
 pub struct Answer {
     pub status: Status,
     pub session: Session,
@@ -205,7 +205,7 @@ impl Answer {
 }
 
 // Where the checkpoint of a main segment stands: nowhere, since it is all zero, or in the segment that starts at a place.
-#[derive(Drop)]
+#[derive(Clone, Copy)]
 pub enum Located {
     Nowhere,
     At(u64),
@@ -213,7 +213,7 @@ pub enum Located {
 
 // What a write does before its stores: no copy; a copy to the backup segment that the main segment has; a copy to the
 // new one; or none is free, and the write is refused.
-#[derive(Drop)]
+#[derive(Clone, Copy)]
 pub enum Plan {
     NoCopy,
     OwnBackup(u64),
@@ -222,7 +222,7 @@ pub enum Plan {
 }
 
 // What recovery does to a main segment and its backup (SPECIFICATION 9.2).
-#[derive(Drop)]
+#[derive(Clone, Copy)]
 pub enum Action {
     Nothing,
     ZeroMain,

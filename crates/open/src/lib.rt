@@ -252,7 +252,7 @@ pub fn open_parts(
 
 // What an opening with a run as a value answers: the answer, and the record from which on the run is to be cleared: past its end where
 // the call was refused.
-#[derive(Drop)]
+#[derive(Clone, Copy)]
 pub struct OpenRun {
     pub answer: Answer,
     pub from: usize,

@@ -76,7 +76,7 @@ pub fn verdict(input: &[u8]) -> Number
 }
 
 // The sizes that a sheet gives, and where its groups start.
-#[derive(Drop)]
+#[derive(Clone, Copy)]
 pub struct HeaderAt {
     pub layout: Layout,
     pub next: usize,
@@ -116,7 +116,7 @@ pub fn header(input: &[u8]) -> HeaderAt
 
 // A group: a write whose bytes stand in hexadecimal digits from `digits` to `digits_end`, whether a checkpoint follows, and
 // where the next group starts.
-#[derive(Drop)]
+#[derive(Clone, Copy)]
 pub struct GroupAt {
     pub main: u64,
     pub block: u64,

@@ -12,7 +12,7 @@ ghost use Rattle.reads.specs.Answered.{Answered};
 use model::{Layout, Located, Status};
 
 // A part of an image: where it starts and how many bytes it has.
-#[derive(Drop)]
+#[derive(Clone, Copy)]
 pub struct Part {
     pub start: u64,
     pub size: u64,

@@ -12,7 +12,7 @@ ghost use Rattle.model.specs.Replay.{well_formed, all_well_formed, replay_count,
 use model::{Layout, Status};
 
 // How a replay ends, and how many operations it played.
-#[derive(Drop)]
+#[derive(Clone, Copy)]
 pub struct Replayed {
     pub status: Status,
     pub played: u64,

@@ -15,7 +15,7 @@ ghost use Rattle.model.specs.SameCheckpoint.{InitialAgree};
 use model::{Layout, Located, Status};
 
 // How a comparison ends, and whether the images have the same checkpoint.
-#[derive(Drop)]
+#[derive(Clone, Copy)]
 pub struct Compared {
     pub status: Status,
     pub same: bool,

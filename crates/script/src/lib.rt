@@ -29,7 +29,7 @@ const IMAGE_SIZE: usize = (Layout::METADATA_SIZE
 const SPAN_SIZE: usize = (Layout::BLOCK_SIZE * lines::MOST_SIZE) as usize;
 
 // How far the groups of a sheet are run: what the last one left, where the next one starts in the input, and its number.
-#[derive(Drop)]
+#[derive(Clone, Copy)]
 pub struct Progress {
     pub ran: Ran,
     pub at: usize,

@@ -20,7 +20,7 @@ const WORD_SIZE: usize = Layout::WORD_SIZE as usize;
 
 // The bytes that a write is about: a main segment, a block of it, the offset in the block, and how many; they may run on through
 // the following blocks.
-#[derive(Drop)]
+#[derive(Clone, Copy)]
 pub struct Span {
     pub main: u64,
     pub block: u64,

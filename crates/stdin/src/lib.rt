@@ -6,7 +6,7 @@
 ghost use Rattle.io.specs.Counts.{IsPrefixLen};
 
 // What was read: so many bytes at the start of a buffer, and whether a read failed.
-#[derive(Drop)]
+#[derive(Clone, Copy)]
 pub struct Input {
     pub count: usize,
     pub failed: bool,

@@ -44,7 +44,7 @@ pub fn starts_with(line: &[u8], name: &[u8]) -> bool
 }
 
 // What a value gives that is to be a number.
-#[derive(Drop)]
+#[derive(Clone, Copy)]
 pub enum Number {
     None,
     Is(u64),

@@ -139,7 +139,7 @@ fn written_word(layout: Layout, plan: Plan, word: u64, span: Span) -> u64
 // What a write on the parts of a session answers: how it ended; where it was served, the two words of the session that it changes,
 // the dirty segments and the main segment's word of dirty blocks, and what its client has taken; and how many operations stand on the
 // trace.
-#[derive(Drop)]
+#[derive(Clone, Copy)]
 pub struct Written {
     pub status: Status,
     pub dirty_segments: u64,
@@ -217,7 +217,7 @@ pub fn write_parts(
 
 // What a write on a session and a run as values answers: the answer, and the record that is to be stored at a place of the run, which is
 // past its end where the write was refused.
-#[derive(Drop)]
+#[derive(Clone, Copy)]
 pub struct WriteRun {
     pub answer: Answer,
     pub place: usize,
