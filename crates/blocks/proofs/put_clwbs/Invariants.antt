@@ -1,0 +1,16 @@
+use Rattle.model.specs.Layout.{block_lines}
+use Rattle.trace.proofs.EmitLaws.{emitted_none, emitted_each, fits_each}
+use Rattle.trace.specs.Emit.{Emitted}
+use Rattle.model.specs.Ops.{clwbs}
+use lib.ListN.{length}
+use native.Mathlib.Omega.{arith}
+use mathlib.Core.Path.{◌≡◌}
+use Prim.Native.Nat.{◌-◌, ◌≤◌}
+use borrow.Author.Rules.{rules}
+use Rattle.blocks.proofs.put_clwbs.Given as goal
+
+abbrev pub invariant-loop-k : goal.invariant-loop-k
+invariant-loop-k l = (l.k ≤ block_lines) × (length l.trace ≡ length l.initial.trace) × Emitted l.domain l.initial.trace l.n (clwbs l.k l.at) l.trace l.next
+
+abbrev pub decreases-loop-k : goal.decreases-loop-k
+decreases-loop-k l = block_lines - l.k

@@ -1,0 +1,34 @@
+use Prim.Native.Nat.{ℕ}
+use mathlib.Core.Path.{sym, ap, ◌∙◌}
+use mathlib.Core.Bool.{Bool, cond}
+use borrow.Author.Rules.{rules}
+use Rattle.model.specs.Session.{with_checkpoint}
+use Rattle.model.specs.Clients.{cleared}
+use Rattle.clients.specs.Run.{cleared_from}
+use Rattle.clients.proofs.RunLaws.{run_count, cleared_all, cleared_none}
+use Rattle.checkpoint.proofs.checkpoint_run.Goals as goal
+
+pub returns-then-is_served : goal.returns-then-is_served
+returns-then-is_served c = λ R e.
+    let s = c.args.t2 in
+    let g = c.checkpoint_parts-done.ensures R (c.clients_status-judged.ensures.result_value R e) in
+    let z = sym c.is_served.ensures ∙ c.if-is_served.true in (
+      g.0,
+      c.with_checkpoint-next.ensures ∙ ap (λ (b : Bool). cond b (with_checkpoint s) s) (sym z) ∙ g.1,
+      g.2,
+      g.3,
+      cleared_all R ∙ ap (λ (b : Bool). cond b (cleared R) R) (sym z) ∙ g.4,
+    )
+
+pub returns-else-is_served : goal.returns-else-is_served
+returns-else-is_served c = λ R e.
+    let a = c.args in
+    let s = a.t2 in
+    let g = c.checkpoint_parts-done.ensures R (c.clients_status-judged.ensures.result_value R e) in
+    let z = sym c.is_served.ensures ∙ c.if-is_served.false in (
+      g.0,
+      ap (λ (b : Bool). cond b (with_checkpoint s) s) (sym z) ∙ g.1,
+      g.2,
+      g.3,
+      ap (λ (n : ℕ). cleared_from n R) (run_count a.run R e) ∙ cleared_none R ∙ ap (λ (b : Bool). cond b (cleared R) R) (sym z) ∙ g.4,
+    )

@@ -1,0 +1,46 @@
+use Rattle.checkpoint.proofs.StatusLaws.{long_enough, advancing, clients_refused, epoch_left}
+use Rattle.session.specs.Parts.{session_of}
+use Rattle.model.proofs.Laws.Status.{first_holds, first_fails, first_of_none, stage_refused}
+use borrow.Author.Tests.{eq-eqb, ne_eqb, not-true, not-false}
+use native.Mathlib.Omega.{arith}
+use mathlib.Core.Path.{sym, ◌∙◌}
+use mathlib.Core.Bool.{true≢false}
+use borrow.Author.Rules.{rules}
+use Rattle.checkpoint.proofs.checkpoint_status.Goals as goal
+
+pub returns-then-not-is_served : goal.returns-then-not-is_served
+returns-then-not-is_served c =
+    let r = sym c.is_served.ensures ∙ c.if-not-is_served.true in
+    ((λ R x. stage_refused _ _ _ c.context_status-context.ensures r), (λ z. absurd (true≢false (sym z ∙ r))))
+
+pub returns-then-not-is_served-2 : goal.returns-then-not-is_served-2
+returns-then-not-is_served-2 c =
+    let g = c.args in
+    let s = session_of g.layout g.segments g.words.now g.domain in
+    let y = sym c.is_served.ensures ∙ c.if-not-is_served.false in
+    let r = sym c.is_served-2.ensures ∙ c.if-not-is_served-2.true in
+    ((λ R x. clients_refused s g.image.now R _ _ c.context_status-context.ensures y x r), (λ z. absurd (true≢false (sym z ∙ r))))
+
+pub word_at-requires : goal.word_at-requires
+word_at-requires c =
+    let g = c.args in
+    omega (arith, long_enough (session_of g.layout g.segments g.words.now g.domain) g.image.now _ c.context_status-context.ensures (sym c.is_served.ensures ∙ c.if-not-is_served.false))
+
+pub returns-then-word_at-eq-LAST_EPOCH : goal.returns-then-word_at-eq-LAST_EPOCH
+returns-then-word_at-eq-LAST_EPOCH c =
+    let g = c.args in
+    let s = session_of g.layout g.segments g.words.now g.domain in
+    let y = sym c.is_served.ensures ∙ c.if-not-is_served.false in
+    let z = sym c.is_served-2.ensures ∙ c.if-not-is_served-2.false in (
+      λ R x. first_holds 10 _ _ (eq-eqb _ _ (sym c.word_at.ensures ∙ c.if-word_at-eq-LAST_EPOCH.true)) ∙ sym (epoch_left s g.image.now R _ _ c.context_status-context.ensures y x z),
+      λ h. absurd (true≢false (sym h)),
+    )
+
+pub returns : goal.returns
+returns c =
+    let g = c.args in
+    let s = session_of g.layout g.segments g.words.now g.domain in
+    let y = sym c.is_served.ensures ∙ c.if-not-is_served.false in
+    let z = sym c.is_served-2.ensures ∙ c.if-not-is_served-2.false in 
+    record { result_value = λ R x. first_fails 10 0 _ _ (ne_eqb _ _ (λ e. c.if-word_at-eq-LAST_EPOCH.false (c.word_at.ensures ∙ e))) first_of_none
+          ∙ sym (epoch_left s g.image.now R _ _ c.context_status-context.ensures y x z); advancing = λ h. advancing s g.image.now _ c.requires c.context_status-context.ensures y (λ e. c.if-word_at-eq-LAST_EPOCH.false (c.word_at.ensures ∙ e)) }

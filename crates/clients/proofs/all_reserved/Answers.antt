@@ -1,0 +1,31 @@
+use Prim.Native.Nat.{ℕ, ◌-◌, ◌≤◌}
+use mathlib.Core.Path.{◌≡◌, ap, ◌∙◌}
+use mathlib.Core.Bool.{cond}
+use native.Mathlib.Omega.{arith}
+use lib.Dec.{eqb, leb}
+use borrow.Author.Rules.{rules}
+use Rattle.model.specs.Range.{sum_to}
+use Rattle.model.specs.Clients.{client_at, unused}
+use Rattle.model.proofs.Laws.Range.{sum_none, sum_more}
+use Rattle.clients.specs.declared.Run.{Run}
+use Rattle.clients.proofs.RunLaws.{counted_down}
+use Rattle.clients.proofs.all_reserved.Goals as goal
+
+-- what is set apart for client j by another
+abbrev apart : Run → ℕ → ℕ → ℕ
+apart run client j = cond (eqb j client) 0 (unused (client_at run.clients j))
+
+pub loop-k-init : goal.loop-k-init
+loop-k-init c = (omega arith, omega (arith, sum_none (apart c.args.t1 c.args.client)))
+
+pub loop-k-preserved : goal.loop-k-preserved
+loop-k-preserved c =
+    let a = c.args in
+    (omega arith, omega (arith, c.left_After.ensures, c.loop-k.invariant.1, sum_more c.loop-k.k (apart a.t1 a.client)))
+
+pub returns : goal.returns
+returns c =
+    let a = c.args in
+    let all : c.loop-k.k ≡ a.t1.count = omega arith in
+    ap (λ (n : ℕ). eqb n 0) c.loop-k.invariant.1 ∙ counted_down a.free (sum_to c.loop-k.k (apart a.t1 a.client))
+    ∙ ap (λ (n : ℕ). leb a.free (sum_to n (apart a.t1 a.client))) all

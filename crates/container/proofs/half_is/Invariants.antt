@@ -1,0 +1,14 @@
+use Rattle.std.proofs.Common.{◌≡◌, ℕ, ◌+◌, ◌-◌, ◌*◌, ◌/◌, ◌%◌, ◌^◌, ◌<◌, ◌≤◌, ◌||◌, eqb, ltb, sym, refl, ap, ◌∙◌, arith, rules, lt-ltb}
+use lib.Bits.{bit_or, bit_xor}
+use Rattle.model.specs.Range.{all_b}
+use Rattle.model.specs.Words.{Bytes, byte_at}
+use Rattle.model.proofs.Laws.Range.{all_from, or_left}
+use Rattle.model.proofs.Laws.Words.{word_moved}
+use Rattle.container.proofs.LineLaws.{rest_first, rest_more}
+use Rattle.container.proofs.half_is.Given as goal
+
+abbrev pub invariant-loop-k : goal.invariant-loop-k
+invariant-loop-k l = (l.k ≤ 4) × (l.n ≤ 8 * l.k) × (eqb l.seen 0 ≡ all_b (8 * l.k) (λ i. ltb i l.n || eqb (byte_at l.image (l.at + i)) l.value))
+
+abbrev pub decreases-loop-k : goal.decreases-loop-k
+decreases-loop-k l = 4 - l.k

@@ -1,0 +1,15 @@
+use Rattle.std.proofs.Common.{◌≡◌, ℕ, ◌+◌, ◌-◌, ◌*◌, ◌^◌, ◌<◌, ◌≤◌, eqb, ap, ◌∙◌, arith, rules}
+use Rattle.model.specs.Range.{all_b}
+use Rattle.model.specs.Words.{Bytes, byte_at}
+use Rattle.model.specs.Session.{bit}
+use Rattle.model.proofs.Laws.Range.{all_none}
+use Rattle.model.proofs.Laws.Words.{word_moved}
+use Rattle.container.specs.Scan.{state_fits}
+use Rattle.container.proofs.LineLaws.{fit_more}
+use Rattle.container.proofs.states_fit.Given as goal
+
+abbrev pub invariant-loop-k : goal.invariant-loop-k
+invariant-loop-k l = (l.k ≤ l.count) × (eqb l.over 0 ≡ all_b (8 * l.k) (λ i. state_fits (bit l.set i) (byte_at l.image (l.line + i))))
+
+abbrev pub decreases-loop-k : goal.decreases-loop-k
+decreases-loop-k l = l.count - l.k

@@ -1,0 +1,31 @@
+use mathlib.Core.Path.{refl, sym, ◌∙◌}
+use native.Mathlib.Omega.{arith}
+use borrow.Author.Tests.{not-true, not-false}
+use borrow.Author.Rules.{rules}
+use Rattle.model.specs.Write.{copy_on_write_ops}
+use Rattle.trace.proofs.EmitLaws.{emitted_as, emitted_then, emitted_unless, fits_as, fits_first, fits_then}
+use Rattle.copy.proofs.CopyLaws.{copy_ops_lem}
+use Rattle.copy.proofs.put_copy_on_write.Goals as goal
+
+pub returns-then-not-has_copy : goal.returns-then-not-has_copy
+unfolding copy_on_write_ops
+returns-then-not-has_copy c = emitted_unless _ _ (sym c.has_copy.ensures ∙ c.if-not-has_copy.true) refl refl
+
+pub put_backup-next-requires : goal.put_backup-next-requires
+put_backup-next-requires c =
+    let a = c.args in
+    let ops = copy_ops_lem a.segment.layout a.image.now a.segment.word a.segment.main a.plan (sym c.has_copy.ensures ∙ c.if-not-has_copy.false) in
+    (c.requires.writable, (c.requires.copies_to, fits_first _ (fits_as (sym ops) c.requires.fits)))
+
+pub put_state-requires : goal.put_state-requires
+put_state-requires c =
+    let a = c.args in
+    let ops = copy_ops_lem a.segment.layout a.image.now a.segment.word a.segment.main a.plan (sym c.has_copy.ensures ∙ c.if-not-has_copy.false) in
+    
+    record { main_lt_most = omega (arith, c.requires.writable.0); fits = fits_then (fits_as (sym ops) c.requires.fits) c.put_backup-next.ensures }
+
+pub returns : goal.returns
+returns c =
+    let a = c.args in
+    let ops = copy_ops_lem a.segment.layout a.image.now a.segment.word a.segment.main a.plan (sym c.has_copy.ensures ∙ c.if-not-has_copy.false) in
+    emitted_as (emitted_then c.put_backup-next.ensures c.put_state.ensures) ops

@@ -1,0 +1,35 @@
+use Prim.Native.Nat.{◌+◌, ◌-◌, ◌*◌, ◌≤◌}
+use mathlib.Core.Path.{◌≡◌}
+use native.Mathlib.Omega.{arith}
+use lib.ListN.{length}
+use Rattle.model.specs.Range.{cat}
+use Rattle.printer.specs.Decimal.{Appended}
+use Rattle.inspect.specs.DumpText.{level_text}
+use Rattle.inspect.specs.Room.{level_room}
+use Rattle.inspect.proofs.LineLaws.{ready, levels_none, levels_more}
+use borrow.Author.Rules.{rules}
+use Rattle.inspect.proofs.append_levels.Goals as goal
+
+pub loop-i-init : goal.loop-i-init
+loop-i-init c =
+    let a = c.args in
+    (search rules, omega arith, omega arith, levels_none a.layout a.image.now a.out.now a.from)
+
+pub append_level-place-requires : goal.append_level-place-requires
+append_level-place-requires c =
+    let l = c.loop-i in
+    let r = ready c.args.layout c.args.image.now l.i c.requires.0 (omega arith) in
+    (c.requires.0, omega arith, omega (arith, l.invariant.1, l.invariant.2, c.requires.1, c.requires.2, r.main))
+
+pub loop-i-preserved : goal.loop-i-preserved
+loop-i-preserved c =
+    let l = c.loop-i in
+    let a = c.args in
+    (omega arith, omega (arith, l.invariant.1, c.append_level-place.ensures.upper_bound), omega (arith, l.invariant.2, c.append_level-place.ensures.appended.size), levels_more a.layout a.image.now l.i l.invariant.3 c.append_level-place.ensures.appended)
+
+-- NO GOAL same-length
+-- same_length : tie.Need-same-length invariant-loop decreases-loop
+-- same_length c = omega (arith, c.before.loop.invariant.2)
+
+pub returns : goal.returns
+returns c = let e : c.loop-i.i ≡ c.args.layout.mains = omega arith in rw e at c.loop-i.invariant.3

@@ -1,0 +1,6 @@
+use Rattle.lines.proofs.ValueLaws.{value_whole}
+use borrow.Author.Rules.{rules}
+use Rattle.lines.proofs.value_of.Goals as goal
+
+pub returns : goal.returns
+returns c = value_whole _ _ _ c.value_at-span.ensures

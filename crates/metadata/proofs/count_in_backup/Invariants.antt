@@ -1,0 +1,21 @@
+use Prim.Native.Nat.{ℕ, ◌+◌, ◌-◌, ◌≤◌}
+use mathlib.Core.Path.{◌≡◌, refl}
+use mathlib.Core.Bool.{Bool, true, false}
+use native.Mathlib.Omega.{arith}
+use lib.Dec.{eqb}
+use lib.ListN.{get_or}
+use mir.Val.{bool_byte}
+use borrow.Author.Rules.{rules}
+use Rattle.model.specs.Words.{Image}
+use Rattle.model.specs.Layout.{ss_backup}
+use Rattle.model.specs.Container.{seg_state}
+use Rattle.model.specs.Range.{sum_to, one_if}
+use Rattle.model.specs.FreeBackups.{mains_in_backup}
+use Rattle.model.proofs.Laws.Range.{sum_none, sum_more, one-most}
+use Rattle.metadata.proofs.count_in_backup.Given as goal
+
+abbrev pub invariant-loop-i : goal.invariant-loop-i
+invariant-loop-i l = (l.i ≤ l.mains) × (l.sum ≡ sum_to l.i (turn l.image l.line)) × (l.sum ≤ l.i)
+
+abbrev pub decreases-loop-i : goal.decreases-loop-i
+decreases-loop-i l = l.mains - l.i

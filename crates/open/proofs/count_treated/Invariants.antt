@@ -1,0 +1,18 @@
+use Prim.Native.Nat.{ℕ, ◌-◌, ◌≤◌}
+use mathlib.Core.Path.{◌≡◌, ap, ◌∙◌}
+use native.Mathlib.Omega.{arith}
+use borrow.Author.Rules.{rules}
+use Rattle.model.specs.declared.Layout.{Layout}
+use Rattle.model.specs.Words.{Image}
+use Rattle.model.specs.Container.{seg_state, backup_to_main, is_paired}
+use Rattle.model.specs.Open.{recovery_action}
+use Rattle.model.specs.Range.{sum_to}
+use Rattle.model.specs.Counts.{acts, treated}
+use Rattle.model.proofs.Laws.Range.{sum_none, sum_more}
+use Rattle.open.proofs.count_treated.Given as goal
+
+abbrev pub invariant-loop-i : goal.invariant-loop-i
+invariant-loop-i l = (l.i ≤ l.mains) × (l.sum ≡ sum_to l.i (turn l.layout l.image l.line)) × (l.sum ≤ l.i)
+
+abbrev pub decreases-loop-i : goal.decreases-loop-i
+decreases-loop-i l = l.mains - l.i

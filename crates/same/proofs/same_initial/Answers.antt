@@ -1,0 +1,17 @@
+use Prim.Native.Nat.{◌-◌, ◌≤◌}
+use mathlib.Core.Path.{◌≡◌, refl}
+use native.Mathlib.Omega.{arith}
+use borrow.Author.Rules.{rules}
+use Rattle.model.specs.Container.{seg_state}
+use Rattle.model.specs.Same.{same_initial}
+use Rattle.same.proofs.SameLaws.{initial_none, initial_more}
+use Rattle.same.proofs.same_initial.Goals as goal
+
+pub loop-i-init : goal.loop-i-init
+loop-i-init c = (search rules, initial_none _ _)
+
+pub loop-i-preserved : goal.loop-i-preserved
+loop-i-preserved c = (search rules, initial_more _ _ _ c.loop-i.invariant.1 refl)
+
+pub returns : goal.returns
+returns c = let e : c.loop-i.i ≡ c.args.mains = omega arith in rw e at c.loop-i.invariant.1

@@ -1,0 +1,42 @@
+use Prim.Native.Nat.{◌+◌, ◌-◌, ◌*◌, ◌≤◌}
+use mathlib.Core.Path.{◌≡◌, refl}
+use native.Mathlib.Omega.{arith}
+use lib.ListN.{length}
+use borrow.Author.Rules.{rules}
+use Rattle.parser.proofs.GroupLaws.{groups_end}
+use Rattle.calls.specs.Ran.{call_size}
+use Rattle.group.specs.GroupRan.{group_size}
+use Rattle.script.specs.SheetRan.{group_least, GoodFrom, groups_from}
+use Rattle.script.proofs.Story.{Story, story_none, story_more, story_end}
+use Rattle.script.proofs.run_groups.Goals as goal
+
+pub loop-progress-init : goal.loop-progress-init
+loop-progress-init c = (c.requires.input_len_bound.1, omega arith, omega arith, omega arith, refl, refl, story_none _ c.args.ran _ _)
+
+pub run_next-progress-requires : goal.run_next-progress-requires
+run_next-progress-requires c = let b = c.loop-progress in ((c.requires.input_len_bound.0, c.loop-progress-test.true, b.invariant.0, b.invariant.2), omega arith)
+
+pub loop-progress-smaller : goal.loop-progress-smaller
+loop-progress-smaller c = let x = c.run_next-progress.ensures in omega (arith, x.far, x.good.0)
+
+pub loop-progress-preserved : goal.loop-progress-preserved
+loop-progress-preserved c =
+    let x = c.run_next-progress.ensures in
+    let b = c.loop-progress in
+    let a = c.args in (
+      x.good,
+      omega (arith, x.count),
+      omega (arith, x.far, x.count, b.invariant.2),
+      omega (arith, x.far, x.short, b.invariant.3),
+      omega arith,
+      omega arith,
+      rw x.count (story_more a.image.now a.ran (groups_from a.input.now a.start) a.out.now b.image b.progress.ran b.progress.n
+          (groups_from a.input.now b.progress.«at») b.out b.invariant.6 x.group _ _ _ c.run_next-progress.result.ran x.groups x.ran),
+    )
+
+pub returns : goal.returns
+returns c =
+    let b = c.loop-progress in
+    let a = c.args in
+    let e : b.progress.«at» ≡ length a.input.now = omega (arith, b.invariant.0.0) in
+    story_end _ a.ran _ _ _ b.progress.ran _ _ _ b.invariant.6 (groups_end a.input.now b.progress.«at» e)

@@ -1,0 +1,23 @@
+use mathlib.Core.Path.{sym, ◌∙◌}
+use mathlib.Core.List.{◌++◌}
+use native.Mathlib.Omega.{arith}
+use borrow.Author.Rules.{rules}
+use Rattle.printer.specs.Decimal.{decimal, Appended}
+use Rattle.printer.proofs.AppendedLaws.{appended_first, appended_as}
+use Rattle.calls.proofs.Texts.{line_end_bytes, sheet_bytes, bad_text}
+use Rattle.script.proofs.SheetLaws.{prints_bad}
+use Rattle.script.proofs.run_sheet.Goals as goal
+
+pub run_good-requires : goal.run_good-requires
+run_good-requires c = (sym c.verdict.ensures ∙ c.in-None.is, omega arith)
+
+pub returns-in-Is : goal.returns-in-Is
+returns-in-Is c =
+    let n = c.n-1.given in
+    let v = c.verdict in
+    let a = c.args in
+    let line : Appended a.out.now 0 (sheet_bytes ++ decimal n.0.0 ++ line_end_bytes) _ c.append_number.result = c.append_number.ensures.appended in
+    appended_first (appended_as (bad_text n.0.0 ∙ prints_bad a.input.now n.0.0 (sym v.ensures ∙ n.1)) line)
+
+pub returns-in-None : goal.returns-in-None
+returns-in-None c = appended_first c.run_good.ensures

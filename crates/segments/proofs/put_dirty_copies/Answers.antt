@@ -1,0 +1,75 @@
+use Prim.Native.Nat.{ℕ, ◌+◌, ◌-◌, ◌*◌}
+use mathlib.Core.Path.{◌≡◌, sym}
+use native.Mathlib.Omega.{arith}
+use lib.Bits.{and_le_r}
+use lib.Count.{count_trailing_zeros, trailing_le}
+use lib.ListN.{length}
+use borrow.Author.Rules.{rules}
+use Rattle.model.specs.Words.{word_at}
+use Rattle.model.specs.Layout.{word_size, block_size}
+use Rattle.model.specs.Ops.{put_block, each_dirty}
+use Rattle.trace.specs.Emit.{Emitted}
+use Rattle.trace.proofs.EmitLaws.{fits_as, emitted_as, emitted_none}
+use Rattle.blocks.proofs.PartLaws.{length_part, copy_part}
+use Rattle.words.proofs.WalkLaws.{Walk, walk_start, walk_below, walk_turns}
+use Rattle.segments.proofs.DirtyLaws.{dirty_ends, dirty_fits, dirty_emits}
+use Rattle.segments.proofs.put_dirty_copies.Goals as goal
+
+pub loop-rest-init : goal.loop-rest-init
+loop-rest-init c = (search rules, (0, (walk_start (search rules) (search rules), emitted_none _)))
+
+pub overflow_cast-b : goal.overflow_cast-b
+overflow_cast-b c = omega (arith, trailing_le 64 c.loop-rest.rest)
+
+pub overflow_mul-source : goal.overflow_mul-source
+overflow_mul-source c = omega (arith, trailing_le 64 c.loop-rest.rest)
+
+pub overflow_add-source : goal.overflow_add-source
+overflow_add-source c = omega (arith, walk_below c.loop-rest.invariant.1.1.0 (omega arith))
+
+pub overflow_mul-target : goal.overflow_mul-target
+overflow_mul-target c = omega (arith, trailing_le 64 c.loop-rest.rest)
+
+pub overflow_add-target : goal.overflow_add-target
+overflow_add-target c = omega (arith, walk_below c.loop-rest.invariant.1.1.0 (omega arith))
+
+pub overflow_add-source-in-loop-rest : goal.overflow_add-source-in-loop-rest
+overflow_add-source-in-loop-rest c = omega (arith, walk_below c.loop-rest.invariant.1.1.0 (omega arith))
+
+-- NO GOAL slice-bounds-put-copy-start
+-- part-put-copy-start : tie.Need-slice-bounds-put-copy-start invariant-loop decreases-loop
+-- part-put-copy-start c = omega (arith, walk_below c.before.loop.invariant.1.1.0 (omega arith))
+
+-- NO GOAL slice-bounds-put-copy-end
+-- part-put-copy-end : tie.Need-slice-bounds-put-copy-end invariant-loop decreases-loop
+-- part-put-copy-end c = omega (arith, walk_below c.before.loop.invariant.1.1.0 (omega arith))
+
+pub put_copy-next-requires : goal.put_copy-next-requires
+put_copy-next-requires c =
+    let l = c.loop-rest in
+    let g = c.args in
+    let w = l.invariant.1.1 in
+    let b = count_trailing_zeros 64 l.rest in
+    let below = walk_below w.0 (omega arith) in
+    let e = length_part g.image.now (g.from + block_size * b) (omega (arith, below)) in (
+      omega (arith, e),
+      (
+        omega (arith, below),
+        fits_as (sym (copy_part g.image.now (g.from + block_size * b) (g.to + block_size * b) g.flush)) (dirty_fits _ w.0 (omega arith) w.1 c.requires.fits),
+      ),
+    )
+
+pub loop-rest-smaller : goal.loop-rest-smaller
+loop-rest-smaller c = let m = c.loop-rest.rest in omega (arith, and_le_r m (m - 1))
+
+pub loop-rest-preserved : goal.loop-rest-preserved
+loop-rest-preserved c =
+    let l = c.loop-rest in
+    let g = c.args in
+    let w = l.invariant.1.1 in
+    let b = count_trailing_zeros 64 l.rest in
+    let copied = emitted_as c.put_copy-next.ensures (copy_part g.image.now (g.from + block_size * b) (g.to + block_size * b) g.flush) in
+    (search rules, (b + 1, (walk_turns w.0 (omega arith), dirty_emits _ w.0 (omega arith) w.1 copied)))
+
+pub returns : goal.returns
+returns c = let w = c.loop-rest.invariant.1.1 in dirty_ends _ w.0 (omega arith) w.1

@@ -1,0 +1,44 @@
+use Rattle.blocks.proofs.PartLaws.{length_part, copy_part}
+use Rattle.trace.proofs.EmitLaws.{fits_as, fits_each, emitted_as, emitted_none, emitted_each}
+use Rattle.trace.specs.Emit.{Emitted}
+use Rattle.model.specs.Ops.{persist_copy, copy_segment}
+use Rattle.model.specs.Layout.{block_size}
+use Rattle.model.specs.Range.{cat}
+use lib.ListN.{length}
+use native.Mathlib.Omega.{arith}
+use mathlib.Core.Path.{◌≡◌, sym}
+use mathlib.Core.Bool.{true}
+use Prim.Native.Nat.{◌+◌, ◌-◌, ◌*◌, ◌≤◌}
+use borrow.Author.Rules.{rules}
+use Rattle.segments.proofs.put_segment_copy.Goals as goal
+
+pub loop-b-init : goal.loop-b-init
+loop-b-init c = (search rules, search rules, emitted_none _)
+
+pub put_copy-next-requires : goal.put_copy-next-requires
+unfolding copy_segment persist_copy
+put_copy-next-requires c =
+    let l = c.loop-b in
+    let g = c.args in
+    let e = length_part g.image.now (g.from + block_size * l.b) (omega arith) in (
+      omega arith,
+      (
+        omega arith,
+        fits_as (sym (copy_part g.image.now (g.from + block_size * l.b) (g.to + block_size * l.b) true))
+            (fits_each l.b g.layout.blocks _ (omega arith) c.requires.fits l.invariant.2),
+      ),
+    )
+
+pub loop-b-preserved : goal.loop-b-preserved
+unfolding persist_copy
+loop-b-preserved c =
+    let l = c.loop-b in
+    let g = c.args in
+    let w = emitted_as c.put_copy-next.ensures (copy_part g.image.now (g.from + block_size * l.b) (g.to + block_size * l.b) true) in
+    (search rules, search rules, emitted_each l.b _ l.invariant.2 w)
+
+pub returns : goal.returns
+unfolding copy_segment
+returns c =
+    let e : c.loop-b.b ≡ c.args.layout.blocks = omega arith in
+    rw e at c.loop-b.invariant.2

@@ -1,0 +1,32 @@
+use Rattle.model.specs.Range.{cat}
+use Rattle.trace.proofs.EmitLaws.{emitted_none, emitted_each, fits_each}
+use Rattle.trace.specs.Emit.{Emitted}
+use Rattle.model.specs.Ops.{persist_zero, zero_segment}
+use Rattle.model.specs.Layout.{block_size}
+use lib.ListN.{length}
+use native.Mathlib.Omega.{arith}
+use mathlib.Core.Path.{◌≡◌}
+use Prim.Native.Nat.{◌+◌, ◌-◌, ◌*◌, ◌≤◌}
+use borrow.Author.Rules.{rules}
+use Rattle.segments.proofs.put_segment_zero.Goals as goal
+
+pub loop-b-init : goal.loop-b-init
+loop-b-init c = (search rules, search rules, emitted_none _)
+
+pub put_zero-next-requires : goal.put_zero-next-requires
+unfolding zero_segment persist_zero
+put_zero-next-requires c =
+    let l = c.loop-b in
+    (search rules, fits_each l.b c.args.layout.blocks _ (omega arith) c.requires.fits l.invariant.2)
+
+pub loop-b-preserved : goal.loop-b-preserved
+unfolding persist_zero
+loop-b-preserved c =
+    let l = c.loop-b in
+    (search rules, search rules, emitted_each l.b _ l.invariant.2 c.put_zero-next.ensures)
+
+pub returns : goal.returns
+unfolding zero_segment
+returns c =
+    let e : c.loop-b.b ≡ c.args.layout.blocks = omega arith in
+    rw e at c.loop-b.invariant.2

@@ -1,0 +1,19 @@
+use Rattle.model.specs.Range.{cat}
+use Rattle.trace.proofs.EmitLaws.{emitted_none, emitted_each, fits_each}
+use Rattle.trace.specs.Emit.{Emitted}
+use Rattle.model.specs.Ops.{persist_zero, zero_segment}
+use Rattle.model.specs.Layout.{block_size}
+use lib.ListN.{length}
+use native.Mathlib.Omega.{arith}
+use mathlib.Core.Path.{◌≡◌}
+use Prim.Native.Nat.{◌+◌, ◌-◌, ◌*◌, ◌≤◌}
+use borrow.Author.Rules.{rules}
+use Rattle.segments.proofs.put_segment_zero.Given as goal
+
+abbrev pub invariant-loop-b : goal.invariant-loop-b
+invariant-loop-b l = (l.b ≤ l.blocks)
+    × (length l.trace ≡ length l.initial.trace)
+    × Emitted l.domain l.initial.trace l.n (cat l.b (λ i. persist_zero (l.to + block_size * i))) l.trace l.next
+
+abbrev pub decreases-loop-b : goal.decreases-loop-b
+decreases-loop-b l = l.blocks - l.b

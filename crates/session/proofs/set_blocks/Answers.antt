@@ -1,0 +1,7 @@
+use native.Mathlib.Omega.{arith}
+use borrow.Author.Rules.{rules}
+use Rattle.session.proofs.BitLaws.{run-set}
+use Rattle.session.proofs.set_blocks.Goals as goal
+
+pub returns : goal.returns
+returns c = let a = c.args in run-set a.word a.block a.count (omega arith)

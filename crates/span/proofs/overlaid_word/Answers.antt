@@ -1,0 +1,53 @@
+use Prim.Native.Nat.{◌+◌, ◌-◌, ◌≤◌, ◌<◌}
+use mathlib.Core.Path.{◌≡◌, ◌∙◌}
+use mathlib.Core.Logic.{⊎_elim}
+use native.Mathlib.Omega.{arith}
+use lib.ListN.{length, length-set}
+use borrow.Author.Rules.{rules}
+use Rattle.model.specs.Words.{byte_at}
+use Rattle.span.proofs.SpanLaws.{Laid, laid_none, laid_more, laid_all}
+use Rattle.span.proofs.overlaid_word.Goals as goal
+
+-- ?? abbrev invariant-loop : tie.invariant-loop
+invariant-loop image at bytes place bytes-end word_end end word₀ i₀ word i =
+    (at ≤ i) × (place ≤ i) × (end ≤ at + length bytes) × (end ≤ place + 8) × (length word ≡ 8) × Laid (byte_at image) at bytes place i word
+
+-- ?? abbrev decreases-loop : tie.decreases-loop
+decreases-loop image at bytes place bytes-end word_end end word₀ i₀ word i = end - i
+
+pub loop-i-init : goal.loop-i-init
+loop-i-init c =
+    let a = c.args in
+    let b = c.bytes_at-word in
+    let i = c.if-at-place.i in
+    let end = c.if-bytes_end-word_end.end in
+    let s : (a.at ≤ i) × (a.place ≤ i) × (a.at < i → i ≤ a.place) = ⊎_elim (λ w. (omega arith, omega arith, λ x. omega arith)) (λ w. (omega arith, omega arith, λ x. omega arith)) c.if-at-place.branch in
+    let e : (end ≤ a.at + length a.bytes.now) × (end ≤ a.place + 8) = ⊎_elim (λ w. (omega arith, omega arith)) (λ w. (omega arith, omega arith)) c.if-bytes_end-word_end.branch in
+    (s.0, s.1, e.0, e.1, search rules, laid_none (byte_at a.image.now) a.at a.bytes.now a.place i b.result s.2 b.ensures)
+
+pub bounds-bytes-i : goal.bounds-bytes-i
+bounds-bytes-i c =
+    let l = c.loop-i in
+    let a = c.args in
+    let e : l.i - a.at < length a.bytes.now = omega arith in
+    e
+
+pub loop-i-preserved : goal.loop-i-preserved
+loop-i-preserved c =
+    let l = c.loop-i in
+    let a = c.args in
+    let v = l.invariant in (
+      omega arith,
+      omega arith,
+      v.2,
+      v.3,
+      rw length-set v.4,
+      laid_more (byte_at a.image.now) a.at a.bytes.now a.place l.i l.word v.0 (omega arith) v.1 (omega arith) v.4 v.5,
+    )
+
+pub returns : goal.returns
+returns c =
+    let a = c.args in
+    let l = c.loop-i in
+    let e : l.i < a.place + 8 → a.at + length a.bytes.now ≤ l.i = ⊎_elim (λ w x. omega arith) (λ w x. omega arith) c.if-bytes_end-word_end.branch in
+    c.join.ensures ∙ laid_all (byte_at a.image.now) a.at a.bytes.now a.place l.i l.word e l.invariant.5

@@ -1,0 +1,6 @@
+use Rattle.text.proofs.NumberLaws.{one_number}
+use borrow.Author.Rules.{rules}
+use Rattle.text.proofs.one_digit.Goals as goal
+
+pub returns : goal.returns
+returns c = one_number _ c.is_digit.ensures c.digit_of.ensures.0 c.number_if.ensures

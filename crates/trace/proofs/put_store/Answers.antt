@@ -1,0 +1,8 @@
+use borrow.Author.Rules.{rules}
+use Rattle.model.specs.Ops.{encode, for_domain}
+use Rattle.trace.specs.Emit.{emit}
+use Rattle.trace.proofs.put_store.Goals as goal
+
+pub returns : goal.returns
+unfolding emit encode for_domain
+returns c = let p = c.put_op.ensures in record { stands = p.0; next = p.1 }

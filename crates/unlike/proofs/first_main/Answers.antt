@@ -1,0 +1,31 @@
+use Prim.Native.Nat.{ℕ, ◌-◌, ◌≤◌, ◌<◌}
+use mathlib.Core.Bool.{false}
+use mathlib.Core.Path.{◌≡◌, sym, ◌∙◌}
+use native.Mathlib.Omega.{arith}
+use borrow.Author.Count.{below_none, below_more}
+use Rattle.model.proofs.Laws.Range.{first_none, first_found}
+use Rattle.unlike.specs.SameText.{main_unlike, first_main}
+use borrow.Author.Rules.{rules}
+use Rattle.unlike.proofs.first_main.Goals as goal
+
+pub loop-i-init : goal.loop-i-init
+loop-i-init c = (search rules, below_none _)
+
+pub returns-then-main_unlike : goal.returns-then-main_unlike
+unfolding first_main
+returns-then-main_unlike c =
+    let l = c.loop-i in
+    let t = c.loop-i-test.true in
+    sym (first_found _ _ l.i t l.invariant.1 (sym c.main_unlike.ensures ∙ c.if-main_unlike.true))
+
+pub loop-i-preserved : goal.loop-i-preserved
+loop-i-preserved c =
+    let l = c.loop-i in
+    (omega arith, below_more _ _ l.invariant.1 (sym c.main_unlike.ensures ∙ c.if-main_unlike.false))
+
+pub returns : goal.returns
+unfolding first_main
+returns c =
+    let l = c.loop-i in
+    let e : l.i ≡ c.args.layout.mains = omega arith in
+    e ∙ sym (first_none _ _ (λ k h. l.invariant.1 k (omega arith)))

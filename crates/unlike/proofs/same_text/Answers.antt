@@ -1,0 +1,35 @@
+use mathlib.Core.Path.{sym, ap, ◌∙◌}
+use Prim.Native.Nat.{ℕ}
+use borrow.Author.Tests.{not-true, not-false}
+use Rattle.model.specs.Status.{served}
+use Rattle.printer.proofs.AppendedLaws.{appended_as, appended_first}
+use Rattle.unlike.specs.SameText.{refused_text}
+use Rattle.unlike.proofs.Texts.{alike_text}
+use Rattle.unlike.proofs.TextLaws.{text_refused, text_alike, text_unlike}
+use borrow.Author.Rules.{rules}
+use Rattle.unlike.proofs.same_text.Goals as goal
+
+pub returns-then-not-is_served : goal.returns-then-not-is_served
+returns-then-not-is_served c =
+    let a = c.args in
+    let e = c.crpm_same_checkpoint-compared.ensures.status_value in
+    let no = ap (λ (n : ℕ). served n) (sym e) ∙ sym c.is_served.ensures ∙ c.if-not-is_served.true in
+    let code = c.code.ensures ∙ e in
+    let t = appended_as (ap (λ (n : ℕ). refused_text a.layout a.a.now n) code ∙ text_refused a.layout a.a.now a.b.now no) c.append_refused-refused.ensures in
+    (e, appended_first t)
+
+pub returns-then-compared : goal.returns-then-compared
+returns-then-compared c =
+    let a = c.args in
+    let e = c.crpm_same_checkpoint-compared.ensures.status_value in
+    let ok = ap (λ (n : ℕ). served n) (sym e) ∙ sym c.is_served.ensures ∙ c.if-not-is_served.false in
+    let yes = sym c.crpm_same_checkpoint-compared.ensures.same_value ∙ c.if-compared.true in
+    (e, appended_first (appended_as (alike_text ∙ text_alike a.layout a.a.now a.b.now ok yes) c.append_text-alike.ensures))
+
+pub returns : goal.returns
+returns c =
+    let a = c.args in
+    let e = c.crpm_same_checkpoint-compared.ensures.status_value in
+    let ok = ap (λ (n : ℕ). served n) (sym e) ∙ sym c.is_served.ensures ∙ c.if-not-is_served.false in
+    let no = sym c.crpm_same_checkpoint-compared.ensures.same_value ∙ c.if-compared.false in
+    (e, appended_first (appended_as (text_unlike a.layout a.a.now a.b.now ok no) c.append_unlike-size.ensures))
