@@ -11,7 +11,6 @@
 ghost use Rattle.std.specs.Prelude.{◌≤◌};
 
 use clients::CLIENT_WORDS;
-use libc::STDOUT_FILENO;
 use model::{Answer, Layout, Session};
 
 // The history's sizes: two levels, one spare, one frame each.
@@ -58,46 +57,47 @@ const EDITS: [[u8; 2]; 4] = [[10, 11], [0, 0], [20, 21], [30, 31]];
 // ---- printed lines
 
 // Prints bytes as they are.
-fn print(bytes: &[u8]) {
-    io::write_all(STDOUT_FILENO, bytes);
+fn print(rt: &impl Print, bytes: &[u8]) {
+    let _ = rt.write_all(bytes);
 }
 
 // Prints a name and a number.
-fn print_number(name: &[u8], n: u64) {
-    print(name);
-    io::print_decimal(STDOUT_FILENO, n);
+fn print_number(rt: &impl Print, name: &[u8], n: u64) {
+    print(rt, name);
+    let _ = rt.print(n);
 }
 
 // Prints how a call ended, how many orders it reports, and the card: the levels touched and the marks of levels 0 and 1, a bit
 // each.
-fn print_answer(name: &[u8], answer: Answer) {
+fn print_answer(rt: &impl Print, name: &[u8], answer: Answer) {
     let status = answer.status;
     let session = answer.session;
-    print_number(name, status.code());
-    print_number(b" orders=", answer.ops);
-    print_number(b" touched=", session.dirty_segments);
-    print_number(b" marks=", session.dirty_blocks[0]);
-    print_number(b",", session.dirty_blocks[1]);
+    print_number(rt, name, status.code());
+    print_number(rt, b" orders=", answer.ops);
+    print_number(rt, b" touched=", session.dirty_segments);
+    print_number(rt, b" marks=", session.dirty_blocks[0]);
+    print_number(rt, b",", session.dirty_blocks[1]);
 }
 
 // Prints an order: kind, place, and the word in hexadecimal.
-fn print_op(name: &[u8], trace: &[u64], op: u64) {
-    print_number(name, number_of(trace, op, 0));
-    print_number(b",", number_of(trace, op, 1));
-    print(b",");
-    io::print_hex(STDOUT_FILENO, number_of(trace, op, 2), 16);
+fn print_op(rt: &impl Print, name: &[u8], trace: &[u64], op: u64) {
+    print_number(rt, name, number_of(trace, op, 0));
+    print_number(rt, b",", number_of(trace, op, 1));
+    print(rt, b",");
+    let word = number_of(trace, op, 2);
+    let _ = print!(rt; "{word:016x}");
 }
 
 // Prints the first and the last of some orders.
-fn print_ops(trace: &[u64], ops: u64) {
+fn print_ops(rt: &impl Print, trace: &[u64], ops: u64) {
     if 0 < ops {
-        print_op(b" first=", trace, 0);
-        print_op(b" last=", trace, ops - 1);
+        print_op(rt, b" first=", trace, 0);
+        print_op(rt, b" last=", trace, ops - 1);
     }
 }
 
 // Prints the length of the saved read of a level's frame 0 and, if it is not 0, where it starts.
-fn print_saved(name: &[u8], image: &[u8], layout: Layout, main: u64) {
+fn print_saved(rt: &impl Print, name: &[u8], image: &[u8], layout: Layout, main: u64) {
     let part = reads::checkpoint_part(image, layout, main, 0);
     let saved = reads::crpm_read_checkpoint(
         image,
@@ -107,63 +107,63 @@ fn print_saved(name: &[u8], image: &[u8], layout: Layout, main: u64) {
         main,
         0,
     );
-    print_number(name, saved.len() as u64);
+    print_number(rt, name, saved.len() as u64);
     if saved.len() != 0 {
-        print_number(b"@", part.start);
+        print_number(rt, b"@", part.start);
     }
 }
 
 // Prints a name and two bytes that stand side by side.
-fn print_bytes(name: &[u8], image: &[u8], at: usize)
+fn print_bytes(rt: &impl Print, name: &[u8], image: &[u8], at: usize)
     requires { at ≤ 258 }
 {
-    print_number(name, byte_at(image, at));
-    print_number(b",", byte_at(image, at + 1));
+    print_number(rt, name, byte_at(image, at));
+    print_number(rt, b",", byte_at(image, at + 1));
 }
 
 // Prints the first byte of the epoch, the states of levels 0 and 1 on either line, and the first pair.
-fn print_metadata(image: &[u8]) {
-    print_number(b" epoch=", byte_at(image, 0));
-    print_bytes(b" at128=", image, 128);
-    print_bytes(b" at192=", image, 192);
-    print_number(b" at256=", byte_at(image, 256));
+fn print_metadata(rt: &impl Print, image: &[u8]) {
+    print_number(rt, b" epoch=", byte_at(image, 0));
+    print_bytes(rt, b" at128=", image, 128);
+    print_bytes(rt, b" at192=", image, 192);
+    print_number(rt, b" at256=", byte_at(image, 256));
 }
 
 // Prints the metadata and the saved reads of levels 0 and 1, for a long write what is read back, and for dropped edits the levels; of the
 // restart's image, the board.
-fn print_image(image: &[u8], layout: Layout, case: u64) {
+fn print_image(rt: &impl Print, image: &[u8], layout: Layout, case: u64) {
     if layout.mains == BOARD_MAINS {
-        print_board(image, layout);
+        print_board(rt, image, layout);
         return;
     }
-    print_metadata(image);
+    print_metadata(rt, image);
     if LAST_LONG < case {
-        print_level(b" levels=", image, layout, 0);
-        print_level(b",", image, layout, 1);
-        print(b"\n");
+        print_level(rt, b" levels=", image, layout, 0);
+        print_level(rt, b",", image, layout, 1);
+        print(rt, b"\n");
         return;
     }
-    print_saved(b" saved=", image, layout, 0);
-    print_saved(b",", image, layout, 1);
+    print_saved(rt, b" saved=", image, layout, 0);
+    print_saved(rt, b",", image, layout, 1);
     if LAST_RESTART < case {
-        print_back(b" working=", image, layout, false);
-        print_back(b" kept=", image, layout, true);
+        print_back(rt, b" working=", image, layout, false);
+        print_back(rt, b" kept=", image, layout, true);
     }
-    print(b"\n");
+    print(rt, b"\n");
 }
 
 // Prints how many bytes a read gives back: zeros, and of the long writes those of L2, of L4, of L6 and of the one of L7 that is
 // served.
-fn print_back(name: &[u8], image: &[u8], layout: Layout, saved: bool) {
-    print_number(name, back(image, layout, saved, row(50)));
-    print_number(b",", back(image, layout, saved, row(31)));
-    print_number(b",", back(image, layout, saved, row(33)));
-    print_number(b",", back(image, layout, saved, row(35)));
-    print_number(b",", back(image, layout, saved, row(38)));
+fn print_back(rt: &impl Print, name: &[u8], image: &[u8], layout: Layout, saved: bool) {
+    print_number(rt, name, back(image, layout, saved, row(50)));
+    print_number(rt, b",", back(image, layout, saved, row(31)));
+    print_number(rt, b",", back(image, layout, saved, row(33)));
+    print_number(rt, b",", back(image, layout, saved, row(35)));
+    print_number(rt, b",", back(image, layout, saved, row(38)));
 }
 
 // Prints a level: its saved read, and the first two bytes of its working read in hexadecimal.
-fn print_level(name: &[u8], image: &[u8], layout: Layout, main: u64) {
+fn print_level(rt: &impl Print, name: &[u8], image: &[u8], layout: Layout, main: u64) {
     let part = reads::crpm_read_working(
         image,
         layout.mains,
@@ -172,41 +172,42 @@ fn print_level(name: &[u8], image: &[u8], layout: Layout, main: u64) {
         main,
         0,
     );
-    print_saved(name, image, layout, main);
-    print(b":");
-    io::print_hex(STDOUT_FILENO, byte_at(part, 0), 2);
-    io::print_hex(STDOUT_FILENO, byte_at(part, 1), 2);
+    print_saved(rt, name, image, layout, main);
+    print(rt, b":");
+    let first = byte_at(part, 0);
+    let second = byte_at(part, 1);
+    let _ = print!(rt; "{first:02x}{second:02x}");
 }
 
 // Prints the board of the restart: the first byte of the epoch, the states of its six levels on the active line, the pairs of its
 // four spares, and the levels.
-fn print_board(image: &[u8], layout: Layout) {
+fn print_board(rt: &impl Print, image: &[u8], layout: Layout) {
     let line = active_line(image);
-    print_number(b" epoch=", byte_at(image, 0));
-    print_bytes(b" states=", image, line);
-    print_bytes(b",", image, line + 2);
-    print_bytes(b",", image, line + 4);
-    print_bytes(b" pairs=", image, 256);
-    print_bytes(b",", image, 258);
-    print_level(b" levels=", image, layout, 0);
-    print_level(b",", image, layout, 1);
-    print_level(b",", image, layout, 2);
-    print_level(b",", image, layout, 3);
-    print_level(b",", image, layout, 4);
-    print_level(b",", image, layout, 5);
-    print(b"\n");
+    print_number(rt, b" epoch=", byte_at(image, 0));
+    print_bytes(rt, b" states=", image, line);
+    print_bytes(rt, b",", image, line + 2);
+    print_bytes(rt, b",", image, line + 4);
+    print_bytes(rt, b" pairs=", image, 256);
+    print_bytes(rt, b",", image, 258);
+    print_level(rt, b" levels=", image, layout, 0);
+    print_level(rt, b",", image, layout, 1);
+    print_level(rt, b",", image, layout, 2);
+    print_level(rt, b",", image, layout, 3);
+    print_level(rt, b",", image, layout, 4);
+    print_level(rt, b",", image, layout, 5);
+    print(rt, b"\n");
 }
 
 // Prints the name of a case: P1 to P10, from 11 on R1 to R7, from 18 on L1 to L7, and from 25 on D1 to D11.
-fn print_case(case: u64) {
+fn print_case(rt: &impl Print, case: u64) {
     if case <= 10 {
-        print_number(b"P", case);
+        print_number(rt, b"P", case);
     } else if case <= LAST_RESTART {
-        print_number(b"R", case - 10);
+        print_number(rt, b"R", case - 10);
     } else if case <= LAST_LONG {
-        print_number(b"L", case - LAST_RESTART);
+        print_number(rt, b"L", case - LAST_RESTART);
     } else {
-        print_number(b"D", case - LAST_LONG);
+        print_number(rt, b"D", case - LAST_LONG);
     }
 }
 
@@ -456,16 +457,23 @@ fn tape_of(trace: &mut [u64], n: u64) -> &mut [u64] {
 }
 
 // Drops the edits of a level, with a part of the tape.
-fn drop_edits(image: &mut [u8], trace: &mut [u64], session: Session, call: Call) -> Answer {
+fn drop_edits(
+    rt: &impl Print,
+    image: &mut [u8],
+    trace: &mut [u64],
+    session: Session,
+    call: Call,
+) -> Answer {
     let tape = tape_of(trace, call.length);
-    print_number(b" tape=", tape.len() as u64);
+    print_number(rt, b" tape=", tape.len() as u64);
     let dropped = driver::step_discard(image, session, call.main, tape);
-    print_answer(b" drop=", dropped);
+    print_answer(rt, b" drop=", dropped);
     dropped
 }
 
 // Makes a call, which is lent a run of one record.
 fn make(
+    rt: &impl Print,
     image: &mut [u8],
     trace: &mut [u64],
     session: Session,
@@ -473,19 +481,19 @@ fn make(
     call: Call,
     bytes: &[u8],
 ) -> Answer {
-    print_case(call.case);
+    print_case(rt, call.case);
     if call.kind == SAVE {
         let saved = driver::step_checkpoint(image, session, clients, trace);
-        print_answer(b" save=", saved);
+        print_answer(rt, b" save=", saved);
         return saved;
     }
-    print_number(b" level=", call.main);
+    print_number(rt, b" level=", call.main);
     if call.kind == DROP {
-        return drop_edits(image, trace, session, call);
+        return drop_edits(rt, image, trace, session, call);
     }
-    print_number(b" frame=", call.block);
-    print_number(b" at=", call.offset);
-    print_number(b" length=", bytes.len() as u64);
+    print_number(rt, b" frame=", call.block);
+    print_number(rt, b" at=", call.offset);
+    print_number(rt, b" length=", bytes.len() as u64);
     let written = driver::step_write(
         image,
         session,
@@ -497,21 +505,21 @@ fn make(
         bytes,
         trace,
     );
-    print_answer(b" write=", written);
+    print_answer(rt, b" write=", written);
     written
 }
 
 // A call of a history, made and looked at.
-fn step(image: &mut [u8], trace: &mut [u64], stand: Stand, call: Call) -> Stand {
+fn step(rt: &impl Print, image: &mut [u8], trace: &mut [u64], stand: Stand, call: Call) -> Stand {
     let mut bytes = [0u8; MOST_BYTES];
     fill(&mut bytes, call.case);
     let given = first_of(&bytes, call.length);
     let session = stand.session;
     let client = stand.client;
     let mut clients = [client];
-    let answer = make(image, trace, session, &mut clients, call, given);
-    print_ops(trace, answer.ops);
-    print_image(image, session.layout, call.case);
+    let answer = make(rt, image, trace, session, &mut clients, call, given);
+    print_ops(rt, trace, answer.ops);
+    print_image(rt, image, session.layout, call.case);
     let next = answer.session;
     let left = clients[0];
     Stand {
@@ -521,18 +529,25 @@ fn step(image: &mut [u8], trace: &mut [u64], stand: Stand, call: Call) -> Stand 
 }
 
 // The calls of the table from one on and below another, from where a history stands; where it stands afterwards.
-fn history(image: &mut [u8], trace: &mut [u64], given: Stand, from: usize, to: usize) -> Stand {
+fn history(
+    rt: &impl Print,
+    image: &mut [u8],
+    trace: &mut [u64],
+    given: Stand,
+    from: usize,
+    to: usize,
+) -> Stand {
     let mut stand = given;
     let mut i = from;
     while i < to {
-        stand = step(image, trace, stand, row(i));
+        stand = step(rt, image, trace, stand, row(i));
         i += 1;
     }
     stand
 }
 
 // What stands is opened, with the record of a console that has taken nothing.
-fn start(image: &mut [u8], layout: Layout, trace: &mut [u64]) -> Stand {
+fn start(rt: &impl Print, image: &mut [u8], layout: Layout, trace: &mut [u64]) -> Stand {
     let mut clients = [[layout.backups, layout.backups, 0]];
     let answer = driver::step_open(
         image,
@@ -543,7 +558,7 @@ fn start(image: &mut [u8], layout: Layout, trace: &mut [u64]) -> Stand {
         &mut clients,
         trace,
     );
-    print_answer(b" open=", answer);
+    print_answer(rt, b" open=", answer);
     let session = answer.session;
     let client = clients[0];
     Stand {
@@ -555,125 +570,131 @@ fn start(image: &mut [u8], layout: Layout, trace: &mut [u64]) -> Stand {
 // ---- the other cases
 
 // Lays out an image of any length with the history's sizes.
-fn lay_out(image: &mut [u8]) {
-    print_number(b" length=", image.len() as u64);
+fn lay_out(rt: &impl Print, image: &mut [u8]) {
+    print_number(rt, b" length=", image.len() as u64);
     let status = format::crpm_format(image, MAINS, BACKUPS, BLOCKS);
-    print_number(b" lay=", status.code());
+    print_number(rt, b" lay=", status.code());
 }
 
 // P1: the lengths of images.
-fn p1_lengths() {
+fn p1_lengths(rt: &impl Print) {
     let image = places::image_size(Layout::new(MAINS, BACKUPS, BLOCKS));
     let largest = places::image_size(Layout::new(Layout::MOST, Layout::MOST, Layout::MOST));
-    print_number(b"P1 image=", image as u64);
-    print_number(b" largest=", largest as u64);
+    print_number(rt, b"P1 image=", image as u64);
+    print_number(rt, b" largest=", largest as u64);
 }
 
 // P1: a size out of range.
-fn p1_size() {
+fn p1_size(rt: &impl Print) {
     let mut image = [7u8; IMAGE];
     let status = format::crpm_format(&mut image, Layout::MOST + 1, BACKUPS, BLOCKS);
-    print_number(b" mains=65 lay=", status.code());
-    print(b"\n");
+    print_number(rt, b" mains=65 lay=", status.code());
+    print(rt, b"\n");
 }
 
 // P1: the lengths of images, other lengths, and a size out of range.
-fn p1() {
+fn p1(rt: &impl Print) {
     let mut shorter = [7u8; IMAGE - 1];
     let mut fitting = [7u8; IMAGE];
     let mut longer = [7u8; IMAGE + 1];
-    p1_lengths();
-    lay_out(&mut shorter);
-    lay_out(&mut fitting);
-    lay_out(&mut longer);
-    p1_size();
+    p1_lengths(rt);
+    lay_out(rt, &mut shorter);
+    lay_out(rt, &mut fitting);
+    lay_out(rt, &mut longer);
+    p1_size(rt);
 }
 
 // A fresh opening with a tape.
-fn open(image: &mut [u8], layout: Layout, trace: &mut [u64]) -> Stand {
+fn open(rt: &impl Print, image: &mut [u8], layout: Layout, trace: &mut [u64]) -> Stand {
     format::crpm_format(image, layout.mains, layout.backups, layout.blocks);
-    print_number(b" tape=", trace.len() as u64);
-    start(image, layout, trace)
+    print_number(rt, b" tape=", trace.len() as u64);
+    start(rt, image, layout, trace)
 }
 
 // P2: a tape too short by one, and one that is just long enough.
-fn p2(image: &mut [u8]) -> Stand {
+fn p2(rt: &impl Print, image: &mut [u8]) -> Stand {
     let mut short = [0u64; OPENING - 1];
     let mut fitting = [0u64; OPENING];
     let layout = Layout::new(MAINS, BACKUPS, BLOCKS);
-    print(b"P2");
-    open(image, layout, &mut short);
-    let stand = open(image, layout, &mut fitting);
-    print(b"\n");
+    print(rt, b"P2");
+    open(rt, image, layout, &mut short);
+    let stand = open(rt, image, layout, &mut fitting);
+    print(rt, b"\n");
     stand
 }
 
 // P10: before the last call of its history the level is paired, in state 1 and untouched, with one mark.
-fn p10() {
+fn p10(rt: &impl Print) {
     let mut image = [7u8; IMAGE_LONG];
     let mut trace = [0u64; TAPE];
-    print(b"P10");
-    let stand = open(&mut image, Layout::new(1, 1, 4), &mut trace);
-    print(b"\n");
-    history(&mut image, &mut trace, stand, 11, 16);
+    print(rt, b"P10");
+    let stand = open(rt, &mut image, Layout::new(1, 1, 4), &mut trace);
+    print(rt, b"\n");
+    history(rt, &mut image, &mut trace, stand, 11, 16);
 }
 
 // ---- the restart
 
 // What stands is opened and looked at.
-fn reopen(image: &mut [u8], layout: Layout, trace: &mut [u64], case: u64) -> Stand {
-    let stand = start(image, layout, trace);
-    print_image(image, layout, case);
+fn reopen(
+    rt: &impl Print,
+    image: &mut [u8],
+    layout: Layout,
+    trace: &mut [u64],
+    case: u64,
+) -> Stand {
+    let stand = start(rt, image, layout, trace);
+    print_image(rt, image, layout, case);
     stand
 }
 
 // The save of R5 cut after n orders, every store of which has arrived. What stands is opened, then come a save (R6) and the write of
 // R7. A cut after 16 or 17 may leave the epoch's line as it was too, which is what a cut after 15 leaves.
-fn cut(before: [u8; BOARD], layout: Layout, saved: &[u64], n: u64) {
+fn cut(rt: &impl Print, before: [u8; BOARD], layout: Layout, saved: &[u64], n: u64) {
     let mut image = before;
     let mut trace = [0u64; TAPE];
     let played = replay::crpm_replay(&mut image, saved, n);
-    print_number(b"R5 cut=", played.played);
-    let stand = reopen(&mut image, layout, &mut trace, 15);
-    history(&mut image, &mut trace, stand, 29, 31);
+    print_number(rt, b"R5 cut=", played.played);
+    let stand = reopen(rt, &mut image, layout, &mut trace, 15);
+    history(rt, &mut image, &mut trace, stand, 29, 31);
 }
 
 // R3 to R7: the calls after the restart, and the cuts of their save.
-fn restarted(opened: [u8; BOARD], layout: Layout, stand: Stand) {
+fn restarted(rt: &impl Print, opened: [u8; BOARD], layout: Layout, stand: Stand) {
     let mut image = opened;
     let mut trace = [0u64; TAPE];
-    let touched = history(&mut image, &mut trace, stand, 26, 28);
+    let touched = history(rt, &mut image, &mut trace, stand, 26, 28);
     let before = image;
-    let saved = history(&mut image, &mut trace, touched, 28, 29);
-    cut(before, layout, &trace, 15);
-    cut(before, layout, &trace, 16);
-    history(&mut image, &mut trace, saved, 30, 31);
+    let saved = history(rt, &mut image, &mut trace, touched, 28, 29);
+    cut(rt, before, layout, &trace, 15);
+    cut(rt, before, layout, &trace, 16);
+    history(rt, &mut image, &mut trace, saved, 30, 31);
 }
 
 // R1: a save, and writes after it that take every spare; then power fails, and every store has arrived. R2 opens what stands.
-fn restart() {
+fn restart(rt: &impl Print) {
     let layout = Layout::new(BOARD_MAINS, BOARD_BACKUPS, BLOCKS);
     let mut image = [7u8; BOARD];
     let mut trace = [0u64; TAPE];
-    print(b"R1");
-    let stand = open(&mut image, layout, &mut trace);
-    print(b"\n");
-    history(&mut image, &mut trace, stand, 16, 26);
-    print(b"R2");
-    let restored = reopen(&mut image, layout, &mut trace, 12);
-    restarted(image, layout, restored);
+    print(rt, b"R1");
+    let stand = open(rt, &mut image, layout, &mut trace);
+    print(rt, b"\n");
+    history(rt, &mut image, &mut trace, stand, 16, 26);
+    print(rt, b"R2");
+    let restored = reopen(rt, &mut image, layout, &mut trace, 12);
+    restarted(rt, image, layout, restored);
 }
 
 // ---- the long writes
 
 // The save of L3 cut after n orders, every store of which has arrived; what stands is opened and read. A cut after 24 or 25 may leave the
 // epoch's line as it was too, which is what a cut after 23 leaves.
-fn cut_long(before: [u8; IMAGE_LONG], layout: Layout, saved: &[u64], n: u64) {
+fn cut_long(rt: &impl Print, before: [u8; IMAGE_LONG], layout: Layout, saved: &[u64], n: u64) {
     let mut image = before;
     let mut trace = [0u64; TAPE];
     let played = replay::crpm_replay(&mut image, saved, n);
-    print_number(b"L3 cut=", played.played);
-    reopen(&mut image, layout, &mut trace, 20);
+    print_number(rt, b"L3 cut=", played.played);
+    reopen(rt, &mut image, layout, &mut trace, 20);
 }
 
 // Both reads give L2's bytes back, and zeros around them, where the write of L4 was cut after n orders, every store of which has
@@ -713,83 +734,83 @@ fn cuts_kept(before: [u8; IMAGE_LONG], layout: Layout, written: &[u64]) -> u64 {
 }
 
 // L4 to L7: the calls after the save of L3, and the cuts of their first write.
-fn long_again(saved: [u8; IMAGE_LONG], layout: Layout, stand: Stand) {
+fn long_again(rt: &impl Print, saved: [u8; IMAGE_LONG], layout: Layout, stand: Stand) {
     let mut image = saved;
     let mut trace = [0u64; TAPE];
-    let touched = history(&mut image, &mut trace, stand, 33, 34);
-    print_number(b"L4 cuts=240 shown=", cuts_kept(saved, layout, &trace));
-    print(b"\n");
-    history(&mut image, &mut trace, touched, 34, 40);
+    let touched = history(rt, &mut image, &mut trace, stand, 33, 34);
+    print_number(rt, b"L4 cuts=240 shown=", cuts_kept(saved, layout, &trace));
+    print(rt, b"\n");
+    history(rt, &mut image, &mut trace, touched, 34, 40);
 }
 
 // L3: the save and its cuts; and what follows.
-fn long_saved(written: [u8; IMAGE_LONG], layout: Layout, stand: Stand) {
+fn long_saved(rt: &impl Print, written: [u8; IMAGE_LONG], layout: Layout, stand: Stand) {
     let mut image = written;
     let mut trace = [0u64; TAPE];
-    let saved = history(&mut image, &mut trace, stand, 32, 33);
-    cut_long(written, layout, &trace, 23);
-    cut_long(written, layout, &trace, 24);
-    cut_long(written, layout, &trace, 25);
-    cut_long(written, layout, &trace, 26);
-    long_again(image, layout, saved);
+    let saved = history(rt, &mut image, &mut trace, stand, 32, 33);
+    cut_long(rt, written, layout, &trace, 23);
+    cut_long(rt, written, layout, &trace, 24);
+    cut_long(rt, written, layout, &trace, 25);
+    cut_long(rt, written, layout, &trace, 26);
+    long_again(rt, image, layout, saved);
 }
 
 // L1 and L2; and what follows.
-fn long() {
+fn long(rt: &impl Print) {
     let layout = Layout::new(1, 1, 4);
     let mut image = [7u8; IMAGE_LONG];
     let mut trace = [0u64; TAPE];
-    print(b"L1");
-    let stand = open(&mut image, layout, &mut trace);
-    print(b"\n");
-    let touched = history(&mut image, &mut trace, stand, 31, 32);
-    long_saved(image, layout, touched);
+    print(rt, b"L1");
+    let stand = open(rt, &mut image, layout, &mut trace);
+    print(rt, b"\n");
+    let touched = history(rt, &mut image, &mut trace, stand, 31, 32);
+    long_saved(rt, image, layout, touched);
 }
 
 // ---- the dropped edits
 
 // The drop of D5 cut after n orders, every store of which has arrived; what stands is opened and read.
-fn cut_drop(before: [u8; IMAGE], layout: Layout, dropped: &[u64], n: u64) {
+fn cut_drop(rt: &impl Print, before: [u8; IMAGE], layout: Layout, dropped: &[u64], n: u64) {
     let mut image = before;
     let mut trace = [0u64; TAPE];
     let played = replay::crpm_replay(&mut image, dropped, n);
-    print_number(b"D5 cut=", played.played);
-    reopen(&mut image, layout, &mut trace, 29);
+    print_number(rt, b"D5 cut=", played.played);
+    reopen(rt, &mut image, layout, &mut trace, 29);
 }
 
 // D5 to D11: the drops, cuts of the first of them, the save, and an opening of what it left.
-fn drops(edited: [u8; IMAGE], layout: Layout, stand: Stand) {
+fn drops(rt: &impl Print, edited: [u8; IMAGE], layout: Layout, stand: Stand) {
     let mut image = edited;
     let mut trace = [0u64; TAPE];
-    let dropped = history(&mut image, &mut trace, stand, 44, 45);
-    cut_drop(edited, layout, &trace, 0);
-    cut_drop(edited, layout, &trace, 1);
-    cut_drop(edited, layout, &trace, 32);
-    history(&mut image, &mut trace, dropped, 45, 50);
-    print(b"D11");
-    reopen(&mut image, layout, &mut trace, 35);
+    let dropped = history(rt, &mut image, &mut trace, stand, 44, 45);
+    cut_drop(rt, edited, layout, &trace, 0);
+    cut_drop(rt, edited, layout, &trace, 1);
+    cut_drop(rt, edited, layout, &trace, 32);
+    history(rt, &mut image, &mut trace, dropped, 45, 50);
+    print(rt, b"D11");
+    reopen(rt, &mut image, layout, &mut trace, 35);
 }
 
 // D1 to D4; and what follows.
-fn edits() {
+fn edits(rt: &impl Print) {
     let layout = Layout::new(MAINS, BACKUPS, BLOCKS);
     let mut image = [7u8; IMAGE];
     let mut trace = [0u64; TAPE];
-    print(b"D1");
-    let stand = open(&mut image, layout, &mut trace);
-    print(b"\n");
-    let touched = history(&mut image, &mut trace, stand, 40, 44);
-    drops(image, layout, touched);
+    print(rt, b"D1");
+    let stand = open(rt, &mut image, layout, &mut trace);
+    print(rt, b"\n");
+    let touched = history(rt, &mut image, &mut trace, stand, 40, 44);
+    drops(rt, image, layout, touched);
 }
 
-fn main() {
+fn main(rt: HostRuntime) {
     let mut image = [7u8; IMAGE];
     let mut trace = [0u64; TAPE];
-    p1();
-    let stand = p2(&mut image);
-    history(&mut image, &mut trace, stand, 0, 11);
-    p10();
-    restart();
-    long();
-    edits();
+    p1(&rt);
+    let stand = p2(&rt, &mut image);
+    history(&rt, &mut image, &mut trace, stand, 0, 11);
+    p10(&rt);
+    restart(&rt);
+    long(&rt);
+    edits(&rt);
 }

@@ -28,7 +28,6 @@ ghost use Rattle.model.specs.Checkpoint.{checkpoint_outcome};
 ghost use Rattle.model.specs.Replay.{replay_outcome};
 
 use lends::Lend;
-use libc::STDOUT_FILENO;
 use model::{Client, Layout, Session};
 
 // The board's sizes: three levels, two spares, one frame each; and the bytes of its image.
@@ -49,36 +48,36 @@ const BYTES: [u8; 1] = [0xa1];
 // ---- printed lines
 
 // Prints bytes as they are.
-fn print(bytes: &[u8]) {
-    io::write_all(STDOUT_FILENO, bytes);
+fn print(rt: &impl Print, bytes: &[u8]) {
+    let _ = rt.write_all(bytes);
 }
 
 // Prints a name and a number.
-fn print_number(name: &[u8], n: u64) {
-    print(name);
-    io::print_decimal(STDOUT_FILENO, n);
+fn print_number(rt: &impl Print, name: &[u8], n: u64) {
+    print(rt, name);
+    let _ = rt.print(n);
 }
 
 // Prints how a call ended, how many orders it reports, and how many spares each console has taken.
-fn print_lend(name: &[u8], lend: Lend) {
+fn print_lend(rt: &impl Print, name: &[u8], lend: Lend) {
     let answer = lend.answer;
     let status = answer.status;
     let clients = lend.clients;
-    print_number(name, status.code());
-    print_number(b" orders=", answer.ops);
-    print_number(b" taken=", clients[0].used);
-    print_number(b",", clients[1].used);
+    print_number(rt, name, status.code());
+    print_number(rt, b" orders=", answer.ops);
+    print_number(rt, b" taken=", clients[0].used);
+    print_number(rt, b",", clients[1].used);
 }
 
 // Prints the states of the three levels on the active line, and the pairs of the two spares.
-fn print_board(image: &[u8]) {
+fn print_board(rt: &impl Print, image: &[u8]) {
     let line = active_line(image);
-    print_number(b" states=", byte_at(image, line));
-    print_number(b",", byte_at(image, line + 1));
-    print_number(b",", byte_at(image, line + 2));
-    print_number(b" pairs=", byte_at(image, 256));
-    print_number(b",", byte_at(image, 257));
-    print(b"\n");
+    print_number(rt, b" states=", byte_at(image, line));
+    print_number(rt, b",", byte_at(image, line + 1));
+    print_number(rt, b",", byte_at(image, line + 2));
+    print_number(rt, b" pairs=", byte_at(image, 256));
+    print_number(rt, b",", byte_at(image, 257));
+    print(rt, b"\n");
 }
 
 // ---- small parts
@@ -219,6 +218,7 @@ fn call_of(row: [u64; 3]) -> Call
 
 // Makes a call with the card and the records that the last one left, plays its orders and prints its answer.
 fn make(
+    rt: &impl Print,
     image: &mut [u8],
     session: Session,
     clients: [Client; lends::LENT],
@@ -229,30 +229,30 @@ fn make(
 {
     if call.kind == 0 {
         let opened = play_open(image, clients, trace);
-        print_lend(b" open=", opened);
+        print_lend(rt, b" open=", opened);
         return opened;
     }
     if call.kind == 2 {
         let saved = play_save(image, session, clients, trace);
-        print_lend(b" save=", saved);
+        print_lend(rt, b" save=", saved);
         return saved;
     }
-    print_number(b" console=", call.console);
-    print_number(b" level=", call.level);
+    print_number(rt, b" console=", call.console);
+    print_number(rt, b" level=", call.level);
     let written = play_write(image, session, clients, call.console, call.level, trace);
-    print_lend(b" write=", written);
+    print_lend(rt, b" write=", written);
     written
 }
 
 // C1 to C21: each call is lent the records that the last one left. The card afterwards.
-fn history(image: &mut [u8], trace: &mut [u64]) -> Session {
+fn history(rt: &impl Print, image: &mut [u8], trace: &mut [u64]) -> Session {
     let mut session = Session::fresh(Layout::new(MAINS, BACKUPS, BLOCKS), Session::ADR);
     let mut clients = records(1, 2);
     let mut i = 0;
     while i < COUNT {
-        print_number(b"C", i as u64 + 1);
-        let lend = make(image, session, clients, trace, call_of(CALLS[i]));
-        print_board(image);
+        print_number(rt, b"C", i as u64 + 1);
+        let lend = make(rt, image, session, clients, trace, call_of(CALLS[i]));
+        print_board(rt, image);
         let answer = lend.answer;
         session = answer.session;
         clients = lend.clients;
@@ -262,17 +262,17 @@ fn history(image: &mut [u8], trace: &mut [u64]) -> Session {
 }
 
 // C22: a save with records of which one has a share above its limit.
-fn bad_share(image: &mut [u8], session: Session, trace: &mut [u64]) {
+fn bad_share(rt: &impl Print, image: &mut [u8], session: Session, trace: &mut [u64]) {
     let lend = play_save(image, session, records(1, 0), trace);
-    print(b"C22 share=1 limit=0");
-    print_lend(b" save=", lend);
-    print_board(image);
+    print(rt, b"C22 share=1 limit=0");
+    print_lend(rt, b" save=", lend);
+    print_board(rt, image);
 }
 
-fn main() {
+fn main(rt: HostRuntime) {
     let mut image = [7u8; IMAGE];
     let mut trace = [0u64; TAPE];
     format::crpm_format(&mut image, MAINS, BACKUPS, BLOCKS);
-    let session = history(&mut image, &mut trace);
-    bad_share(&mut image, session, &mut trace);
+    let session = history(&rt, &mut image, &mut trace);
+    bad_share(&rt, &mut image, session, &mut trace);
 }

@@ -4,16 +4,18 @@
 
 #![tactic(auto)]
 
+use std::io;
+
 // One byte more than a sheet may have, so that a longer one is seen.
 const BUFFER_SIZE: usize = parser::MOST_BYTES + 1;
 
-fn main() {
+fn main(rt: HostRuntime) -> io::Result<()> {
     let mut buffer = [0u8; BUFFER_SIZE];
-    let input = stdin::read_input(&mut buffer);
+    let input = stdin::read_input(&mut rt.stdin(), &mut buffer);
     if input.failed {
-        return;
+        return Ok(());
     }
     let mut out = [0u8; parser::MOST_BYTES];
     let end = upgrade::upgrade_sheet(&buffer[..input.count], &mut out);
-    io::write_all(1, &out[..end]);
+    rt.write_all(&out[..end])
 }
