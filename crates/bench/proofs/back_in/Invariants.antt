@@ -1,6 +1,5 @@
-use Prim.Native.Nat.{◌-◌, ◌≤◌}
-use lib.ListN.{length}
-use borrow.Author.Rules.{rules}
+-- Every byte of the part is looked at once.
+use Rattle.std.proofs.Common.{length, ◌-◌, ◌≤◌}
 use Rattle.bench.proofs.back_in.Given as goal
 
 abbrev pub invariant-loop-i : goal.invariant-loop-i

@@ -1,5 +1,5 @@
-use Prim.Native.Nat.{◌-◌, ◌≤◌}
-use borrow.Author.Rules.{rules}
+-- The numbers of orders from 0 to 239.
+use Rattle.std.proofs.Common.{◌-◌, ◌≤◌}
 use Rattle.bench.proofs.cuts_kept.Given as goal
 
 abbrev pub invariant-loop-n : goal.invariant-loop-n

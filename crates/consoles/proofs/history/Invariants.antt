@@ -1,13 +1,9 @@
-use Prim.Native.Nat.{◌-◌}
-use mathlib.Core.Path.{◌≡◌}
-use lib.ListN.{length}
-use borrow.Author.Rules.{rules}
+-- One call of the table after the other.
+use Rattle.std.proofs.Common.{length, ◌-◌, ◌≡◌}
 use Rattle.consoles.proofs.history.Given as goal
 
--- PARAMS ['image₀', 'trace₀', 'session₀', 'clients₀', 'i₀', 't8', 'image', 'trace', 'session', 'clients', 'i'] VARS ['image', 'trace', 'session', 'clients', 'i'] [True, True, True, True, True]
 abbrev pub invariant-loop-i : goal.invariant-loop-i
-invariant-loop-i l = (length l.trace ≡ length l.initial.image) × (length l.session ≡ length l.initial.trace)
+invariant-loop-i g l = (length l.image ≡ length l.initial.image) × (length l.trace ≡ length l.initial.trace)
 
--- PARAMS ['image₀', 'trace₀', 'session₀', 'clients₀', 'i₀', 't8', 'image', 'trace', 'session', 'clients', 'i'] VARS ['image', 'trace', 'session', 'clients', 'i'] [True, True, True, True, True]
 abbrev pub decreases-loop-i : goal.decreases-loop-i
-decreases-loop-i l = 21 - i
+decreases-loop-i g l = 21 - l.i
