@@ -1,6 +1,6 @@
 -- Laws of the bits of a word as the code shifts and masks them: one bit, the bits from one on, the lowest bit that is set.
 use Prim.Native.Nat.{ℕ, zero, suc, ◌+◌, ◌-◌, ◌*◌, ◌^◌, ◌/◌, ◌%◌, ◌≤◌, ◌<◌, min}
-use mathlib.Core.Path.{◌≡◌, refl, sym, ap, ◌∙◌, subst}
+use mathlib.Core.Path.{◌≡◌, refl, sym, ap, ◌∙◌}
 use mathlib.Core.Logic.{◌≢◌}
 use native.Mathlib.Omega.{arith}
 use native.Mathlib.Decide.{dec_lt}
@@ -8,7 +8,7 @@ use native.Mathlib.Nat.{one-mul, pow-suc, div-eq_of_lt, div-lt_iff_lt-mul}
 use lib.Bits.{bit_and, and_mask, and_self, and_step}
 use lib.Count.{count_trailing_zeros, under}
 use lib.Dec.{eqb, ltb}
-use lib.Pow.{pow_pos, pow-add, pow_mono, shl_exact, shr-shr}
+use lib.Pow.{pow_pos, pow_mono, shl_exact, shr-shr}
 use borrow.Author.Tests.{lt-ltb, le-ltb, eq-eqb, ne_eqb}
 use Rattle.model.specs.Session.{bit}
 use Rattle.model.proofs.Laws.Session.{bits_below}

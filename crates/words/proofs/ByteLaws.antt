@@ -2,7 +2,7 @@
 -- code's words of eight bits, of the bytes that are not 0, and of one byte eight times; the lowest place of a byte.
 use Prim.Native.Nat.{ℕ, zero, suc, ◌+◌, ◌-◌, ◌*◌, ◌/◌, ◌%◌, ◌^◌, ◌≤◌, ◌<◌}
 use mathlib.Core.Path.{◌≡◌, refl, sym, ap, ap₂, ◌∙◌}
-use mathlib.Core.Bool.{Bool, true, false, not, cond}
+use mathlib.Core.Bool.{Bool, true, false, cond}
 use native.Mathlib.Omega.{arith}
 use native.Mathlib.Decide.{ℕ_discrete, dec_lt}
 use native.Mathlib.Nat.{zero-add, zero-mul, mul-one, suc-add}
@@ -11,10 +11,10 @@ use lib.Count.{count_trailing_zeros, under}
 use lib.Dec.{eqb}
 use lib.Pow.{field, mod-mod-pow, pow-add, pow-lt, pow_pos, shr-shr}
 use borrow.Author.Tests.{lt-ltb, le-ltb, eqb-true, eq-eqb, ne_eqb}
-use Rattle.model.specs.Range.{all_b, any_b, or_next, first_b, one_if}
+use Rattle.model.specs.Range.{all_b, or_next, first_b, one_if}
 use Rattle.model.specs.Words.{little_endian, word_of}
 use Rattle.model.specs.Session.{bit}
-use Rattle.model.proofs.Laws.Range.{all_at, any_none, first_some, first_ext}
+use Rattle.model.proofs.Laws.Range.{all_at, first_ext}
 use Rattle.model.proofs.Laws.Session.{bit_lt}
 use Rattle.model.proofs.Laws.Words.{word_moved, word_cong}
 

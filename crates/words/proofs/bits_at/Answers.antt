@@ -1,4 +1,3 @@
-use borrow.Author.Rules.{rules}
 use mathlib.Core.Path.{◌∙◌}
 use Rattle.words.proofs.ByteLaws.{bit_small, bits_as_bytes}
 use Rattle.words.proofs.bits_at.Goals as goal

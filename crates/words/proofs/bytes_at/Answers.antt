@@ -1,4 +1,3 @@
-use borrow.Author.Rules.{rules}
 use Rattle.model.specs.Words.{byte_at}
 use Rattle.words.proofs.WordLaws.{eight_bytes}
 use Rattle.words.proofs.bytes_at.Goals as goal

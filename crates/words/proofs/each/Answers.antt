@@ -1,6 +1,5 @@
 use Prim.Native.Nat.{ℕ}
 use mathlib.Core.Path.{ap, ◌∙◌}
-use borrow.Author.Rules.{rules}
 use Rattle.model.specs.Words.{word_of}
 use Rattle.words.proofs.ByteLaws.{each_byte}
 use Rattle.words.proofs.each.Goals as goal

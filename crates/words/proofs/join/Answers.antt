@@ -1,5 +1,4 @@
 use native.Mathlib.Omega.{arith}
-use borrow.Author.Rules.{rules}
 use Rattle.model.specs.Words.{word_of, little_endian}
 use Rattle.words.proofs.join.Goals as goal
 

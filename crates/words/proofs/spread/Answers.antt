@@ -1,4 +1,3 @@
-use borrow.Author.Rules.{rules}
 use Rattle.words.proofs.ByteLaws.{spread_bits}
 use Rattle.words.proofs.spread.Goals as goal
 

@@ -1,6 +1,5 @@
 use native.Mathlib.Omega.{arith}
 use lib.ListN.{length-set}
-use borrow.Author.Rules.{rules}
 use Rattle.words.proofs.WordLaws.{word_stored}
 use Rattle.words.proofs.store_word.Goals as goal
 

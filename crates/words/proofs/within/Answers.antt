@@ -1,5 +1,4 @@
 use native.Mathlib.Omega.{arith}
-use borrow.Author.Rules.{rules}
 use Rattle.words.proofs.BitLaws.{high_clear}
 use Rattle.words.proofs.within.Goals as goal
 

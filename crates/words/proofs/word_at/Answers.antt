@@ -1,6 +1,5 @@
 use mathlib.Core.Path.{ap, ◌∙◌}
 use native.Mathlib.Nat.{zero-add}
-use borrow.Author.Rules.{rules}
 use Rattle.model.specs.Words.{byte_at}
 use Rattle.model.proofs.Laws.Words.{word_moved}
 use Rattle.words.proofs.word_at.Goals as goal
