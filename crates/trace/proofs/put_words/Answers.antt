@@ -29,10 +29,6 @@ put_store-next-requires c =
     let l = c.loop-k in
     rw c.word_at-word.ensures (fits_each l.k _ _ (omega arith) c.requires.fits l.invariant.1)
 
--- NO GOAL same-length
--- same_length : tie.Need-same-length invariant-loop decreases-loop
--- same_length c = emitted_length c.before.loop.invariant.1
-
 pub returns : goal.returns
 returns c =
     let l = c.loop-k in
