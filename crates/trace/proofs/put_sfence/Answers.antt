@@ -1,4 +1,3 @@
-use borrow.Author.Rules.{rules}
 use Rattle.model.specs.Ops.{encode, for_domain}
 use Rattle.trace.specs.Emit.{emit}
 use Rattle.trace.proofs.put_sfence.Goals as goal

@@ -1,13 +1,7 @@
-use Prim.Native.Nat.{◌-◌, ◌*◌, ◌/◌, ◌≤◌}
-use mathlib.Core.Path.{◌≡◌}
 use native.Mathlib.Omega.{arith}
-use lib.ListN.{length}
 use borrow.Author.Rules.{rules}
-use Rattle.model.specs.Words.{word_at}
-use Rattle.model.specs.Session.{adr}
 use Rattle.model.specs.Ops.{stores}
-use Rattle.trace.specs.Emit.{Emitted}
-use Rattle.trace.proofs.EmitLaws.{emitted_length, emitted_none, fits_each, emitted_each}
+use Rattle.trace.proofs.EmitLaws.{emitted_none, fits_each, emitted_each}
 use Rattle.trace.proofs.put_words.Goals as goal
 
 pub loop-k-init : goal.loop-k-init
@@ -20,17 +14,8 @@ loop-k-preserved c =
     let l = c.loop-k in
     (omega arith, emitted_each l.k _ l.invariant.1 (rw c.word_at-word.ensures at c.put_store-next.ensures))
 
-pub word_at-word-requires : goal.word_at-word-requires
-word_at-word-requires c = omega arith
-
 pub put_store-next-requires : goal.put_store-next-requires
 unfolding stores
 put_store-next-requires c =
     let l = c.loop-k in
     rw c.word_at-word.ensures (fits_each l.k _ _ (omega arith) c.requires.fits l.invariant.1)
-
-pub returns : goal.returns
-returns c =
-    let l = c.loop-k in
-    let e : l.k ≡ length c.args.bytes.now / 8 = omega arith in
-    rw e at l.invariant.1

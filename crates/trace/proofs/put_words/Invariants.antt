@@ -1,13 +1,8 @@
-use Prim.Native.Nat.{◌-◌, ◌*◌, ◌/◌, ◌≤◌}
-use mathlib.Core.Path.{◌≡◌}
-use native.Mathlib.Omega.{arith}
-use lib.ListN.{length}
-use borrow.Author.Rules.{rules}
+use Prim.Native.Nat.{◌-◌, ◌*◌, ◌≤◌}
 use Rattle.model.specs.Words.{word_at}
 use Rattle.model.specs.Session.{adr}
 use Rattle.model.specs.Ops.{stores}
 use Rattle.trace.specs.Emit.{Emitted}
-use Rattle.trace.proofs.EmitLaws.{emitted_length, emitted_none, fits_each, emitted_each}
 use Rattle.trace.proofs.put_words.Given as goal
 
 abbrev pub invariant-loop-k : goal.invariant-loop-k

@@ -1,14 +1,10 @@
 use Prim.Native.Nat.{ℕ, ◌/◌, ◌<◌}
 use mathlib.Core.Path.{ap, ap₂, ◌∙◌}
-use native.Mathlib.Omega.{arith}
 use lib.Bits.{bit_xor, xor_lt}
-use lib.Count.{count_trailing_zeros, trailing_le}
+use lib.Count.{count_trailing_zeros}
 use borrow.Author.Rules.{rules}
 use Rattle.words.proofs.ByteLaws.{each_one, xor_bytes, byte_place}
 use Rattle.words.proofs.first_byte.Goals as goal
-
-pub overflow_cast-result : goal.overflow_cast-result
-overflow_cast-result c = omega (arith, trailing_le 64 (bit_xor c.present-found.result each_one))
 
 pub returns : goal.returns
 returns c f h e =
