@@ -7,10 +7,10 @@ use borrow.Author.Rules.{rules}
 use borrow.Author.Tests.{not-true, not-false}
 use Rattle.blocks.proofs.put_copy.Goals as goal
 
-pub put_words-stored-requires : goal.put_words-stored-requires
-put_words-stored-requires c =
+pub put_words-stored-requires-clause-fits : goal.put_words-stored-requires-clause-fits
+put_words-stored-requires-clause-fits c =
     let room = fits_as (sym (block_words_lem c.args.block.now c.args.to c.args.flush c.requires.block_len)) c.requires.fits in
-    (omega arith, fits_plain (domain_stores _ _ _ _) (fits_first _ room))
+    fits_plain (domain_stores _ _ _ _) (fits_first _ room)
 
 pub returns-then-not-flush : goal.returns-then-not-flush
 returns-then-not-flush c =
@@ -18,12 +18,11 @@ returns-then-not-flush c =
     let none = emitted_unless c.args.flush _ c.if-not-flush.true refl refl in
     emitted_as (emitted_then words none) (block_words_lem c.args.block.now c.args.to c.args.flush c.requires.block_len)
 
-pub put_clwbs-requires : goal.put_clwbs-requires
-put_clwbs-requires c =
+pub put_clwbs-requires-clause-fits : goal.put_clwbs-requires-clause-fits
+put_clwbs-requires-clause-fits c =
     let room = fits_as (sym (block_words_lem c.args.block.now c.args.to c.args.flush c.requires.block_len)) c.requires.fits in
     let words = emitted_plain c.args.domain (domain_stores _ _ _ _) c.put_words-stored.ensures in
-    
-    record { block_size_bound = search rules; fits = fits_if c.args.flush c.if-not-flush.false (fits_then room words) }
+    fits_if c.args.flush c.if-not-flush.false (fits_then room words)
 
 pub returns : goal.returns
 returns c =

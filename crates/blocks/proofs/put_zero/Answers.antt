@@ -7,9 +7,9 @@ use borrow.Author.Rules.{rules}
 use borrow.Author.Tests.{not-true, not-false}
 use Rattle.blocks.proofs.put_zero.Goals as goal
 
-pub put_zeros-next-requires : goal.put_zeros-next-requires
+pub put_zeros-next-requires-clause-fits : goal.put_zeros-next-requires-clause-fits
 unfolding put_block
-put_zeros-next-requires c = (search rules, fits_plain (domain_stores _ _ _ _) (fits_first _ c.requires.fits))
+put_zeros-next-requires-clause-fits c = fits_plain (domain_stores _ _ _ _) (fits_first _ c.requires.fits)
 
 pub returns-then-not-flush : goal.returns-then-not-flush
 unfolding put_block
@@ -17,12 +17,11 @@ returns-then-not-flush c =
     let g = c.args in
     emitted_then (emitted_plain g.domain (domain_stores _ _ _ _) c.put_zeros-next.ensures) (emitted_unless g.flush (clwbs block_lines g.to) c.if-not-flush.true refl refl)
 
-pub put_clwbs-requires : goal.put_clwbs-requires
+pub put_clwbs-requires-clause-fits : goal.put_clwbs-requires-clause-fits
 unfolding put_block
-put_clwbs-requires c =
+put_clwbs-requires-clause-fits c =
     let zeros = emitted_plain c.args.domain (domain_stores _ _ _ _) c.put_zeros-next.ensures in
-    
-    record { block_size_bound = search rules; fits = fits_if c.args.flush c.if-not-flush.false (fits_then c.requires.fits zeros) }
+    fits_if c.args.flush c.if-not-flush.false (fits_then c.requires.fits zeros)
 
 pub returns : goal.returns
 unfolding put_block
