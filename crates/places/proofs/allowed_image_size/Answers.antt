@@ -5,12 +5,6 @@ use Rattle.model.specs.Layout.{image_size}
 use Rattle.places.proofs.PlaceLaws.{image_bound}
 use Rattle.places.proofs.allowed_image_size.Goals as goal
 
-pub overflow_mul-result-2 : goal.overflow_mul-result-2
-overflow_mul-result-2 c = let l = c.args.layout in omega (arith, image_bound l.blocks (l.mains + l.backups) (omega arith) (omega arith))
-
-pub overflow_add-result-2 : goal.overflow_add-result-2
-overflow_add-result-2 c = let l = c.args.layout in omega (arith, image_bound l.blocks (l.mains + l.backups) (omega arith) (omega arith))
-
 pub returns : goal.returns
 unfolding image_size
 returns c = let l = c.args.layout in omega (arith, image_bound l.blocks (l.mains + l.backups) (omega arith) (omega arith))

@@ -5,13 +5,5 @@ use borrow.Author.Rules.{rules}
 use Rattle.model.proofs.Laws.Container.{sizes_ok_lem}
 use Rattle.places.proofs.image_size.Goals as goal
 
-pub returns-then-not-sizes_ok : goal.returns-then-not-sizes_ok
-returns-then-not-sizes_ok c = let e = sym c.sizes_ok.ensures ∙ c.if-not-sizes_ok.true in rw e (omega arith)
-
 pub allowed_image_size-requires : goal.allowed_image_size-requires
 allowed_image_size-requires c = let s = (sizes_ok_lem _).0 (sym c.sizes_ok.ensures ∙ c.if-not-sizes_ok.false) in omega arith
-
-pub returns : goal.returns
-returns c =
-    let e = sym c.sizes_ok.ensures ∙ c.if-not-sizes_ok.false in
-    rw e (c.allowed_image_size.ensures.0, omega arith)

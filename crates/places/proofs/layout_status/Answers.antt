@@ -25,13 +25,13 @@ header_ok-requires c =
 pub returns-then-not-header_ok : goal.returns-then-not-header_ok
 returns-then-not-header_ok c =
     let g = c.args in
-    first_holds 3 _ _ (ap not (sym c.header_ok.ensures) ∙ c.if-not-header_ok.true)
+    first_holds 3 _ _ (ap not (sym c.header_ok.ensures ∙ c.if-not-header_ok.true))
     ∙ sym (stage_passed _ (size_errors g.layout g.image.now) ((3, not (header_ok g.layout g.image.now)) ∷ []) (omega arith) c.size_status-status.ensures
     (sym c.is_served.ensures ∙ c.if-not-is_served.false))
 
 pub returns : goal.returns
 returns c =
     let g = c.args in
-    first_fails 3 _ _ _ (ap not (sym c.header_ok.ensures) ∙ c.if-not-header_ok.false) first_of_none
+    first_fails 3 _ _ _ (ap not (sym c.header_ok.ensures ∙ c.if-not-header_ok.false)) first_of_none
     ∙ sym (stage_passed _ (size_errors g.layout g.image.now) ((3, not (header_ok g.layout g.image.now)) ∷ []) (omega arith) c.size_status-status.ensures
     (sym c.is_served.ensures ∙ c.if-not-is_served.false))
