@@ -12,11 +12,8 @@ use Rattle.model.specs.Container.{seg_state}
 use Rattle.model.specs.Range.{sum_to, one_if}
 use Rattle.model.specs.FreeBackups.{mains_in_backup}
 use Rattle.model.proofs.Laws.Range.{sum_none, sum_more, one-most}
+use Rattle.metadata.proofs.count_in_backup.Invariants.{turn}
 use Rattle.metadata.proofs.count_in_backup.Goals as goal
-
--- 1 if main segment i is in state 2, else 0
-abbrev turn : Image → ℕ → ℕ → ℕ
-turn image line i = one_if (eqb (seg_state image line i) ss_backup)
 
 -- a test as a number
 as_number : (b : Bool) → bool_byte b ≡ one_if b

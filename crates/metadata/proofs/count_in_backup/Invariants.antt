@@ -14,6 +14,10 @@ use Rattle.model.specs.FreeBackups.{mains_in_backup}
 use Rattle.model.proofs.Laws.Range.{sum_none, sum_more, one-most}
 use Rattle.metadata.proofs.count_in_backup.Given as goal
 
+-- 1 if main segment i is in state 2, else 0
+abbrev pub turn : Image → ℕ → ℕ → ℕ
+turn image line i = one_if (eqb (seg_state image line i) ss_backup)
+
 abbrev pub invariant-loop-i : goal.invariant-loop-i
 invariant-loop-i l = (l.i ≤ l.mains) × (l.sum ≡ sum_to l.i (turn l.image l.line)) × (l.sum ≤ l.i)
 

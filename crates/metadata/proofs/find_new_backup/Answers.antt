@@ -16,7 +16,7 @@ find_unused_backup-requires c =
     let l = c.args.layout in
     let I = c.args.image.now in
     let m = found_missing _ _ (sym c.in-Missing.is ∙ c.find_paired_backup-alone.ensures) in
-    
+
     record { backups_le_most = omega arith; by_index = λ j h. omega (arith, none_alone l (active_state I) (backup_to_main I) c.requires.valid m j h) }
 
 pub returns-in-Missing : goal.returns-in-Missing
@@ -26,7 +26,7 @@ returns-in-Missing c =
     let st = active_state I in
     let pr = backup_to_main I in
     let m = found_missing _ _ (sym c.in-Missing.is ∙ c.find_paired_backup-alone.ensures) in
-    let a : c.line_at_lem.result ≡ active_line I = c.line_at_lem.ensures.0 ∙ ap (λ (e : ℕ). state_line e) (zero-add _) in
+    let a : c.line_at.result ≡ active_line I = c.line_at.ensures.0 ∙ ap (λ (e : ℕ). state_line e) (zero-add _) in
     c.find_unused_backup.ensures ∙ ap (λ (n : ℕ). found_below l.backups (first_b l.backups (λ j. eqb (seg_state I n (pr j)) ss_main))) a
     ∙ ap (found_below l.backups) (sym (second_search l st pr m))
 

@@ -12,9 +12,6 @@ use Rattle.metadata.specs.Find.{found_below}
 use Rattle.metadata.proofs.FindLaws.{found_none, none_before, found_in_word, pairs_word}
 use Rattle.metadata.proofs.find_paired_backup.Goals as goal
 
-pub loop-j-init : goal.loop-j-init
-loop-j-init c = (search rules, below_none _)
-
 pub returns-then-k-lt-WORD_SIZE : goal.returns-then-k-lt-WORD_SIZE
 unfolding paired_backup
 returns-then-k-lt-WORD_SIZE c =

@@ -11,22 +11,11 @@ use Rattle.model.specs.Container.{backup_to_main, seg_state}
 use Rattle.metadata.proofs.FindLaws.{found_at, found_none}
 use Rattle.metadata.proofs.find_unused_backup.Goals as goal
 
-pub loop-j-init : goal.loop-j-init
-loop-j-init c = (search rules, below_none _)
-
-pub paired_state-requires : goal.paired_state-requires
-paired_state-requires c =
-    omega (arith, c.requires.by_index c.loop-j.j (omega arith))
-
 pub returns-then-paired_state-eq-SS_MAIN : goal.returns-then-paired_state-eq-SS_MAIN
 returns-then-paired_state-eq-SS_MAIN c =
     let l = c.loop-j-test.true in
     let one : c.paired_state.result ≡ 1 = c.if-paired_state-eq-SS_MAIN.true in
     found_at _ _ _ l (first_found _ _ c.loop-j.j l c.loop-j.invariant.1 (eq-eqb _ _ (sym c.paired_state.ensures ∙ one)))
-
-pub loop-j-preserved : goal.loop-j-preserved
-loop-j-preserved c =
-    (omega arith, below_more _ _ c.loop-j.invariant.1 (ne_eqb _ _ (λ e. c.if-paired_state-eq-SS_MAIN.false (c.paired_state.ensures ∙ e))))
 
 pub returns : goal.returns
 returns c =

@@ -7,9 +7,6 @@ use Rattle.model.specs.FreeBackups.{mains_in_backup}
 use Rattle.model.proofs.Laws.FreeBackups.{in_use_counted}
 use Rattle.metadata.proofs.free_backups.Goals as goal
 
-pub count_in_backup-requires : goal.count_in_backup-requires
-count_in_backup-requires c = let p = c.requires in (omega (arith, p.0), omega (arith, p.1, c.active_at.ensures.2))
-
 pub overflow_sub-result : goal.overflow_sub-result
 overflow_sub-result c =
     let g = c.args in
