@@ -1,6 +1,5 @@
 use Prim.Native.Nat.{◌+◌}
 use native.Mathlib.Omega.{arith}
-use borrow.Author.Rules.{rules}
 use Rattle.model.specs.Layout.{image_size}
 use Rattle.places.proofs.PlaceLaws.{image_bound}
 use Rattle.places.proofs.allowed_image_size.Goals as goal

@@ -1,7 +1,5 @@
 use mathlib.Core.Path.{◌∙◌, sym}
 use native.Mathlib.Omega.{arith}
-use borrow.Author.Tests.{not-true, not-false}
-use borrow.Author.Rules.{rules}
 use Rattle.model.proofs.Laws.Container.{sizes_ok_lem}
 use Rattle.places.proofs.image_size.Goals as goal
 

@@ -2,8 +2,7 @@ use mathlib.Core.Bool.{not}
 use mathlib.Core.List.{[], ◌∷◌}
 use mathlib.Core.Path.{◌∙◌, sym, ap}
 use native.Mathlib.Omega.{arith}
-use borrow.Author.Tests.{eqb-true, not-true, not-false}
-use borrow.Author.Rules.{rules}
+use borrow.Author.Tests.{eqb-true}
 use Rattle.model.specs.Container.{header_ok, size_errors}
 use Rattle.model.proofs.Laws.Layout.{metadata_inside}
 use Rattle.model.proofs.Laws.Status.{first_holds, first_fails, first_of_none, stage_refused, stage_passed}

@@ -2,8 +2,7 @@ use mathlib.Core.Path.{◌∙◌, sym}
 use mathlib.Core.List.{[]}
 use native.Mathlib.Omega.{arith}
 use lib.Dec.{leb}
-use borrow.Author.Tests.{le-leb, lt-leb, not-true, not-false}
-use borrow.Author.Rules.{rules}
+use borrow.Author.Tests.{le-leb, lt-leb}
 use Rattle.model.specs.Container.{main_errors, block_errors}
 use Rattle.model.proofs.Laws.Status.{first_holds, first_fails, first_of_none, stage_refused, stage_passed}
 use Rattle.places.proofs.place_status.Goals as goal

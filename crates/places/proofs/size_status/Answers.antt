@@ -4,8 +4,7 @@ use mathlib.Core.Path.{◌∙◌, sym, ap}
 use native.Mathlib.Omega.{arith}
 use lib.Dec.{eqb}
 use lib.ListN.{length}
-use borrow.Author.Tests.{eq-eqb, ne_eqb, not-false}
-use borrow.Author.Rules.{rules}
+use borrow.Author.Tests.{eq-eqb, ne_eqb}
 use Rattle.model.specs.Layout.{sizes_ok, image_size}
 use Rattle.model.proofs.Laws.Container.{sizes_ok_lem}
 use Rattle.model.proofs.Laws.Status.{first_holds, first_fails, first_of_none}

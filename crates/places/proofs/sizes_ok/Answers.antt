@@ -1,6 +1,5 @@
 use mathlib.Core.Path.{ap₂}
 use mathlib.Core.Bool.{◌&&◌}
-use borrow.Author.Rules.{rules}
 use Rattle.model.specs.Layout.{sizes_ok}
 use Rattle.places.proofs.sizes_ok.Goals as goal
 
