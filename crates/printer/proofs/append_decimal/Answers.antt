@@ -1,23 +1,9 @@
-use Prim.Native.Nat.{ℕ, ◌+◌}
-use mathlib.Core.Path.{◌≡◌, ap, ◌∙◌}
-use mathlib.Core.List.{List}
-use native.Mathlib.Omega.{arith}
-use lib.ListN.{length}
-use borrow.Author.Rules.{rules}
-use Rattle.printer.specs.Decimal.{decimal}
-use Rattle.printer.proofs.DecimalLaws.{fewest_most, digits_decimal, length-decimal}
+use Rattle.std.proofs.Common.{◌∙◌}
+use Rattle.printer.proofs.DecimalLaws.{digits_decimal}
 use Rattle.printer.proofs.AppendedLaws.{appended_as}
 use Rattle.printer.proofs.append_decimal.Goals as goal
 
-pub append_text-requires : goal.append_text-requires
-append_text-requires c =
+pub returns-clause-appended : goal.returns-clause-appended
+returns-clause-appended c =
     let d = c.decimal-count in
-    omega (arith, d.ensures.0.1, fewest_most c.args.n d.result d.ensures.1.0 c.ranges.n.fits)
-
-pub returns : goal.returns
-returns c =
-    let d = c.decimal-count in
-    let e = d.ensures.1.1 ∙ digits_decimal c.args.n d.result d.ensures.1.0 c.ranges.n.fits in
-    let place : c.append_text.result ≡ c.args.from + length (decimal c.args.n) = c.append_text.ensures.place ∙ ap (λ (t : List ℕ). c.args.from + length t) e in
-    
-    record { appended = appended_as e c.append_text.ensures; upper_bound = omega (arith, place, length-decimal c.args.n) }
+    appended_as (d.ensures.digits ∙ digits_decimal c.args.n d.result d.ensures.len c.ranges.n.fits) c.append_text.ensures

@@ -1,11 +1,7 @@
 use Prim.Native.Nat.{◌-◌, ◌≤◌}
 use mathlib.Core.Path.{◌≡◌}
-use native.Mathlib.Omega.{arith}
-use native.Mathlib.Numerals.{add-one}
-use lib.ListN.{length, length-set}
-use lib.Seq.{paste, paste-zero, paste-suc}
-use borrow.Author.Rules.{rules}
-use Rattle.printer.proofs.AppendedLaws.{appended_paste}
+use lib.ListN.{length}
+use lib.Seq.{paste}
 use Rattle.printer.proofs.append_text.Given as goal
 
 abbrev pub invariant-loop-i : goal.invariant-loop-i
