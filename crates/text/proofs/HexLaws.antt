@@ -1,32 +1,17 @@
 -- Laws of hexadecimal digits: which bytes are one, pairs of them, and the bytes that pairs give.
-use Prim.Native.Nat.{ℕ, zero, suc, ◌+◌, ◌-◌, ◌*◌, ◌/◌, ◌≤◌, ◌<◌}
+use Prim.Native.Nat.{ℕ, zero, suc, ◌+◌, ◌*◌, ◌/◌, ◌≤◌, ◌<◌}
 use mathlib.Core.Path.{◌≡◌, refl, sym, ap, ◌∙◌}
-use mathlib.Core.Bool.{Bool, true, false, not, ◌&&◌, ◌||◌}
+use mathlib.Core.Bool.{Bool, true, false, ◌&&◌}
 use mathlib.Core.List.{List, [], ◌∷◌}
 use native.Mathlib.Omega.{arith}
 use native.Mathlib.Numerals.{add-one}
-use lib.Dec.{leb}
 use lib.ListN.{length, get_or, take, drop, set}
 use lib.Seq.{drop-cons, drop-length, drop-drop, drop-set-lt, take_all, take-suc, take-suc-set}
-use borrow.Author.Tests.{le-leb, lt-leb, leb-true, not-true, not-false}
 use Rattle.model.proofs.Laws.Range.{and_left, and_right}
-use Rattle.text.specs.Text.{code_a, code_f, is_digit, is_hex_digit, hex_digit_of, hex_pairs, hex_bytes}
+use Rattle.text.specs.Text.{is_hex_digit, hex_digit_of, hex_pairs, hex_bytes}
 use Rattle.text.specs.Read.{Decodes}
 
 -- ---- hexadecimal digits
-
-pub hex_either : (b : ℕ) {p : Bool} → p ≡ is_digit b → (p || (leb code_a b && leb b code_f)) ≡ is_hex_digit b
-hex_either b e = rw e
-
-hex_low : (b : ℕ) → b ≤ 57 → leb 48 b ≡ is_hex_digit b
-hex_low b h = go (leb 48 b)
-  where
-    go : (a : Bool) → a ≡ ((a && leb b 57) || (leb 97 b && leb b 102))
-    go true = rw (le-leb b 57 h)
-    go false = rw (lt-leb 97 b (omega arith))
-
-hex_high : (b : ℕ) → 57 < b → (leb 97 b && leb b 102) ≡ is_hex_digit b
-hex_high b h = rw (le-leb 48 b (omega arith), lt-leb b 57 h)
 
 pub pairs_done : (v : List ℕ) (i : ℕ) → i ≡ length v → true ≡ hex_pairs (drop i v)
 unfolding hex_pairs
@@ -49,28 +34,18 @@ module _ (v : List ℕ) (i : ℕ) where
       let b : i + 2 ≡ suc (suc i) = omega arith in
       rw (a, b, drop-cons v i 0 g, drop-cons v (suc i) 0 k)
 
-  pub pairs_first : {p : Bool} → i + 1 < length v → p ≡ is_hex_digit (get_or v i 0) → not p ≡ true → false ≡ hex_pairs (drop i v)
-  pairs_first {p} h e n = sym (pairs_more h ∙ rw (← e, not-true p n))
+  pub pairs_first : {p : Bool} → i + 1 < length v → p ≡ is_hex_digit (get_or v i 0) → p ≡ false → false ≡ hex_pairs (drop i v)
+  pairs_first {p} h e n = sym (pairs_more h ∙ rw (← e, n))
 
-  pub pairs_second : {p q : Bool} → i + 1 < length v → p ≡ is_hex_digit (get_or v i 0) → not p ≡ false
-      → q ≡ is_hex_digit (get_or v (i + 1) 0) → not q ≡ true → false ≡ hex_pairs (drop i v)
-  pairs_second {p} {q} h e n f m = sym (pairs_more h ∙ rw (← e, not-false p n, ← f, not-true q m))
+  pub pairs_second : {p q : Bool} → i + 1 < length v → p ≡ is_hex_digit (get_or v i 0) → p ≡ true
+      → q ≡ is_hex_digit (get_or v (i + 1) 0) → q ≡ false → false ≡ hex_pairs (drop i v)
+  pairs_second {p} {q} h e n f m = sym (pairs_more h ∙ rw (← e, n, ← f, m))
 
-  pub pairs_on : {p q : Bool} → i + 1 < length v → p ≡ is_hex_digit (get_or v i 0) → not p ≡ false
-      → q ≡ is_hex_digit (get_or v (i + 1) 0) → not q ≡ false → hex_pairs (drop i v) ≡ hex_pairs (drop (i + 2) v)
-  pairs_on {p} {q} h e n f m = pairs_more h ∙ rw (← e, not-false p n, ← f, not-false q m)
+  pub pairs_on : {p q : Bool} → i + 1 < length v → p ≡ is_hex_digit (get_or v i 0) → p ≡ true
+      → q ≡ is_hex_digit (get_or v (i + 1) 0) → q ≡ true → hex_pairs (drop i v) ≡ hex_pairs (drop (i + 2) v)
+  pairs_on {p} {q} h e n f m = pairs_more h ∙ rw (← e, n, ← f, m)
 
 -- ---- bytes
-
--- a digit up to 9, and one from a on
-pub low_digit : (b : ℕ) → b ≤ 57 → is_hex_digit b ≡ true → (48 ≤ b) × (b - 48 ≡ hex_digit_of b)
-low_digit b h e = (leb-true 48 b (hex_low b h ∙ e), rw (le-leb b 57 h))
-
-pub high_digit : (b : ℕ) → 57 < b → is_hex_digit b ≡ true → (97 ≤ b) × (b ≤ 102) × (b - 97 + 10 ≡ hex_digit_of b)
-high_digit b h e =
-    let q : (leb 97 b && leb b 102) ≡ true = hex_high b h ∙ e in
-    let l : 97 ≤ b = leb-true 97 b (and_left (leb 97 b) (leb b 102) q) in
-    (l, leb-true b 102 (and_right (leb 97 b) (leb b 102) q), rw (lt-leb b 57 h) (omega arith))
 
 pub length_hex : (d : List ℕ) → length (hex_bytes d) ≡ length d / 2
 unfolding hex_bytes

@@ -1,14 +1,8 @@
 use Rattle.text.proofs.HexLaws.{pair_at, decoded_more, left_more, decoded}
-use Rattle.text.specs.Text.{hex_bytes}
-use lib.ListN.{length, take, drop, length-set}
+use lib.ListN.{length-set}
 use native.Mathlib.Omega.{arith}
-use mathlib.Core.Path.{◌≡◌, refl}
-use Prim.Native.Nat.{◌-◌, ◌≤◌}
-use borrow.Author.Rules.{rules}
+use mathlib.Core.Path.{refl}
 use Rattle.text.proofs.decode_bytes.Goals as goal
-
-pub loop-i-init : goal.loop-i-init
-loop-i-init c = (search rules, search rules, refl, refl)
 
 pub hex_byte-requires : goal.hex_byte-requires
 hex_byte-requires c =

@@ -1,10 +1,7 @@
-use Rattle.text.proofs.HexLaws.{pair_at, decoded_more, left_more, decoded}
 use Rattle.text.specs.Text.{hex_bytes}
-use lib.ListN.{length, take, drop, length-set}
-use native.Mathlib.Omega.{arith}
-use mathlib.Core.Path.{◌≡◌, refl}
+use lib.ListN.{length, take, drop}
+use mathlib.Core.Path.{◌≡◌}
 use Prim.Native.Nat.{◌-◌, ◌≤◌}
-use borrow.Author.Rules.{rules}
 use Rattle.text.proofs.decode_bytes.Given as goal
 
 abbrev pub invariant-loop-i : goal.invariant-loop-i

@@ -1,18 +1,8 @@
-use Prim.Native.Nat.{◌+◌, ◌-◌, ◌≤◌}
-use mathlib.Core.Path.{◌≡◌}
 use native.Mathlib.Omega.{arith}
 use native.Mathlib.Numerals.{add-one}
-use lib.ListN.{length, drop}
-use Rattle.text.specs.Read.{line_length}
 use Rattle.text.proofs.LineLaws.{line_ends, line_goes_on, line_stops}
 use borrow.Author.Rules.{rules}
 use Rattle.text.proofs.next_line.Goals as goal
-
--- ?? abbrev invariant-loop : tie.invariant-loop
-invariant-loop input «at» end₀ end = (end ≤ length input) × (end + line_length (drop end input) ≡ «at» + line_length (drop «at» input))
-
--- ?? abbrev decreases-loop : tie.decreases-loop
-decreases-loop input «at» end₀ end = length input - end
 
 pub returns-then-byte-eq-LINE_END : goal.returns-then-byte-eq-LINE_END
 returns-then-byte-eq-LINE_END c =

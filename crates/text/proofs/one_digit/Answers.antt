@@ -1,5 +1,4 @@
 use Rattle.text.proofs.NumberLaws.{one_number}
-use borrow.Author.Rules.{rules}
 use Rattle.text.proofs.one_digit.Goals as goal
 
 pub returns : goal.returns

@@ -1,17 +1,11 @@
-use Prim.Native.Nat.{◌-◌, ◌≤◌}
-use mathlib.Core.Path.{◌≡◌, refl, sym, ◌∙◌}
+use mathlib.Core.Path.{sym, ◌∙◌}
 use native.Mathlib.Omega.{arith}
-use lib.ListN.{length, drop}
-use Rattle.text.specs.Text.{starts_with}
 use Rattle.text.proofs.NameLaws.{starts_short, starts_all, starts_not, starts_on}
 use borrow.Author.Rules.{rules}
 use Rattle.text.proofs.starts_with.Goals as goal
 
 pub returns-then-line-name : goal.returns-then-line-name
 returns-then-line-name c = starts_short _ _ c.if-line-name.true
-
-pub loop-i-init : goal.loop-i-init
-loop-i-init c = (omega arith, refl)
 
 pub returns-then-line-i : goal.returns-then-line-i
 returns-then-line-i c =

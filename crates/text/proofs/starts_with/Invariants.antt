@@ -1,10 +1,7 @@
 use Prim.Native.Nat.{◌-◌, ◌≤◌}
-use mathlib.Core.Path.{◌≡◌, refl, sym, ◌∙◌}
-use native.Mathlib.Omega.{arith}
+use mathlib.Core.Path.{◌≡◌}
 use lib.ListN.{length, drop}
 use Rattle.text.specs.Text.{starts_with}
-use Rattle.text.proofs.NameLaws.{starts_short, starts_all, starts_not, starts_on}
-use borrow.Author.Rules.{rules}
 use Rattle.text.proofs.starts_with.Given as goal
 
 abbrev pub invariant-loop-i : goal.invariant-loop-i

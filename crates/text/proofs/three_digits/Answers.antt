@@ -1,5 +1,4 @@
 use Rattle.text.proofs.NumberLaws.{three_number}
-use borrow.Author.Rules.{rules}
 use Rattle.text.proofs.three_digits.Goals as goal
 
 pub returns : goal.returns

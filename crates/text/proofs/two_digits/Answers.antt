@@ -1,5 +1,4 @@
 use Rattle.text.proofs.NumberLaws.{two_number}
-use borrow.Author.Rules.{rules}
 use Rattle.text.proofs.two_digits.Goals as goal
 
 pub returns : goal.returns
