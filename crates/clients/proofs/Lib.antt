@@ -1,3 +1,2 @@
 pub mod RunLaws
 pub mod WordsLaws
-pub mod Shared

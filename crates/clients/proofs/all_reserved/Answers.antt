@@ -1,9 +1,8 @@
-use Prim.Native.Nat.{ℕ, ◌-◌, ◌≤◌}
+use Prim.Native.Nat.{ℕ}
 use mathlib.Core.Path.{◌≡◌, ap, ◌∙◌}
 use mathlib.Core.Bool.{cond}
 use native.Mathlib.Omega.{arith}
 use lib.Dec.{eqb, leb}
-use borrow.Author.Rules.{rules}
 use Rattle.model.specs.Range.{sum_to}
 use Rattle.model.specs.Clients.{client_at, unused}
 use Rattle.model.proofs.Laws.Range.{sum_none, sum_more}
@@ -16,16 +15,16 @@ abbrev apart : Run → ℕ → ℕ → ℕ
 apart run client j = cond (eqb j client) 0 (unused (client_at run.clients j))
 
 pub loop-k-init : goal.loop-k-init
-loop-k-init c = (omega arith, omega (arith, sum_none (apart c.args.t1 c.args.client)))
+loop-k-init c = (omega arith, omega (arith, sum_none (apart c.args.run c.args.client)))
 
 pub loop-k-preserved : goal.loop-k-preserved
 loop-k-preserved c =
     let a = c.args in
-    (omega arith, omega (arith, c.left_After.ensures, c.loop-k.invariant.1, sum_more c.loop-k.k (apart a.t1 a.client)))
+    (omega arith, omega (arith, c.left_after-left.ensures, c.loop-k.invariant.1, sum_more c.loop-k.k (apart a.run a.client)))
 
 pub returns : goal.returns
 returns c =
     let a = c.args in
-    let all : c.loop-k.k ≡ a.t1.count = omega arith in
-    ap (λ (n : ℕ). eqb n 0) c.loop-k.invariant.1 ∙ counted_down a.free (sum_to c.loop-k.k (apart a.t1 a.client))
-    ∙ ap (λ (n : ℕ). leb a.free (sum_to n (apart a.t1 a.client))) all
+    let all : c.loop-k.k ≡ a.run.count = omega arith in
+    ap (λ (n : ℕ). eqb n 0) c.loop-k.invariant.1 ∙ counted_down a.free (sum_to c.loop-k.k (apart a.run a.client))
+    ∙ ap (λ (n : ℕ). leb a.free (sum_to n (apart a.run a.client))) all

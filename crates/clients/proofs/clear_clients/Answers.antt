@@ -1,9 +1,8 @@
-use Prim.Native.Nat.{ℕ, ◌-◌, ◌≤◌}
+use Prim.Native.Nat.{ℕ, ◌-◌}
 use mathlib.Core.Path.{◌≡◌, refl, sym, ap, ◌∙◌}
 use mathlib.Core.List.{[]}
 use native.Mathlib.Omega.{arith}
-use lib.ListN.{length, get_or, set, length-set, length-map}
-use borrow.Author.Rules.{rules}
+use lib.ListN.{get_or, set, length-set, length-map}
 use Rattle.model.specs.Clients.{Clients, client_at, with_used}
 use Rattle.clients.proofs.RunLaws.{wiped, wiped_none, wiped_more, wiped_all}
 use Rattle.clients.specs.Words.{client_in, clients_in}

@@ -1,13 +1,8 @@
-use Prim.Native.Nat.{ℕ, ◌-◌, ◌≤◌}
-use mathlib.Core.Path.{◌≡◌, refl, sym, ap, ◌∙◌}
-use mathlib.Core.List.{[]}
-use native.Mathlib.Omega.{arith}
-use lib.ListN.{length, get_or, set, length-set, length-map}
-use borrow.Author.Rules.{rules}
-use Rattle.model.specs.Clients.{Clients, client_at, with_used}
-use Rattle.clients.proofs.RunLaws.{wiped, wiped_none, wiped_more, wiped_all}
-use Rattle.clients.specs.Words.{client_in, clients_in}
-use Rattle.clients.proofs.WordsLaws.{clients_set, client_at_lem, used_cleared}
+use Prim.Native.Nat.{◌-◌, ◌≤◌}
+use mathlib.Core.Path.{◌≡◌}
+use lib.ListN.{length}
+use Rattle.clients.proofs.RunLaws.{wiped}
+use Rattle.clients.specs.Words.{clients_in}
 use Rattle.clients.proofs.clear_clients.Given as goal
 
 abbrev pub invariant-loop-i : goal.invariant-loop-i

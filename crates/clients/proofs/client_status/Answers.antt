@@ -3,7 +3,6 @@ use mathlib.Core.Bool.{Bool, ◌||◌, false≢true}
 use mathlib.Core.List.{[], ◌∷◌}
 use native.Mathlib.Omega.{arith}
 use lib.ListN.{length}
-use borrow.Author.Rules.{rules}
 use borrow.Author.Tests.{le-leb, lt-leb}
 use Rattle.model.specs.Status.{first_error}
 use Rattle.model.specs.Clients.{clients_bad}
@@ -15,10 +14,13 @@ use Rattle.clients.proofs.client_status.Goals as goal
 pub returns-then-run-client : goal.returns-then-run-client
 returns-then-run-client c =
     let a = c.args in
-    (λ R e. first_holds 13 _ [] (or_left _ (le-leb (length R) a.client (omega (arith, c.if-run-client.true, run_count a.run R e)))), λ z. absurd (false≢true z))
+    record { result_value = λ R e. first_holds 13 _ [] (or_left _ (le-leb (length R) a.client (omega (arith, c.if-run-client.true, run_count a.run R e)))); client_lt_count = λ z. absurd (false≢true z) }
 
 pub returns : goal.returns
 returns c =
-    let a = c.args in 
-    record { result_value = λ R e. c.clients_status.ensures.result_value R e
-          ∙ sym (ap (λ (b : Bool). first_error ((13, b || clients_bad a.layout R) ∷ [])) (lt-leb (length R) a.client (omega (arith, c.if-run-client.false, run_count a.run R e)))); client_lt_count = λ z. (omega (arith, c.if-run-client.false), c.clients_status.ensures.count_le_most_clients z) }
+    let a = c.args in
+    record {
+      result_value = λ R e. c.clients_status.ensures.result_value R e
+          ∙ sym (ap (λ (b : Bool). first_error ((13, b || clients_bad a.layout R) ∷ [])) (lt-leb (length R) a.client (omega (arith, c.if-run-client.false, run_count a.run R e))));
+      client_lt_count = λ z. (omega (arith, c.if-run-client.false), c.clients_status.ensures.count_le_most_clients z);
+    }

@@ -1,14 +1,8 @@
-use Prim.Native.Nat.{ℕ, ◌+◌, ◌-◌, ◌≤◌}
-use mathlib.Core.Path.{◌≡◌, sym, ap, ◌∙◌}
-use mathlib.Core.Bool.{false, false≢true}
-use mathlib.Core.List.{[]}
-use native.Mathlib.Omega.{arith}
-use borrow.Author.Rules.{rules}
+use Prim.Native.Nat.{◌+◌, ◌-◌, ◌≤◌}
+use mathlib.Core.Path.{◌≡◌}
+use mathlib.Core.Bool.{false}
 use Rattle.model.specs.Range.{any_b, sum_to}
 use Rattle.model.specs.Clients.{client_at, client_bad}
-use Rattle.model.proofs.Laws.Range.{sum_none, sum_more}
-use Rattle.model.proofs.Laws.Status.{first_holds, first_fails, first_of_none}
-use Rattle.clients.proofs.RunLaws.{any_nothing, any_one_more, bad_count, bad_record, bad_sum, none_bad}
 use Rattle.clients.proofs.clients_status.Given as goal
 
 abbrev pub invariant-loop-k : goal.invariant-loop-k

@@ -1,5 +1,4 @@
 use native.Mathlib.Omega.{arith}
-use borrow.Author.Rules.{rules}
 use Rattle.clients.proofs.left_after.Goals as goal
 
 pub returns-then-own : goal.returns-then-own

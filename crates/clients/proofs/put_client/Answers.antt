@@ -2,7 +2,6 @@ use mathlib.Core.Path.{sym}
 use native.Mathlib.Omega.{arith}
 use lib.ListN.{length-map}
 use lib.Seq.{set_out}
-use borrow.Author.Rules.{rules}
 use Rattle.clients.specs.Words.{client_in, clients_in}
 use Rattle.clients.proofs.WordsLaws.{clients_set}
 use Rattle.clients.proofs.put_client.Goals as goal

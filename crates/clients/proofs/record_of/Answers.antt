@@ -1,5 +1,4 @@
 use mathlib.Core.Path.{ap, ◌∙◌}
-use borrow.Author.Rules.{rules}
 use Rattle.model.specs.Clients.{client_at, with_used}
 use Rattle.clients.specs.declared.Run.{Run}
 use Rattle.clients.proofs.RunLaws.{loaded_at}

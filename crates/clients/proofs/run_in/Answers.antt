@@ -1,8 +1,7 @@
-use Prim.Native.Nat.{ℕ, ◌-◌, ◌≤◌, min}
+use Prim.Native.Nat.{ℕ, min}
 use mathlib.Core.Path.{◌≡◌, sym, ap, ap₂, ◌∙◌}
 use native.Mathlib.Omega.{arith}
 use lib.ListN.{length, set, length-map}
-use borrow.Author.Rules.{rules}
 use Rattle.model.specs.declared.Client.{Client}
 use Rattle.model.specs.Clients.{Clients}
 use Rattle.clients.specs.Run.{run_of, copied}

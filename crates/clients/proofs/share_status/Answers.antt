@@ -2,8 +2,6 @@ use mathlib.Core.Path.{◌≡◌, refl, sym, ap, ◌∙◌}
 use mathlib.Core.Bool.{Bool, true, false, cond, false≢true}
 use native.Mathlib.Omega.{arith}
 use lib.Dec.{leb}
-use borrow.Author.Rules.{rules}
-use borrow.Author.Tests.{not-true, not-false}
 use Rattle.model.specs.Status.{first_error}
 use Rattle.model.specs.Clients.{quota_reached, all_reserved, share_errors}
 use Rattle.model.proofs.Laws.Status.{first_holds, first_fails, first_of_none}
@@ -17,31 +15,34 @@ asked copying b c e q = rw e q
 -- nothing is copied
 pub returns-then-not-copying : goal.returns-then-not-copying
 returns-then-not-copying c =
-    let none = not-true c.args.copying c.if-not-copying.true in
-    (λ R e. rw none (first_fails 14 0 false _ refl (first_fails 15 0 false _ refl first_of_none)), λ z copied. absurd (false≢true (sym none ∙ copied)))
+    let none = c.if-not-copying.true in
+    record { result_value = λ R e. rw none (first_fails 14 0 false _ refl (first_fails 15 0 false _ refl first_of_none)); client_bound = λ z copied. absurd (false≢true (sym none ∙ copied)) }
 
 pub returns-then-c : goal.returns-then-c
 returns-then-c c =
-    let a = c.args in (
-      λ R e. let q : quota_reached R a.client ≡ true = at_limit_lem a.t1 R e a.client c.requires.0 c.if-c.true in
-          let given : 14 ≡ first_error (share_errors a.copying R a.client a.free) = first_holds 14 _ _ (asked a.copying _ true (not-false a.copying c.if-not-copying.false) q) in
-          given,
-      λ z copied. absurd (false≢true z),
-    )
+    let a = c.args in record {
+      result_value = λ R e. let q : quota_reached R a.client ≡ true = at_limit_lem a.run R e a.client c.requires.0 c.if-c.true in
+          let given : 14 ≡ first_error (share_errors a.copying R a.client a.free) = first_holds 14 _ _ (asked a.copying _ true c.if-not-copying.false q) in
+          given;
+      client_bound = λ z copied. absurd (false≢true z);
+    }
 
 pub returns-then-all_reserved : goal.returns-then-all_reserved
-returns-then-all_reserved c = (
-  λ R e.
+returns-then-all_reserved c = record {
+  result_value = λ R e.
       let a = c.args in
-      let q : quota_reached R a.client ≡ false = under_limit a.t1 R e a.client c.requires.0 c.if-c.false in
-      let s : all_reserved R a.client a.free ≡ true = ap (leb a.free) (sym (unused_others a.t1 R e c.requires.1 a.client)) ∙ sym c.all_reserved.ensures ∙ c.if-all_reserved.true in
-      rw (not-false a.copying c.if-not-copying.false) (first_fails 14 15 _ _ q (first_holds 15 _ _ s)),
-  λ z copied. absurd (false≢true z),
-)
+      let q : quota_reached R a.client ≡ false = under_limit a.run R e a.client c.requires.0 c.if-c.false in
+      let s : all_reserved R a.client a.free ≡ true = ap (leb a.free) (sym (unused_others a.run R e c.requires.1 a.client)) ∙ sym c.all_reserved.ensures ∙ c.if-all_reserved.true in
+      rw c.if-not-copying.false (first_fails 14 15 _ _ q (first_holds 15 _ _ s));
+  client_bound = λ z copied. absurd (false≢true z);
+}
 
 pub returns : goal.returns
-returns c = record { result_value = λ R e.
+returns c = record {
+  result_value = λ R e.
       let a = c.args in
-      let q : quota_reached R a.client ≡ false = under_limit a.t1 R e a.client c.requires.0 c.if-c.false in
-      let s : all_reserved R a.client a.free ≡ false = ap (leb a.free) (sym (unused_others a.t1 R e c.requires.1 a.client)) ∙ sym c.all_reserved.ensures ∙ c.if-all_reserved.false in
-      rw (not-false a.copying c.if-not-copying.false) (first_fails 14 0 _ _ q (first_fails 15 0 _ _ s first_of_none)); client_bound = λ z copied. omega (arith, c.if-c.false) }
+      let q : quota_reached R a.client ≡ false = under_limit a.run R e a.client c.requires.0 c.if-c.false in
+      let s : all_reserved R a.client a.free ≡ false = ap (leb a.free) (sym (unused_others a.run R e c.requires.1 a.client)) ∙ sym c.all_reserved.ensures ∙ c.if-all_reserved.false in
+      rw c.if-not-copying.false (first_fails 14 0 _ _ q (first_fails 15 0 _ _ s first_of_none));
+  client_bound = λ z copied. omega (arith, c.if-c.false);
+}
