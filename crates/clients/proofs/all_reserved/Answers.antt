@@ -1,13 +1,10 @@
 use Prim.Native.Nat.{ℕ}
-use mathlib.Core.Path.{◌≡◌, ap, ◌∙◌}
 use mathlib.Core.Bool.{cond}
 use native.Mathlib.Omega.{arith}
-use lib.Dec.{eqb, leb}
-use Rattle.model.specs.Range.{sum_to}
+use lib.Dec.{eqb}
 use Rattle.model.specs.Clients.{client_at, unused}
 use Rattle.model.proofs.Laws.Range.{sum_none, sum_more}
 use Rattle.clients.specs.declared.Run.{Run}
-use Rattle.clients.proofs.RunLaws.{counted_down}
 use Rattle.clients.proofs.all_reserved.Goals as goal
 
 -- what is set apart for client j by another
@@ -21,10 +18,3 @@ pub loop-k-preserved : goal.loop-k-preserved
 loop-k-preserved c =
     let a = c.args in
     (omega arith, omega (arith, c.left_after-left.ensures, c.loop-k.invariant.1, sum_more c.loop-k.k (apart a.run a.client)))
-
-pub returns : goal.returns
-returns c =
-    let a = c.args in
-    let all : c.loop-k.k ≡ a.run.count = omega arith in
-    ap (λ (n : ℕ). eqb n 0) c.loop-k.invariant.1 ∙ counted_down a.free (sum_to c.loop-k.k (apart a.run a.client))
-    ∙ ap (λ (n : ℕ). leb a.free (sum_to n (apart a.run a.client))) all

@@ -1,5 +1,5 @@
 use mathlib.Core.Path.{sym, ap, ◌∙◌}
-use mathlib.Core.Bool.{Bool, ◌||◌, false≢true}
+use mathlib.Core.Bool.{Bool, ◌||◌}
 use mathlib.Core.List.{[], ◌∷◌}
 use native.Mathlib.Omega.{arith}
 use lib.ListN.{length}
@@ -11,10 +11,8 @@ use Rattle.model.proofs.Laws.Status.{first_holds}
 use Rattle.clients.proofs.RunLaws.{run_count}
 use Rattle.clients.proofs.client_status.Goals as goal
 
-pub returns-then-run-client : goal.returns-then-run-client
-returns-then-run-client c =
-    let a = c.args in
-    record { result_value = λ R e. first_holds 13 _ [] (or_left _ (le-leb (length R) a.client (omega (arith, c.if-run-client.true, run_count a.run R e)))); client_lt_count = λ z. absurd (false≢true z) }
+pub returns-then-run-client-clause-result_value : goal.returns-then-run-client-clause-result_value
+returns-then-run-client-clause-result_value c = λ R e. first_holds 13 _ [] (or_left _ (le-leb (length R) c.args.client (omega (arith, c.if-run-client.true, run_count c.args.run R e))))
 
 pub returns : goal.returns
 returns c =

@@ -1,6 +1,5 @@
-use Rattle.std.proofs.Common.{◌≡◌, ℕ, length, min, set, sym, ap, ◌∙◌, arith}
+use Rattle.std.proofs.Common.{set, sym, ap, ◌∙◌, arith}
 use Rattle.model.specs.Clients.{Clients, client_at}
-use Rattle.clients.specs.Run.{run_of, copied}
 use Rattle.clients.proofs.RunLaws.{copied_none, copied_more}
 use Rattle.clients.proofs.load.Goals as goal
 
@@ -11,9 +10,3 @@ pub loop-i-preserved : goal.loop-i-preserved
 loop-i-preserved c =
     let R = c.args.run.now in
     (omega arith, ap (λ (S : Clients). set S c.loop-i.i (client_at R c.loop-i.i)) c.loop-i.invariant.1 ∙ sym (copied_more c.loop-i.i R))
-
-pub returns : goal.returns
-returns c =
-    let R = c.args.run.now in
-    let all : c.loop-i.i ≡ min (length R) 8 = omega (arith, c.taken-count.ensures) in
-    c.run_of.ensures ∙ ap (run_of (length R)) (c.loop-i.invariant.1 ∙ ap (λ (k : ℕ). copied k R) all)

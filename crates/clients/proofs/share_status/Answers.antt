@@ -1,9 +1,7 @@
 use mathlib.Core.Path.{◌≡◌, refl, sym, ap, ◌∙◌}
-use mathlib.Core.Bool.{Bool, true, false, cond, false≢true}
-use native.Mathlib.Omega.{arith}
+use mathlib.Core.Bool.{Bool, true, false, cond}
 use lib.Dec.{leb}
-use Rattle.model.specs.Status.{first_error}
-use Rattle.model.specs.Clients.{quota_reached, all_reserved, share_errors}
+use Rattle.model.specs.Clients.{quota_reached, all_reserved}
 use Rattle.model.proofs.Laws.Status.{first_holds, first_fails, first_of_none}
 use Rattle.clients.proofs.RunLaws.{at_limit_lem, under_limit, unused_others}
 use Rattle.clients.proofs.share_status.Goals as goal
@@ -13,36 +11,25 @@ asked : (copying b c : Bool) → copying ≡ true → b ≡ c → cond copying b
 asked copying b c e q = rw e q
 
 -- nothing is copied
-pub returns-then-not-copying : goal.returns-then-not-copying
-returns-then-not-copying c =
-    let none = c.if-not-copying.true in
-    record { result_value = λ R e. rw none (first_fails 14 0 false _ refl (first_fails 15 0 false _ refl first_of_none)); client_bound = λ z copied. absurd (false≢true (sym none ∙ copied)) }
+pub returns-then-not-copying-clause-result_value : goal.returns-then-not-copying-clause-result_value
+returns-then-not-copying-clause-result_value c = λ R e. rw c.if-not-copying.true (first_fails 14 0 false _ refl (first_fails 15 0 false _ refl first_of_none))
 
-pub returns-then-c : goal.returns-then-c
-returns-then-c c =
-    let a = c.args in record {
-      result_value = λ R e. let q : quota_reached R a.client ≡ true = at_limit_lem a.run R e a.client c.requires.0 c.if-c.true in
-          let given : 14 ≡ first_error (share_errors a.copying R a.client a.free) = first_holds 14 _ _ (asked a.copying _ true c.if-not-copying.false q) in
-          given;
-      client_bound = λ z copied. absurd (false≢true z);
-    }
+pub returns-then-c-clause-result_value : goal.returns-then-c-clause-result_value
+returns-then-c-clause-result_value c = λ R e.
+    let a = c.args in
+    let q : quota_reached R a.client ≡ true = at_limit_lem a.run R e a.client c.requires.0 c.if-c.true in
+    first_holds 14 _ _ (asked a.copying _ true c.if-not-copying.false q)
 
-pub returns-then-all_reserved : goal.returns-then-all_reserved
-returns-then-all_reserved c = record {
-  result_value = λ R e.
-      let a = c.args in
-      let q : quota_reached R a.client ≡ false = under_limit a.run R e a.client c.requires.0 c.if-c.false in
-      let s : all_reserved R a.client a.free ≡ true = ap (leb a.free) (sym (unused_others a.run R e c.requires.1 a.client)) ∙ sym c.all_reserved.ensures ∙ c.if-all_reserved.true in
-      rw c.if-not-copying.false (first_fails 14 15 _ _ q (first_holds 15 _ _ s));
-  client_bound = λ z copied. absurd (false≢true z);
-}
+pub returns-then-all_reserved-clause-result_value : goal.returns-then-all_reserved-clause-result_value
+returns-then-all_reserved-clause-result_value c = λ R e.
+    let a = c.args in
+    let q : quota_reached R a.client ≡ false = under_limit a.run R e a.client c.requires.0 c.if-c.false in
+    let s : all_reserved R a.client a.free ≡ true = ap (leb a.free) (sym (unused_others a.run R e c.requires.1 a.client)) ∙ sym c.all_reserved.ensures ∙ c.if-all_reserved.true in
+    rw c.if-not-copying.false (first_fails 14 15 _ _ q (first_holds 15 _ _ s))
 
-pub returns : goal.returns
-returns c = record {
-  result_value = λ R e.
-      let a = c.args in
-      let q : quota_reached R a.client ≡ false = under_limit a.run R e a.client c.requires.0 c.if-c.false in
-      let s : all_reserved R a.client a.free ≡ false = ap (leb a.free) (sym (unused_others a.run R e c.requires.1 a.client)) ∙ sym c.all_reserved.ensures ∙ c.if-all_reserved.false in
-      rw c.if-not-copying.false (first_fails 14 0 _ _ q (first_fails 15 0 _ _ s first_of_none));
-  client_bound = λ z copied. omega (arith, c.if-c.false);
-}
+pub returns-clause-result_value : goal.returns-clause-result_value
+returns-clause-result_value c = λ R e.
+    let a = c.args in
+    let q : quota_reached R a.client ≡ false = under_limit a.run R e a.client c.requires.0 c.if-c.false in
+    let s : all_reserved R a.client a.free ≡ false = ap (leb a.free) (sym (unused_others a.run R e c.requires.1 a.client)) ∙ sym c.all_reserved.ensures ∙ c.if-all_reserved.false in
+    rw c.if-not-copying.false (first_fails 14 0 _ _ q (first_fails 15 0 _ _ s first_of_none))
