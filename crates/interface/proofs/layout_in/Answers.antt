@@ -1,4 +1,3 @@
-use borrow.Author.Rules.{rules}
 use Rattle.interface.specs.Interface.{session_in}
 use Rattle.interface.proofs.layout_in.Goals as goal
 
