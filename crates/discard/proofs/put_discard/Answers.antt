@@ -20,25 +20,22 @@ checkpoint_located-located-requires c =
     let g = c.args in
     let inside = metadata_inside g.layout in
     let v = subst (λ (n : ℕ). Valid g.layout (seg_state g.image.now n) (backup_to_main g.image.now)) (sym c.active_at-active.ensures.0) c.requires.valid in
-    ((c.requires.main_lt_mains.0, c.requires.main_lt_mains.1, omega (arith, c.requires.main_lt_mains.2, inside), omega (arith, c.requires.main_lt_mains.2, c.active_at-active.ensures, inside)), v)
+    record { main_lt_mains = (c.requires.main_lt_mains.0, c.requires.main_lt_mains.1, omega (arith, c.requires.main_lt_mains.2, inside), omega (arith, c.requires.main_lt_mains.2, c.active_at-active.ensures, inside)); valid = v }
 
 pub put_dirty_zeros-requires : goal.put_dirty_zeros-requires
 put_dirty_zeros-requires c =
     let g = c.args in
     let e = sym c.in-Nowhere.is ∙ c.checkpoint_located-located.ensures ∙ ap (λ (n : ℕ). checkpoint_located g.layout g.image.now n g.main) c.active_at-active.ensures.0 in
     let ops = zero_ops g.layout g.image.now g.word g.main _ _ c.main_at-to.ensures.0 e in
-    
     record { blocks_le_most = (omega arith, c.requires.main_lt_mains.3); blocks_bound = omega (arith, c.main_at-to.ensures.1); fits = fits_as (sym ops) c.requires.fits }
 
 pub put_dirty_copies-requires : goal.put_dirty_copies-requires
 put_dirty_copies-requires c =
-    let p = c.located-1.given in
     let g = c.args in
-    let e = sym p.1 ∙ c.checkpoint_located-located.ensures ∙ ap (λ (n : ℕ). checkpoint_located g.layout g.image.now n g.main) c.active_at-active.ensures.0 in
-    let ops = copy_ops_lem g.layout g.image.now g.word g.main _ _ c.main_at-to.ensures.0 p.0.0 e in
-    let i : p.0.0 + segment_size g.layout ≤ length g.image.now =
+    let e = sym c.in-At.is ∙ c.checkpoint_located-located.ensures ∙ ap (λ (n : ℕ). checkpoint_located g.layout g.image.now n g.main) c.active_at-active.ensures.0 in
+    let ops = copy_ops_lem g.layout g.image.now g.word g.main _ _ c.main_at-to.ensures.0 c.in-At.from e in
+    let i : c.in-At.from + segment_size g.layout ≤ length g.image.now =
     subst (Inside g.layout g.image.now) (sym e) (located_inside g.layout g.image.now (active_line g.image.now) g.main c.requires.valid c.requires.main_lt_mains.0 c.requires.main_lt_mains.2) in
-    
     record { blocks_le_most = (omega arith, c.requires.main_lt_mains.3); blocks_in_bounds = i; blocks_bound = omega (arith, c.main_at-to.ensures.1); fits = fits_as (sym ops) c.requires.fits }
 
 pub returns-in-Nowhere : goal.returns-in-Nowhere
@@ -49,7 +46,6 @@ returns-in-Nowhere c =
 
 pub returns-in-At : goal.returns-in-At
 returns-in-At c =
-    let p = c.located-1.given in
     let g = c.args in
-    let e = sym p.1 ∙ c.checkpoint_located-located.ensures ∙ ap (λ (n : ℕ). checkpoint_located g.layout g.image.now n g.main) c.active_at-active.ensures.0 in
-    emitted_as c.put_dirty_copies.ensures (copy_ops_lem g.layout g.image.now g.word g.main _ _ c.main_at-to.ensures.0 p.0.0 e)
+    let e = sym c.in-At.is ∙ c.checkpoint_located-located.ensures ∙ ap (λ (n : ℕ). checkpoint_located g.layout g.image.now n g.main) c.active_at-active.ensures.0 in
+    emitted_as c.put_dirty_copies.ensures (copy_ops_lem g.layout g.image.now g.word g.main _ _ c.main_at-to.ensures.0 c.in-At.from e)
