@@ -27,7 +27,10 @@ checkpoint_located-located-requires c =
     let s = read_judged a.layout a.image.now a.main a.block _ _ c.read_status.ensures c.is_served.ensures in
     let r = readable a.layout a.image.now a.main a.block (s ∙ c.if-not-is_served.false) in
     let e = c.active_at.ensures in
-    ((r.main, r.sizes, omega arith, omega arith), subst (λ (n : ℕ). Valid a.layout (seg_state a.image.now n) (backup_to_main a.image.now)) (sym e.0) r.ok.valid)
+    record {
+        main_lt_mains = (r.main, r.sizes, omega arith, omega arith);
+        valid = subst (λ (n : ℕ). Valid a.layout (seg_state a.image.now n) (backup_to_main a.image.now)) (sym e.0) r.ok.valid;
+    }
 
 pub returns-in-Nowhere : goal.returns-in-Nowhere
 returns-in-Nowhere c =

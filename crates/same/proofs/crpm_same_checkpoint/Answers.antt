@@ -10,10 +10,11 @@ use Rattle.same.proofs.crpm_same_checkpoint.Goals as goal
 pub returns-then-not-is_served : goal.returns-then-not-is_served
 returns-then-not-is_served c =
     let a = c.args in
-    let z = judged c.new-layout.result a.a.now a.b.now _ _ c.same_status-status.ensures c.is_served.ensures ∙ c.if-not-is_served.true in (
-      c.same_status-status.ensures ∙ status_given c.new-layout.result a.a.now a.b.now ∙ ap (λ (l : Layout). (same_outcome l a.a.now a.b.now).status) c.new-layout.ensures,
-      same_refused c.new-layout.result a.a.now a.b.now z ∙ ap (λ (l : Layout). (same_outcome l a.a.now a.b.now).same) c.new-layout.ensures,
-    )
+    let z = judged c.new-layout.result a.a.now a.b.now _ _ c.same_status-status.ensures c.is_served.ensures ∙ c.if-not-is_served.true in
+    record {
+        status_value = c.same_status-status.ensures ∙ status_given c.new-layout.result a.a.now a.b.now ∙ ap (λ (l : Layout). (same_outcome l a.a.now a.b.now).status) c.new-layout.ensures;
+        same_value = same_refused c.new-layout.result a.a.now a.b.now z ∙ ap (λ (l : Layout). (same_outcome l a.a.now a.b.now).same) c.new-layout.ensures;
+    }
 
 pub same_checkpoint-requires : goal.same_checkpoint-requires
 same_checkpoint-requires c =

@@ -14,7 +14,7 @@ loop-i-init c = (search rules, segments_none _ _ _)
 pub segment_same-ok-requires : goal.segment_same-ok-requires
 segment_same-ok-requires c =
     let n : c.loop-i.i < c.args.layout.mains = omega arith in
-    (c.requires.a_value, (c.requires.b_value, (n, c.requires.initial_agree _ n)))
+    record { a_value = c.requires.a_value; b_value = c.requires.b_value; main_lt_mains = n; variant = c.requires.initial_agree _ n }
 
 pub loop-i-preserved : goal.loop-i-preserved
 loop-i-preserved c =

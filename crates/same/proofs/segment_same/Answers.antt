@@ -11,7 +11,8 @@ pub checkpoint_located-x-requires : goal.checkpoint_located-x-requires
 checkpoint_located-x-requires c =
     let a = c.args in
     let e = c.active_at.ensures in
-    searched a.layout a.a.now a.main c.requires.a_value c.requires.main_lt_mains _ e.0 e.2
+    let s = searched a.layout a.a.now a.main c.requires.a_value c.requires.main_lt_mains c.active_at.result e.0 e.2 in
+    record { main_lt_mains = s.0; valid = s.1 }
 
 pub active_at-requires-2 : goal.active_at-requires-2
 active_at-requires-2 c =
@@ -21,7 +22,8 @@ pub checkpoint_located-y-requires : goal.checkpoint_located-y-requires
 checkpoint_located-y-requires c =
     let a = c.args in
     let e = c.active_at-2.ensures in
-    searched a.layout a.b.now a.main c.requires.b_value c.requires.main_lt_mains _ e.0 e.2
+    let s = searched a.layout a.b.now a.main c.requires.b_value c.requires.main_lt_mains c.active_at-2.result e.0 e.2 in
+    record { main_lt_mains = s.0; valid = s.1 }
 
 pub segments_equal-requires : goal.segments_equal-requires
 segments_equal-requires c =
@@ -29,7 +31,7 @@ segments_equal-requires c =
     let a = c.args in
     let x = found_at a.layout a.a.now a.main c.in-At.is c.checkpoint_located-x.ensures c.active_at.ensures.0 in
     let y = found_at a.layout a.b.now a.main c.in-At-y.is c.checkpoint_located-y.ensures c.active_at-2.ensures.0 in 
-    record { blocks_le_most = (sizes_and_room a.layout a.a.now p.0).0.2.1; blocks_in_bounds = inside_at a.layout a.a.now a.main p.0 p.1.1.0 _ x; blocks_in_bounds_2 = inside_at a.layout a.b.now a.main p.1.0 p.1.1.0 _ y }
+    record { blocks_le_most = (sizes_and_room a.layout a.a.now p.a_value).0.2.1; blocks_in_bounds = inside_at a.layout a.a.now a.main p.a_value p.main_lt_mains _ x; blocks_in_bounds_2 = inside_at a.layout a.b.now a.main p.b_value p.main_lt_mains _ y }
 
 pub returns-in-Nowhere : goal.returns-in-Nowhere
 returns-in-Nowhere c =

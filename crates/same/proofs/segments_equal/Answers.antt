@@ -15,10 +15,11 @@ loop-n-init c = (search rules, runs_none 256 _)
 pub blocks_equal-ok-requires : goal.blocks_equal-ok-requires
 blocks_equal-ok-requires c =
     let l = c.loop-n in
-    let g = c.args in (
-      omega (arith, length_part g.a.now (g.x + 256 * l.n) (omega arith)),
-      omega (arith, length_part g.b.now (g.y + 256 * l.n) (omega arith)),
-    )
+    let g = c.args in
+    record {
+        block_size_in_bounds = omega (arith, length_part g.a.now (g.x + 256 * l.n) (omega arith));
+        block_size_in_bounds_2 = omega (arith, length_part g.b.now (g.y + 256 * l.n) (omega arith));
+    }
 
 pub loop-n-preserved : goal.loop-n-preserved
 loop-n-preserved c =
