@@ -8,7 +8,7 @@ fn main() {
     println!("cargo::rerun-if-env-changed=CRPM_LIBRARY");
     match library() {
         Ok(path) => link(&path),
-        Err(reason) => println!("cargo::error={reason}; run `rt staticlib capi` first, or set CRPM_LIBRARY"),
+        Err(reason) => println!("cargo::error={reason}; run `scripts/prove capi` first, or set CRPM_LIBRARY"),
     }
 }
 

@@ -10,7 +10,7 @@ fn main() {
     match library() {
         Ok(path) => link(&path),
         Err(reason) => {
-            println!("cargo::error={reason}; run `rt staticlib dump` first, or set CRPM_DUMP_LIBRARY")
+            println!("cargo::error={reason}; run `scripts/prove dump` first, or set CRPM_DUMP_LIBRARY")
         }
     }
 }

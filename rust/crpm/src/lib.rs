@@ -86,7 +86,7 @@
 //! # Building
 //!
 //! The library is linked in: `target/staticlib/libcapi.a` of this repository
-//! (`rt staticlib capi` writes it), or the file that the environment variable
+//! (`scripts/prove capi` writes it), or the file that the environment variable
 //! `CRPM_LIBRARY` names by its absolute path, such as an installed
 //! `/usr/local/lib/libcrpm.a`.
 

@@ -79,7 +79,7 @@ fn no_library_no_build() {
             .expect("cargo starts");
         let said = String::from_utf8_lossy(&output.stderr);
         assert!(!output.status.success(), "{library:?}: {said}");
-        let word = "; run `rt staticlib dump` first, or set CRPM_DUMP_LIBRARY";
+        let word = "; run `scripts/prove dump` first, or set CRPM_DUMP_LIBRARY";
         assert!(
             said.contains("CRPM_DUMP_LIBRARY names no file: ") && said.contains(word),
             "{library:?}: {said}"

@@ -80,7 +80,7 @@ fn no_library_no_build() {
             .expect("cargo starts");
         let said = String::from_utf8_lossy(&output.stderr);
         assert!(!output.status.success(), "{library:?}: {said}");
-        let word = "; run `rt staticlib capi` first, or set CRPM_LIBRARY";
+        let word = "; run `scripts/prove capi` first, or set CRPM_LIBRARY";
         assert!(said.contains("CRPM_LIBRARY names no file: ") && said.contains(word), "{library:?}: {said}");
     }
 }

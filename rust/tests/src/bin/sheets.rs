@@ -38,7 +38,7 @@ fn main() -> ExitCode {
     let [program, upgrade] = [0, 1].map(|i| given.get(i).map_or(built.join(names[i]), PathBuf::from));
     for (path, name) in [&program, &upgrade].into_iter().zip(names) {
         if !path.is_file() {
-            eprintln!("no program {name} at {}; `rt check {name}` makes it", path.display());
+            eprintln!("no program {name} at {}; `scripts/prove {name}` makes it", path.display());
             return ExitCode::from(NOT_RUN);
         }
     }
