@@ -1,14 +1,17 @@
-"""What the scripts know of must-fail edits: the parts of an edit, and what the first error of its log shows."""
-import os, re
+"""What the scripts know of must-fail edits: the parts of an edit, the lines that rt prints of them, and what the first error in such a
+line shows."""
+import re
 
 # What a first error says where a fact no longer holds: two sides that differ, numbers at which a goal fails, a comparison
 # that is false.
 SHOWS = ("the two types differ", "the two types first differ", "differ only", "the two sides first differ", "the goal fails",
-         "the part fails", "does not hold")
-# The same of two short types, which antt prints whole, in one line.
-BOTH = re.compile("expected type `[^`?]+`, but this has type `[^`?]+`$")
+         "the part fails", "does not hold", "the facts known there allow values")
+# The same of two short types, which antt prints whole, in one line. rt cuts a long line.
+BOTH = re.compile("expected type `[^`?]+`, but this has type `[^`?]+(?:`|$)")
 # And what says nothing of a fact, whatever else stands there.
-HIDES = ("plain {n =", "has no `Need-", "is not in scope", "has no field")
+HIDES = ("plain {n =", "has no `", "is not in scope", "has no field", "was not admitted")
+# The line of an edit: what it came to stands between the label and the first error.
+LINE = re.compile(r"^rt: must-fail (\w+)/([\w.-]+)\.edit: (refused, as it must be|[A-Z ]+)([^\n]*)$", flags=re.M)
 
 
 def parts(path):
@@ -38,32 +41,20 @@ def parts(path):
     return " ".join(wrong), " ".join(breaks), " ".join(named), file, pairs
 
 
-def first_block(log):
-    """The lines of the first error of a log."""
-    if not os.path.isfile(log):
-        return []
-    lines = open(log, encoding="utf-8", errors="replace").read().splitlines()
-    at = next((i for i, line in enumerate(lines) if ": error" in line), None)
-    if at is None:
-        return []
-    end = next((i for i in range(at + 1, len(lines)) if ": error" in lines[i] or lines[i].startswith(("fn ", "note", "logic"))), len(lines))
-    return lines[at:end]
+def tries(said):
+    """Of what rt ci or rt must-fail printed, by crate and label: whether the edit was refused by an error, and what rt says of it."""
+    return {(crate, label): (came == "refused, as it must be" and not rest.startswith(" ("), rest.split(": ", 1)[-1].strip())
+            for crate, label, came, rest in LINE.findall(said)}
 
 
-def shown(log):
+def shown(tried):
     """Whether the first error shows a fact that no longer holds, and where it stands with what it says."""
-    block = first_block(log)
-    if not block:
-        return False, "no error"
-    head = block[0]
-    place = re.search(r"/((?:proofs|specs|src)/\S+?):\d+", head)
-    name = re.search(r"error(?:\[[^]]*\])?: `([^`]+)`", head)
-    words = next((line for line in block for shows in SHOWS if shows in line), None) or next((line for line in block if BOTH.search(line)), None)
-    shows = words is not None and not any(hides in line for line in block[:1] + [words] for hides in HIDES)
-    computed = next((i for i, line in enumerate(block) if line.startswith("  computed as far as they go, the two types ")), None)
-    if shows and computed is not None:
-        words = " ".join(line.strip() for line in block[computed:computed + 2] if line is block[computed] or "(found)" in line[-8:])
-    words = words or head
-    words = re.sub(r"^.*?error(?:\[[^]]*\])?: (?:`[^`]+`: )?", "", words).strip()
+    if tried is None:
+        return False, "rt says nothing of it"
+    refused, said = tried
+    place = re.search(r"(?:^|[\s/])((?:proofs|specs|src)/\S+?):\d+", said)
+    name = re.search(r"error(?:\[[^]]*\])?: `([^`]+)`", said) or re.search(r"it is not proved that .*?\(`([^`]+)`", said)
+    shows = refused and (any(word in said for word in SHOWS) or BOTH.search(said) is not None) and not any(word in said for word in HIDES)
+    words = re.sub(r"^.*?:\d+:\d+: (?:error(?:\[[^]]*\])?: (?:`[^`]+`: )?)?", "", said)
     where = " ".join(filter(None, [place.group(1) if place else "", "`%s`" % name.group(1) if name else ""]))
     return shows, "%s: %s" % (where, words)
