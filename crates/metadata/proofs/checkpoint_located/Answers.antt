@@ -1,7 +1,6 @@
 use Prim.Native.Nat.{ℕ}
 use mathlib.Core.Path.{◌≡◌, ◌∙◌, sym, ap}
 use native.Mathlib.Omega.{arith}
-use borrow.Author.Rules.{rules}
 use Rattle.model.specs.declared.Located.TheVariants.{At}
 use Rattle.model.specs.Layout.{backup_at}
 use Rattle.model.specs.Container.{seg_state}

@@ -1,4 +1,4 @@
-use Prim.Native.Nat.{ℕ, ◌+◌, ◌-◌, ◌≤◌}
+use Prim.Native.Nat.{◌+◌}
 use mathlib.Core.Path.{◌≡◌, refl}
 use mathlib.Core.Bool.{Bool, true, false}
 use native.Mathlib.Omega.{arith}
@@ -6,10 +6,7 @@ use lib.Dec.{eqb}
 use lib.ListN.{get_or}
 use mir.Val.{bool_byte}
 use borrow.Author.Rules.{rules}
-use Rattle.model.specs.Words.{Image}
-use Rattle.model.specs.Layout.{ss_backup}
-use Rattle.model.specs.Container.{seg_state}
-use Rattle.model.specs.Range.{sum_to, one_if}
+use Rattle.model.specs.Range.{one_if}
 use Rattle.model.specs.FreeBackups.{mains_in_backup}
 use Rattle.model.proofs.Laws.Range.{sum_none, sum_more, one-most}
 use Rattle.metadata.proofs.count_in_backup.Invariants.{turn}

@@ -1,17 +1,10 @@
-use Prim.Native.Nat.{ℕ, ◌+◌, ◌-◌, ◌≤◌}
-use mathlib.Core.Path.{◌≡◌, refl}
-use mathlib.Core.Bool.{Bool, true, false}
-use native.Mathlib.Omega.{arith}
+use Prim.Native.Nat.{ℕ, ◌-◌, ◌≤◌}
+use mathlib.Core.Path.{◌≡◌}
 use lib.Dec.{eqb}
-use lib.ListN.{get_or}
-use mir.Val.{bool_byte}
-use borrow.Author.Rules.{rules}
 use Rattle.model.specs.Words.{Image}
 use Rattle.model.specs.Layout.{ss_backup}
 use Rattle.model.specs.Container.{seg_state}
 use Rattle.model.specs.Range.{sum_to, one_if}
-use Rattle.model.specs.FreeBackups.{mains_in_backup}
-use Rattle.model.proofs.Laws.Range.{sum_none, sum_more, one-most}
 use Rattle.metadata.proofs.count_in_backup.Given as goal
 
 -- 1 if main segment i is in state 2, else 0

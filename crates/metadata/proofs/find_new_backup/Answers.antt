@@ -2,7 +2,6 @@ use Prim.Native.Nat.{ℕ}
 use mathlib.Core.Path.{◌≡◌, ◌∙◌, sym, ap}
 use native.Mathlib.Omega.{arith}
 use native.Mathlib.Nat.{zero-add}
-use borrow.Author.Rules.{rules}
 use lib.Dec.{eqb}
 use Rattle.model.specs.Layout.{ss_main, state_line}
 use Rattle.model.specs.Range.{first_b}
@@ -16,7 +15,6 @@ find_unused_backup-requires c =
     let l = c.args.layout in
     let I = c.args.image.now in
     let m = found_missing _ _ (sym c.in-Missing.is ∙ c.find_paired_backup-alone.ensures) in
-
     record { backups_le_most = omega arith; by_index = λ j h. omega (arith, none_alone l (active_state I) (backup_to_main I) c.requires.valid m j h) }
 
 pub returns-in-Missing : goal.returns-in-Missing

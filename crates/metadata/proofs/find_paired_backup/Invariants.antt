@@ -1,15 +1,8 @@
-use Prim.Native.Nat.{ℕ, ◌+◌, ◌-◌, ◌%◌, ◌<◌}
+use Prim.Native.Nat.{ℕ, ◌-◌, ◌%◌, ◌<◌}
 use mathlib.Core.Bool.{false}
-use mathlib.Core.Path.{◌≡◌, ap, ◌∙◌}
-use native.Mathlib.Omega.{arith}
+use mathlib.Core.Path.{◌≡◌}
 use lib.Dec.{eqb}
-use borrow.Author.Count.{below_none}
-use borrow.Author.Rules.{rules}
-use Rattle.model.proofs.Laws.Range.{first_none}
-use Rattle.model.specs.Container.{backup_to_main, paired_backup}
-use Rattle.model.specs.Range.{first_b}
-use Rattle.metadata.specs.Find.{found_below}
-use Rattle.metadata.proofs.FindLaws.{found_none, none_before, found_in_word, pairs_word}
+use Rattle.model.specs.Container.{backup_to_main}
 use Rattle.metadata.proofs.find_paired_backup.Given as goal
 
 abbrev pub invariant-loop-j : goal.invariant-loop-j

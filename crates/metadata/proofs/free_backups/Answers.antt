@@ -1,7 +1,6 @@
 use Prim.Native.Nat.{ℕ, ◌+◌}
 use mathlib.Core.Path.{◌≡◌, ap, ◌∙◌}
 use native.Mathlib.Omega.{arith}
-use borrow.Author.Rules.{rules}
 use Rattle.model.specs.Container.{seg_state, active_state, backup_to_main, free_backups}
 use Rattle.model.specs.FreeBackups.{mains_in_backup}
 use Rattle.model.proofs.Laws.FreeBackups.{in_use_counted}
