@@ -1,15 +1,13 @@
 -- Laws of keys: which name and size a key has, and which values it takes.
-use Prim.Native.Nat.{ℕ, zero, suc, ◌+◌, ◌-◌, ◌≤◌, ◌<◌, zero-le}
+use Prim.Native.Nat.{ℕ, zero, suc, ◌+◌, ◌-◌, ◌≤◌, ◌<◌}
 use mathlib.Core.Path.{◌≡◌, refl, sym, ap, ◌∙◌}
-use mathlib.Core.Bool.{Bool, false}
+use mathlib.Core.Bool.{Bool}
 use mathlib.Core.List.{List}
 use native.Mathlib.Omega.{arith}
-use native.Mathlib.Nat.{le_antisymm}
 use lib.ListN.{length}
-use borrow.Author.Tests.{le-leb, lt-leb}
 use Rattle.text.specs.declared.Number.{Number}
-use Rattle.text.specs.Text.{starts_with, Line, number_of, hex_pairs}
-use Rattle.lines.specs.Line.{most_digits, most_size, most_number, within, is_size, is_number, is_bytes, key, named}
+use Rattle.text.specs.Text.{starts_with, Line, number_of}
+use Rattle.lines.specs.Line.{most_size, most_number, within, is_size, is_number, is_bytes, key, named}
 
 -- ---- names
 
@@ -18,27 +16,11 @@ pub named_by : (k i : ℕ) (l : Line) (w : List ℕ) {r : Bool} → k ≡ i → 
 unfolding named
 named_by k i l w e h q = h ∙ ap (λ (x : List ℕ). starts_with x l) (sym q ∙ ap (λ (x : ℕ). (key x).name) (sym e))
 
--- a key that is none of the others is the last
-past : {k : ℕ} (i : ℕ) → i ≤ k → (k ≡ i → ⊥) → suc i ≤ k
-past i h n = omega arith
-
-pub last_key : (k : ℕ) → k ≤ 7 → ((((((Unit {0} × (k ≡ 0 → ⊥)) × (k ≡ 1 → ⊥)) × (k ≡ 2 → ⊥)) × (k ≡ 3 → ⊥)) × (k ≡ 4 → ⊥)) × (k ≡ 5 → ⊥)) × (k ≡ 6 → ⊥) → k ≡ 7
-last_key k h n =
-    let l : 7 ≤ k =
-    past 6 (past 5 (past 4 (past 3 (past 2 (past 1 (past 0 zero-le n.0.0.0.0.0.0.1) n.0.0.0.0.0.1) n.0.0.0.0.1) n.0.0.0.1) n.0.0.1) n.0.1) n.1 in
-    le_antisymm h l
-
 -- a size is that of a key's name
 pub size_by : (k i n : ℕ) → k ≡ i → n ≡ length (key i).name → n ≤ 7 → (n ≡ length (key k).name) × (n ≤ 7)
 size_by k i n e q h = (q ∙ ap (λ (x : ℕ). length (key x).name) (sym e), h)
 
 -- ---- values
-
-pub bytes_long : (v : List ℕ) → most_digits < length v → false ≡ is_bytes v
-bytes_long v h = rw (lt-leb (length v) most_digits h)
-
-pub bytes_short : (v : List ℕ) {r : Bool} → length v ≤ most_digits → r ≡ hex_pairs v → r ≡ is_bytes v
-bytes_short v h e = rw (le-leb (length v) most_digits h) e
 
 -- bytes, and 0 or 1
 pub good_bytes : (k : ℕ) (v : List ℕ) {r : Bool} → k ≡ 6 → r ≡ is_bytes v → r ≡ (key k).takes v

@@ -2,13 +2,13 @@
 use Prim.Native.Nat.{ℕ, ◌-◌, ◌≤◌, ◌<◌}
 use mathlib.Core.Path.{◌≡◌, refl, sym, ap, ◌∙◌}
 use mathlib.Core.Logic.{◌≢◌}
-use mathlib.Core.Bool.{Bool, true, false, not, ◌&&◌, true≢false}
+use mathlib.Core.Bool.{Bool, true, false, ◌&&◌, true≢false}
 use mathlib.Core.List.{List, [], ◌∷◌}
 use native.Mathlib.Omega.{arith}
 use native.Mathlib.Decide.{dec_lt}
 use lib.Dec.{leb, eqb}
 use lib.ListN.{length, get_or, drop, length-drop, length-take}
-use borrow.Author.Tests.{ne_eqb, leb-true, eqb-true, not-true, not-false}
+use borrow.Author.Tests.{ne_eqb, leb-true, eqb-true}
 use Rattle.model.specs.Range.{cat}
 use Rattle.model.proofs.Laws.Range.{and_left, and_right}
 use Rattle.text.specs.declared.Number.{Number}
@@ -32,14 +32,14 @@ pub line_unended : (k : ℕ) (l : Line) → get_or l (length l - 1) 0 ≢ 10 →
 unfolding good_line
 line_unended k l h = second_fails (named k l) _ _ (ne_eqb (get_or l (length l - 1) 0) 10 h)
 
-pub line_unnamed : (k : ℕ) (l : Line) {p : Bool} → p ≡ named k l → not p ≡ true → false ≡ good_line k l
+pub line_unnamed : (k : ℕ) (l : Line) {p : Bool} → p ≡ named k l → p ≡ false → false ≡ good_line k l
 unfolding good_line
-line_unnamed k l {p} e h = rw (← e, not-true p h)
+line_unnamed k l {p} e h = rw (← e, h)
 
-pub line_named : (k : ℕ) (l v : Line) {p r : Bool} → get_or l (length l - 1) 0 ≡ 10 → p ≡ named k l → not p ≡ false
+pub line_named : (k : ℕ) (l v : Line) {p r : Bool} → get_or l (length l - 1) 0 ≡ 10 → p ≡ named k l → p ≡ true
     → v ≡ value_of k l → r ≡ (key k).takes v → r ≡ good_line k l
 unfolding good_line
-line_named k l v {p} h e n q g = rw (← e, not-false p n, h, ← q) g
+line_named k l v {p} h e n q g = rw (← e, n, h, ← q) g
 
 -- ---- what a good line has
 

@@ -3,7 +3,6 @@ use mathlib.Core.Path.{◌≡◌}
 use native.Mathlib.Omega.{arith}
 use lib.ListN.{length, get_or}
 use Rattle.lines.proofs.LineLaws.{line_empty, line_unended, line_unnamed, line_named}
-use borrow.Author.Rules.{rules}
 use Rattle.lines.proofs.good_line.Goals as goal
 
 pub returns-then-line-eq0 : goal.returns-then-line-eq0
@@ -19,5 +18,5 @@ pub returns : goal.returns
 returns c =
     let l = c.args.line.now in
     let e : get_or l (length l - 1) 0 ≡ 10 = omega (arith, c.if-last-ne-LINE_END.false) in
-    line_named _ l _ e c.is_named.ensures c.if-not-is_named.false c.value_of_lem.ensures
+    line_named _ l _ e c.is_named.ensures c.if-not-is_named.false c.value_of.ensures
     c.good_value.ensures

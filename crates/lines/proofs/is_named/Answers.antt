@@ -1,9 +1,9 @@
+use Rattle.std.proofs.Common.{arith}
 use mathlib.Core.Path.{refl}
 use Rattle.model.specs.Range.{cat}
 use Rattle.text.specs.Text.{text}
 use Rattle.lines.specs.Line.{key}
-use Rattle.lines.proofs.KeyLaws.{last_key, named_by}
-use borrow.Author.Rules.{rules}
+use Rattle.lines.proofs.KeyLaws.{named_by}
 use Rattle.lines.proofs.is_named.Goals as goal
 
 pub returns-in-0 : goal.returns-in-0
@@ -36,4 +36,4 @@ returns-in-6 c = named_by _ 6 _ _ c.in-6.is c.starts_with-in-6.ensures refl
 
 pub returns-in_default : goal.returns-in_default
 unfolding key text cat
-returns-in_default c = named_by _ 7 _ _ (last_key _ c.requires c.in-0.rest) c.starts_with-in_default.ensures refl
+returns-in_default c = named_by _ 7 _ _ (omega arith) c.starts_with-in_default.ensures refl

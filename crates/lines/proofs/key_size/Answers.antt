@@ -3,7 +3,7 @@ use native.Mathlib.Omega.{arith}
 use Rattle.model.specs.Range.{cat}
 use Rattle.text.specs.Text.{text}
 use Rattle.lines.specs.Line.{key}
-use Rattle.lines.proofs.KeyLaws.{last_key, size_by}
+use Rattle.lines.proofs.KeyLaws.{size_by}
 use Rattle.lines.proofs.key_size.Goals as goal
 
 pub returns-in-0 : goal.returns-in-0
@@ -36,4 +36,4 @@ returns-in-6 c = size_by _ 6 _ c.in-6.is refl (omega arith)
 
 pub returns-in_default : goal.returns-in_default
 unfolding key text cat
-returns-in_default c = size_by _ 7 _ (last_key _ c.requires c.in-0.rest) refl (omega arith)
+returns-in_default c = size_by _ 7 _ (omega arith) refl (omega arith)

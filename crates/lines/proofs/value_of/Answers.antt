@@ -1,5 +1,4 @@
 use Rattle.lines.proofs.ValueLaws.{value_whole}
-use borrow.Author.Rules.{rules}
 use Rattle.lines.proofs.value_of.Goals as goal
 
 pub returns : goal.returns
