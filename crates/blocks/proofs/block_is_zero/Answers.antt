@@ -1,8 +1,4 @@
-use Prim.Native.Nat.{◌-◌, ◌≤◌}
-use mathlib.Core.Path.{◌≡◌, refl}
-use native.Mathlib.Omega.{arith}
-use lib.Dec.{eqb}
-use lib.ListN.{get_or}
+use mathlib.Core.Path.{refl}
 use borrow.Author.Rules.{rules}
 use Rattle.model.specs.Range.{all_b}
 use Rattle.blocks.proofs.TestLaws.{zeros_more}
@@ -16,6 +12,3 @@ pub loop-k-preserved : goal.loop-k-preserved
 loop-k-preserved c =
     let l = c.loop-k in
     (search rules, zeros_more l.seen l.k c.args.block.now l.invariant.1)
-
-pub returns : goal.returns
-returns c = let e : c.loop-k.k ≡ 256 = omega arith in rw e at c.loop-k.invariant.1

@@ -1,11 +1,8 @@
 use Prim.Native.Nat.{◌-◌, ◌≤◌}
-use mathlib.Core.Path.{◌≡◌, refl}
-use native.Mathlib.Omega.{arith}
+use mathlib.Core.Path.{◌≡◌}
 use lib.Dec.{eqb}
 use lib.ListN.{get_or}
-use borrow.Author.Rules.{rules}
 use Rattle.model.specs.Range.{all_b}
-use Rattle.blocks.proofs.TestLaws.{zeros_more}
 use Rattle.blocks.proofs.block_is_zero.Given as goal
 
 abbrev pub invariant-loop-k : goal.invariant-loop-k

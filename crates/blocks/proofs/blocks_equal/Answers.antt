@@ -1,8 +1,4 @@
-use Prim.Native.Nat.{◌-◌, ◌≤◌}
-use mathlib.Core.Path.{◌≡◌, refl}
-use native.Mathlib.Omega.{arith}
-use lib.Dec.{eqb}
-use lib.ListN.{get_or}
+use mathlib.Core.Path.{refl}
 use borrow.Author.Rules.{rules}
 use Rattle.model.specs.Range.{all_b}
 use Rattle.blocks.proofs.TestLaws.{same_more}
@@ -17,6 +13,3 @@ loop-k-preserved c =
     let l = c.loop-k in
     let g = c.args in
     (search rules, same_more l.unlike l.k g.a.now g.b.now l.invariant.1)
-
-pub returns : goal.returns
-returns c = let e : c.loop-k.k ≡ 256 = omega arith in rw e at c.loop-k.invariant.1

@@ -1,11 +1,7 @@
 use Rattle.model.specs.Layout.{block_lines}
 use Rattle.trace.proofs.EmitLaws.{emitted_none, emitted_each, fits_each}
-use Rattle.trace.specs.Emit.{Emitted}
 use Rattle.model.specs.Ops.{clwbs}
-use lib.ListN.{length}
 use native.Mathlib.Omega.{arith}
-use mathlib.Core.Path.{◌≡◌}
-use Prim.Native.Nat.{◌-◌, ◌≤◌}
 use borrow.Author.Rules.{rules}
 use Rattle.blocks.proofs.put_clwbs.Goals as goal
 
@@ -22,6 +18,3 @@ unfolding clwbs
 loop-k-preserved c =
     let l = c.loop-k in
     (omega arith, search rules, emitted_each l.k _ l.invariant.2 c.put_clwb-next.ensures)
-
-pub returns : goal.returns
-returns c = let e : c.loop-k.k ≡ block_lines = omega arith in rw e at c.loop-k.invariant.2

@@ -1,12 +1,9 @@
 use Rattle.model.specs.Layout.{block_lines}
-use Rattle.trace.proofs.EmitLaws.{emitted_none, emitted_each, fits_each}
 use Rattle.trace.specs.Emit.{Emitted}
 use Rattle.model.specs.Ops.{clwbs}
 use lib.ListN.{length}
-use native.Mathlib.Omega.{arith}
 use mathlib.Core.Path.{◌≡◌}
 use Prim.Native.Nat.{◌-◌, ◌≤◌}
-use borrow.Author.Rules.{rules}
 use Rattle.blocks.proofs.put_clwbs.Given as goal
 
 abbrev pub invariant-loop-k : goal.invariant-loop-k

@@ -2,9 +2,6 @@ use Rattle.model.proofs.Laws.Domain.{domain_stores}
 use Rattle.blocks.proofs.PartLaws.{block_words_lem}
 use Rattle.trace.proofs.EmitLaws.{fits_first, fits_then, fits_as, fits_if, fits_plain, emitted_then, emitted_as, emitted_if, emitted_unless, emitted_plain}
 use mathlib.Core.Path.{refl, sym}
-use native.Mathlib.Omega.{arith}
-use borrow.Author.Rules.{rules}
-use borrow.Author.Tests.{not-true, not-false}
 use Rattle.blocks.proofs.put_copy.Goals as goal
 
 pub put_words-stored-requires-clause-fits : goal.put_words-stored-requires-clause-fits

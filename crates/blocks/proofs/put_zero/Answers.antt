@@ -3,8 +3,6 @@ use Rattle.model.specs.Layout.{block_lines}
 use Rattle.model.specs.Ops.{clwbs, put_block}
 use Rattle.model.proofs.Laws.Domain.{domain_stores}
 use Rattle.trace.proofs.EmitLaws.{fits_first, fits_then, fits_if, fits_plain, emitted_then, emitted_if, emitted_unless, emitted_plain}
-use borrow.Author.Rules.{rules}
-use borrow.Author.Tests.{not-true, not-false}
 use Rattle.blocks.proofs.put_zero.Goals as goal
 
 pub put_zeros-next-requires-clause-fits : goal.put_zeros-next-requires-clause-fits

@@ -1,12 +1,7 @@
 use Rattle.model.specs.Layout.{block_words}
 use Rattle.trace.proofs.EmitLaws.{emitted_none, emitted_each, fits_each}
-use Rattle.trace.specs.Emit.{Emitted}
-use Rattle.model.specs.Session.{adr}
 use Rattle.model.specs.Ops.{stores}
-use lib.ListN.{length}
 use native.Mathlib.Omega.{arith}
-use mathlib.Core.Path.{◌≡◌}
-use Prim.Native.Nat.{◌-◌, ◌≤◌}
 use borrow.Author.Rules.{rules}
 use Rattle.blocks.proofs.put_zeros.Goals as goal
 
@@ -23,6 +18,3 @@ unfolding stores
 loop-k-preserved c =
     let l = c.loop-k in
     (omega arith, search rules, emitted_each l.k _ l.invariant.2 c.put_store-next.ensures)
-
-pub returns : goal.returns
-returns c = let e : c.loop-k.k ≡ block_words = omega arith in rw e at c.loop-k.invariant.2

@@ -1,13 +1,10 @@
 use Rattle.model.specs.Layout.{block_words}
-use Rattle.trace.proofs.EmitLaws.{emitted_none, emitted_each, fits_each}
 use Rattle.trace.specs.Emit.{Emitted}
 use Rattle.model.specs.Session.{adr}
 use Rattle.model.specs.Ops.{stores}
 use lib.ListN.{length}
-use native.Mathlib.Omega.{arith}
 use mathlib.Core.Path.{◌≡◌}
 use Prim.Native.Nat.{◌-◌, ◌≤◌}
-use borrow.Author.Rules.{rules}
 use Rattle.blocks.proofs.put_zeros.Given as goal
 
 abbrev pub invariant-loop-k : goal.invariant-loop-k
