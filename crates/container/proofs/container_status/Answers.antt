@@ -1,5 +1,4 @@
-use Rattle.std.proofs.Common.{ℕ, not, [], ◌∷◌, sym, ap, ◌∙◌, arith, rules, eqb-true}
-use borrow.Author.Tests.{not-true, not-false}
+use Rattle.std.proofs.Common.{ℕ, not, [], ◌∷◌, sym, ap, ◌∙◌, arith, eqb-true}
 use Rattle.model.specs.Container.{active_line, seg_state, backup_to_main, valid_metadata, header_ok, layout_errors, valid_errors}
 use Rattle.model.proofs.Laws.Layout.{metadata_inside}
 use Rattle.model.proofs.Laws.Status.{first_holds, first_fails, first_of_none, stage_refused, stage_passed}

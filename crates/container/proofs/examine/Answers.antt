@@ -1,19 +1,12 @@
-use Rattle.std.proofs.Common.{◌≡◌, ℕ, ◌+◌, ◌*◌, ◌/◌, ◌^◌, ◌≤◌, ◌&&◌, eqb, ltb, sym, ap, ◌∙◌, ap₂, arith, rules}
-use lib.Count.{ones, ones-le}
+use Rattle.std.proofs.Common.{◌≡◌, ℕ, ◌+◌, ◌*◌, ◌/◌, ◌^◌, ◌≤◌, ◌&&◌, eqb, ltb, sym, ap, ◌∙◌, ap₂, arith}
+use lib.Count.{ones}
 use Rattle.model.specs.Range.{all_b}
 use Rattle.model.specs.Session.{bit, is_dirty}
 use Rattle.model.specs.Container.{seg_state, backup_to_main}
 use Rattle.container.specs.declared.Paired.{Paired}
 use Rattle.container.specs.Scan.{lay_pairs, state_fits}
-use Rattle.container.proofs.PairLaws.{set_small}
 use Rattle.container.proofs.ValidLaws.{tested_valid, tested_paired}
 use Rattle.container.proofs.examine.Goals as goal
-
-pub overflow_cast-pairs_ok : goal.overflow_cast-pairs_ok
-overflow_cast-pairs_ok c =
-    let pr = backup_to_main c.args.image.now in
-    let p = 8 * c.word_count.result in
-    omega (arith, ap (λ (x : Paired). ones x.set) c.scan_pairs-paired.ensures, ones-le 64 _ (set_small pr p))
 
 pub returns : goal.returns
 returns c =

@@ -1,6 +1,5 @@
-use Rattle.std.proofs.Common.{◌≡◌, ℕ, ◌+◌, ◌-◌, ◌*◌, ◌/◌, ◌%◌, ◌^◌, ◌<◌, ◌≤◌, ◌||◌, eqb, ltb, sym, refl, ap, ◌∙◌, arith, rules, lt-ltb}
+use Rattle.std.proofs.Common.{ℕ, ◌+◌, ◌*◌, ◌/◌, ◌%◌, ◌^◌, ◌<◌, eqb, sym, refl, ap, ◌∙◌, arith, rules, lt-ltb}
 use lib.Bits.{bit_or, bit_xor}
-use Rattle.model.specs.Range.{all_b}
 use Rattle.model.specs.Words.{Bytes, byte_at}
 use Rattle.model.proofs.Laws.Range.{all_from, or_left}
 use Rattle.model.proofs.Laws.Words.{word_moved}
@@ -39,6 +38,3 @@ loop-k-preserved c =
       ap (λ (w : ℕ). eqb (bit_or c.loop-k.seen (bit_xor c.word_at.result w)) 0) c.each-pattern.ensures
           ∙ rest_more (λ i. byte_at I (a.at + i)) a.value a.n c.word_at.result k c.loop-k.seen (λ i. bytes (a.at + i)) value c.loop-k.invariant.1 word c.loop-k.invariant.2,
     )
-
-pub returns : goal.returns
-returns c = let e : 8 * c.loop-k.k ≡ 32 = omega arith in rw e at c.loop-k.invariant.2

@@ -1,10 +1,6 @@
-use Rattle.std.proofs.Common.{◌≡◌, ℕ, ◌+◌, ◌-◌, ◌*◌, ◌/◌, ◌%◌, ◌^◌, ◌<◌, ◌≤◌, ◌||◌, eqb, ltb, sym, refl, ap, ◌∙◌, arith, rules, lt-ltb}
-use lib.Bits.{bit_or, bit_xor}
+use Rattle.std.proofs.Common.{◌≡◌, ◌+◌, ◌-◌, ◌*◌, ◌≤◌, ◌||◌, eqb, ltb}
 use Rattle.model.specs.Range.{all_b}
-use Rattle.model.specs.Words.{Bytes, byte_at}
-use Rattle.model.proofs.Laws.Range.{all_from, or_left}
-use Rattle.model.proofs.Laws.Words.{word_moved}
-use Rattle.container.proofs.LineLaws.{rest_first, rest_more}
+use Rattle.model.specs.Words.{byte_at}
 use Rattle.container.proofs.half_is.Given as goal
 
 abbrev pub invariant-loop-k : goal.invariant-loop-k

@@ -1,11 +1,7 @@
-use Rattle.std.proofs.Common.{◌≡◌, ◌+◌, ◌-◌, ◌%◌, ◌≤◌, refl, ap, arith, rules}
+use Rattle.std.proofs.Common.{◌+◌, ◌-◌, ◌%◌, ap, arith}
 use Rattle.container.specs.declared.Paired.{Paired}
-use Rattle.container.specs.Scan.{lay_bytes}
 use Rattle.container.proofs.PairLaws.{lay_more, lay_done, lay_count}
 use Rattle.container.proofs.lay_eight.Goals as goal
-
-pub loop-t-init : goal.loop-t-init
-loop-t-init c = (omega arith, omega arith, refl)
 
 pub loop-t-preserved : goal.loop-t-preserved
 loop-t-preserved c =

@@ -1,7 +1,5 @@
-use Rattle.std.proofs.Common.{◌≡◌, ◌+◌, ◌-◌, ◌%◌, ◌≤◌, refl, ap, arith, rules}
-use Rattle.container.specs.declared.Paired.{Paired}
+use Rattle.std.proofs.Common.{◌≡◌, ◌+◌, ◌-◌, ◌≤◌}
 use Rattle.container.specs.Scan.{lay_bytes}
-use Rattle.container.proofs.PairLaws.{lay_more, lay_done, lay_count}
 use Rattle.container.proofs.lay_eight.Given as goal
 
 abbrev pub invariant-loop-t : goal.invariant-loop-t

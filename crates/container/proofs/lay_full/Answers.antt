@@ -1,20 +1,17 @@
-use Rattle.std.proofs.Common.{◌≡◌, ℕ, ◌+◌, ◌-◌, ◌*◌, ◌%◌, ◌^◌, ◌≤◌, true, ap, ◌∙◌, arith, rules}
+use Rattle.std.proofs.Common.{◌≡◌, ℕ, ◌+◌, ◌-◌, ◌*◌, ◌%◌, ◌^◌, ap, ◌∙◌, arith, rules}
 use lib.Bits.{bit_or}
-use Rattle.container.specs.declared.Paired.{Paired}
-use Rattle.container.specs.Scan.{lay_pair, lay_bytes, low_bytes}
+use Rattle.container.specs.Scan.{lay_pair, lay_bytes}
 use Rattle.container.proofs.PairLaws.{lay_more, lay_done, lay_low, low_first}
+use Rattle.container.proofs.lay_full.Invariants.{with-set}
 use Rattle.container.proofs.lay_full.Goals as goal
 
-abbrev with-set : Paired → ℕ → ℕ → Paired
-with-set before set t = record { set = set; count = before.count + t }
-
 pub loop-t-init : goal.loop-t-init
-loop-t-init c = (omega arith, search rules, ap (λ (n : ℕ). lay_bytes 8 (record { set = c.args.set; count = n }) c.args.word) (omega arith))
+loop-t-init c = (omega arith, search rules, ap (λ (n : ℕ). lay_bytes 8 (record { set = c.args.before.set; count = n }) c.args.word) (omega arith))
 
 pub loop-t-preserved : goal.loop-t-preserved
 loop-t-preserved c =
     let b = c.loop-t in
-    let before = c.args in
+    let before = c.args.before in
     let low = low_first (8 - (b.t + 1)) (8 - b.t) b.rest (omega arith) b.invariant.1 in
     let set = bit_or b.set (1 * 2 ^ (b.rest % 64) % 18446744073709551616) in
     let laid : with-set before set (b.t + 1) ≡ lay_pair (with-set before b.set b.t) (b.rest % 256) =
@@ -25,5 +22,5 @@ loop-t-preserved c =
 pub returns : goal.returns
 returns c =
     let b = c.loop-t in
-    let before = c.args in
+    let before = c.args.before in
     ap (λ (n : ℕ). with-set before b.set n) (omega arith) ∙ lay_done (8 - b.t) (with-set before b.set b.t) _ b.rest (omega arith) b.invariant.2

@@ -1,4 +1,4 @@
-use Rattle.std.proofs.Common.{ℕ, ◌+◌, ◌&&◌, ap, ◌∙◌, ap₂, arith, rules}
+use Rattle.std.proofs.Common.{◌+◌, ◌&&◌, ap, ◌∙◌, ap₂, arith}
 use Rattle.model.specs.Words.{byte_at}
 use Rattle.container.proofs.LineLaws.{rest_halves, rest_second}
 use Rattle.container.proofs.rest_is.Goals as goal

@@ -1,4 +1,4 @@
-use Rattle.std.proofs.Common.{◌≡◌, ℕ, ◌+◌, ◌-◌, ◌*◌, ◌≤◌, refl, ap, ◌∙◌, arith, rules}
+use Rattle.std.proofs.Common.{◌+◌, ◌*◌, refl, ap, ◌∙◌, arith}
 use Rattle.model.specs.Words.{Bytes, byte_at}
 use Rattle.model.specs.Container.{backup_to_main}
 use Rattle.model.proofs.Laws.Words.{word_moved}
@@ -26,8 +26,3 @@ loop-k-preserved c =
       omega arith,
       c.lay_word-paired.ensures ∙ lay_word pr n c.word_at-word.result c.loop-k.paired (λ i. bytes (256 + i)) c.loop-k.invariant.1 word ∙ ap (lay_pairs pr) (omega arith),
     )
-
-pub returns : goal.returns
-returns c =
-    let e : c.loop-k.k ≡ c.args.count = omega arith in
-    rw e at c.loop-k.invariant.1

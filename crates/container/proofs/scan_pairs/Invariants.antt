@@ -1,10 +1,6 @@
-use Rattle.std.proofs.Common.{◌≡◌, ℕ, ◌+◌, ◌-◌, ◌*◌, ◌≤◌, refl, ap, ◌∙◌, arith, rules}
-use Rattle.model.specs.Words.{Bytes, byte_at}
+use Rattle.std.proofs.Common.{◌≡◌, ◌-◌, ◌*◌, ◌≤◌}
 use Rattle.model.specs.Container.{backup_to_main}
-use Rattle.model.proofs.Laws.Words.{word_moved}
-use Rattle.container.specs.declared.Paired.{Paired}
 use Rattle.container.specs.Scan.{lay_pairs}
-use Rattle.container.proofs.PairLaws.{lay_word, count_most}
 use Rattle.container.proofs.scan_pairs.Given as goal
 
 abbrev pub invariant-loop-k : goal.invariant-loop-k

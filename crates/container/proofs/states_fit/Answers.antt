@@ -1,10 +1,7 @@
-use Rattle.std.proofs.Common.{◌≡◌, ℕ, ◌+◌, ◌-◌, ◌*◌, ◌^◌, ◌<◌, ◌≤◌, eqb, ap, ◌∙◌, arith, rules}
-use Rattle.model.specs.Range.{all_b}
+use Rattle.std.proofs.Common.{◌+◌, ◌*◌, ◌^◌, ◌<◌, ap, ◌∙◌, arith, rules}
 use Rattle.model.specs.Words.{Bytes, byte_at}
-use Rattle.model.specs.Session.{bit}
 use Rattle.model.proofs.Laws.Range.{all_none}
 use Rattle.model.proofs.Laws.Words.{word_moved}
-use Rattle.container.specs.Scan.{state_fits}
 use Rattle.container.proofs.LineLaws.{fit_more}
 use Rattle.container.proofs.states_fit.Goals as goal
 
@@ -22,6 +19,3 @@ loop-k-preserved c =
       omega arith,
       fit_more (λ i. byte_at I (a.line + i)) a.set k c.loop-k.over c.wrapping_sub_u64-left.result _ _ (λ i. bytes (a.line + i)) left word c.bits_at.ensures c.wrapping_sub_u64-left.ensures.value c.loop-k.invariant.1,
     )
-
-pub returns : goal.returns
-returns c = let e : c.loop-k.k ≡ c.args.count = omega arith in rw e at c.loop-k.invariant.1

@@ -1,11 +1,8 @@
-use Rattle.std.proofs.Common.{◌≡◌, ℕ, ◌+◌, ◌-◌, ◌*◌, ◌^◌, ◌<◌, ◌≤◌, eqb, ap, ◌∙◌, arith, rules}
+use Rattle.std.proofs.Common.{◌≡◌, ◌+◌, ◌-◌, ◌*◌, ◌≤◌, eqb}
 use Rattle.model.specs.Range.{all_b}
-use Rattle.model.specs.Words.{Bytes, byte_at}
+use Rattle.model.specs.Words.{byte_at}
 use Rattle.model.specs.Session.{bit}
-use Rattle.model.proofs.Laws.Range.{all_none}
-use Rattle.model.proofs.Laws.Words.{word_moved}
 use Rattle.container.specs.Scan.{state_fits}
-use Rattle.container.proofs.LineLaws.{fit_more}
 use Rattle.container.proofs.states_fit.Given as goal
 
 abbrev pub invariant-loop-k : goal.invariant-loop-k
