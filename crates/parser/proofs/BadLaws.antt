@@ -7,7 +7,7 @@ use mathlib.Core.List.{List, [], ◌∷◌}
 use native.Mathlib.Omega.{arith}
 use native.Mathlib.Numerals.{add-one}
 use lib.Dec.{eqb}
-use borrow.Author.Tests.{ne_eqb, eqb-true, not-true, not-false}
+use borrow.Author.Tests.{ne_eqb, eqb-true}
 use Rattle.text.specs.Text.{Line}
 use Rattle.lines.specs.Line.{named, good_line}
 use Rattle.parser.specs.Script.{key_for, following, first_bad}
@@ -31,34 +31,13 @@ good_end k n ls e h = rw (e, h)
 
 -- a bad line, and a good one
 module _ (k n f : ℕ) (l : Line) (ls rest : List Line) {g : Bool} (e : ls ≡ l ∷ rest) (q : f ≡ key_for k l) (t : g ≡ good_line f l) where
-  pub bad_line : not g ≡ true → n + 1 ≡ first_bad k n ls
+  pub bad_line : g ≡ false → n + 1 ≡ first_bad k n ls
   unfolding first_bad
-  bad_line h = rw (e, add-one, ← q, ← t, not-true g h)
+  bad_line h = rw (e, add-one, ← q, ← t, h)
 
-  pub good_line_lem : {m : ℕ} → not g ≡ false → m ≡ following f → first_bad k n ls ≡ first_bad m (n + 1) rest
+  pub good_line_lem : {m : ℕ} → g ≡ true → m ≡ following f → first_bad k n ls ≡ first_bad m (n + 1) rest
   unfolding first_bad
-  good_line_lem h x = rw (e, add-one, ← q, ← t, not-false g h, x)
-
--- ---- the next key
-
-pub for_other : (k : ℕ) (l : Line) → k ≢ 1 → k ≡ key_for k l
-for_other k l h = rw (ne_eqb k 1 h)
-
-pub for_unnamed : (k : ℕ) (l : Line) {p : Bool} → k ≡ 1 → p ≡ named 1 l → not p ≡ true → 2 ≡ key_for k l
-for_unnamed k l {p} e q h = rw (e, ← q, not-true p h)
-
-pub for_named : (k : ℕ) (l : Line) {p : Bool} → p ≡ named 1 l → not p ≡ false → k ≡ key_for k l
-for_named k l {p} q h = rw (← q, not-false p h) (go (eqb k 1))
-  where
-    go : (t : Bool) → k ≡ cond (t && not true) 2 k
-    go true = refl
-    go false = refl
-
-pub after_last : (k : ℕ) → k ≡ 7 → 3 ≡ following k
-after_last k e = rw e
-
-pub after_other : (k : ℕ) → k ≢ 7 → k + 1 ≡ following k
-after_other k h = rw (add-one, ne_eqb k 7 h)
+  good_line_lem h x = rw (e, add-one, ← q, ← t, h, x)
 
 -- ---- no bad line
 

@@ -1,7 +1,7 @@
 -- What is read of an input line by line: the sizes, and the group that starts at a place.
 use Prim.Native.Nat.{ℕ, suc, ◌+◌, ◌-◌, ◌≤◌}
 use mathlib.Core.Path.{◌≡◌, refl, sym, ap, ◌∙◌}
-use mathlib.Core.Bool.{Bool, true, false, not}
+use mathlib.Core.Bool.{Bool, true, false}
 use mathlib.Core.List.{List, []}
 use native.Mathlib.Omega.{arith}
 use native.Mathlib.Nat.{add-zero}
@@ -9,7 +9,6 @@ use native.Mathlib.Numerals.{add-one}
 use lib.Dec.{eqb}
 use lib.ListN.{length, take, drop}
 use lib.Seq.{drop-drop, get_or-drop}
-use borrow.Author.Tests.{not-true, not-false}
 use Rattle.model.specs.declared.Layout.{Layout}
 use Rattle.model.specs.Layout.{layout_of}
 use Rattle.text.specs.Text.{Line, lines_of}
@@ -59,11 +58,11 @@ module _ (input : List ℕ) (s t m : ℕ) (es : Ends input 0 s) (et : Ends input
   name = ep ∙ ap (named 1) (line_part input ls 1 s t second et)
 
   -- without a line of backups
-  pub header_short : {d n : ℕ} {l : Layout} → not p ≡ true → d ≡ default_backups m → n ≡ number_in 2 (take (t - s) (drop s input))
+  pub header_short : {d n : ℕ} {l : Layout} → p ≡ false → d ≡ default_backups m → n ≡ number_in 2 (take (t - s) (drop s input))
       → l ≡ layout_of m d n → ReadsHeader input (record { layout = l; next = t })
   unfolding sizes_of blocks_line
   header_short {n = n} h ed en el =
-      let b : named 1 (line_at ls 1) ≡ false = sym name ∙ not-true p h in
+      let b : named 1 (line_at ls 1) ≡ false = sym name ∙ h in
       let q : n ≡ number_in 2 (line_at ls 1) = line_number input ls 1 s t second et 2 en in
       record {
         layout = el ∙ rw (b, ed, ← mains, ← q);
@@ -72,11 +71,11 @@ module _ (input : List ℕ) (s t m : ℕ) (es : Ends input 0 s) (et : Ends input
       }
 
   -- with one
-  pub header_long : (u : ℕ) {a n : ℕ} {l : Layout} → not p ≡ false → Ends input t u → a ≡ number_in 1 (take (t - s) (drop s input))
+  pub header_long : (u : ℕ) {a n : ℕ} {l : Layout} → p ≡ true → Ends input t u → a ≡ number_in 1 (take (t - s) (drop s input))
       → n ≡ number_in 2 (take (u - t) (drop t input)) → l ≡ layout_of m a n → ReadsHeader input (record { layout = l; next = u })
   unfolding sizes_of blocks_line
   header_long u {a} {n} h eu ea en el =
-      let b : named 1 (line_at ls 1) ≡ true = sym name ∙ not-false p h in
+      let b : named 1 (line_at ls 1) ≡ true = sym name ∙ h in
       let x : a ≡ number_in 1 (line_at ls 1) = line_number input ls 1 s t second et 1 ea in
       let y : n ≡ number_in 2 (line_at ls 2) = line_number input ls 2 t u third eu 2 en in
       record {

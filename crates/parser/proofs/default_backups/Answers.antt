@@ -1,5 +1,4 @@
 use native.Mathlib.Omega.{arith}
-use borrow.Author.Rules.{rules}
 use Rattle.parser.specs.Script.{default_backups}
 use Rattle.parser.proofs.default_backups.Goals as goal
 

@@ -1,28 +1,8 @@
-use Rattle.parser.proofs.BadLaws.{key_for-most, bad_end, good_end, bad_line, good_line_lem}
+use Rattle.parser.proofs.BadLaws.{bad_end, good_end, bad_line, good_line_lem}
 use Rattle.text.proofs.LineLaws.{next_after, next_lines, lines_none}
-use Rattle.parser.specs.Script.{first_bad}
-use Rattle.text.specs.Text.{lines_of}
-use lib.ListN.{length, drop}
 use native.Mathlib.Omega.{arith}
-use mathlib.Core.Path.{◌≡◌, refl, sym, ◌∙◌}
-use Prim.Native.Nat.{◌-◌, ◌≤◌}
-use borrow.Author.Rules.{rules}
+use mathlib.Core.Path.{sym, ◌∙◌}
 use Rattle.parser.proofs.first_bad.Goals as goal
-
--- ?? abbrev invariant-loop : tie.invariant-loop
-invariant-loop input key₀ count₀ at₀ key count «at» =
-    («at» ≤ length input) × (key ≤ 7) × (count ≤ «at») × (first_bad 0 0 (lines_of input) ≡ first_bad key count (lines_of (drop «at» input)))
-
--- ?? abbrev decreases-loop : tie.decreases-loop
-decreases-loop input key₀ count₀ at₀ key count «at» = length input - «at»
-
-pub loop-at-init : goal.loop-at-init
-loop-at-init c = (search rules, search rules, search rules, refl)
-
-pub good_line-requires : goal.good_line-requires
-good_line-requires c =
-    let l = c.loop-at in
-    rw c.key_for-found.ensures (key_for-most l.key _ l.invariant.1)
 
 pub returns-then-not-good_line : goal.returns-then-not-good_line
 returns-then-not-good_line c =
@@ -30,11 +10,6 @@ returns-then-not-good_line c =
     bad_line l.key l.count c.key_for-found.result _ _ _ (next_lines _ _ _ c.next_line-end.ensures.0 (omega arith))
     c.key_for-found.ensures c.good_line.ensures c.if-not-good_line.true
     ∙ sym l.invariant.3
-
-pub key_after-key-requires : goal.key_after-key-requires
-key_after-key-requires c =
-    let l = c.loop-at in
-    rw c.key_for-found.ensures (key_for-most l.key _ l.invariant.1)
 
 pub loop-at-smaller : goal.loop-at-smaller
 loop-at-smaller c = omega (arith, next_after _ _ _ c.next_line-end.ensures.0 (omega arith))

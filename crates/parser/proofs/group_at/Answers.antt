@@ -1,5 +1,4 @@
 use Rattle.parser.proofs.ReadLaws.{group_read}
-use borrow.Author.Rules.{rules}
 use Rattle.parser.proofs.group_at.Goals as goal
 
 pub returns : goal.returns

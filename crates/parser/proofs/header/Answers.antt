@@ -1,5 +1,4 @@
 use Rattle.parser.proofs.ReadLaws.{header_short, header_long}
-use borrow.Author.Rules.{rules}
 use Rattle.parser.proofs.header.Goals as goal
 
 pub returns-then-not-is_named : goal.returns-then-not-is_named

@@ -1,4 +1,3 @@
-use borrow.Author.Rules.{rules}
 use Rattle.parser.proofs.VerdictLaws.{verdict_long, verdict_good, verdict_bad}
 use Rattle.parser.proofs.verdict.Goals as goal
 
