@@ -28,7 +28,10 @@ overflow_add-place c = omega (arith, walk_below c.loop-rest.invariant.1.1.0 (ome
 pub put_clwbs-next-requires : goal.put_clwbs-next-requires
 put_clwbs-next-requires c =
     let w = c.loop-rest.invariant.1.1 in
-    (omega (arith, walk_below w.0 (omega arith)), dirty_fits _ w.0 (omega arith) w.1 c.requires.fits)
+    record {
+      block_size_bound = omega (arith, walk_below w.0 (omega arith));
+      fits = dirty_fits _ w.0 (omega arith) w.1 c.requires.fits;
+    }
 
 pub loop-rest-smaller : goal.loop-rest-smaller
 loop-rest-smaller c = let m = c.loop-rest.rest in omega (arith, and_le_r m (m - 1))

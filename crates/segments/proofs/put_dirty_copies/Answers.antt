@@ -36,13 +36,8 @@ overflow_add-target c = omega (arith, walk_below c.loop-rest.invariant.1.1.0 (om
 pub overflow_add-source-in-loop-rest : goal.overflow_add-source-in-loop-rest
 overflow_add-source-in-loop-rest c = omega (arith, walk_below c.loop-rest.invariant.1.1.0 (omega arith))
 
--- NO GOAL slice-bounds-put-copy-start
--- part-put-copy-start : tie.Need-slice-bounds-put-copy-start invariant-loop decreases-loop
--- part-put-copy-start c = omega (arith, walk_below c.before.loop.invariant.1.1.0 (omega arith))
-
--- NO GOAL slice-bounds-put-copy-end
--- part-put-copy-end : tie.Need-slice-bounds-put-copy-end invariant-loop decreases-loop
--- part-put-copy-end c = omega (arith, walk_below c.before.loop.invariant.1.1.0 (omega arith))
+pub slice_bounds-put_copy-end : goal.slice_bounds-put_copy-end
+slice_bounds-put_copy-end c = omega (arith, walk_below c.loop-rest.invariant.1.1.0 (omega arith))
 
 pub put_copy-next-requires : goal.put_copy-next-requires
 put_copy-next-requires c =
@@ -51,13 +46,12 @@ put_copy-next-requires c =
     let w = l.invariant.1.1 in
     let b = count_trailing_zeros 64 l.rest in
     let below = walk_below w.0 (omega arith) in
-    let e = length_part g.image.now (g.from + block_size * b) (omega (arith, below)) in (
-      omega (arith, e),
-      (
-        omega (arith, below),
-        fits_as (sym (copy_part g.image.now (g.from + block_size * b) (g.to + block_size * b) g.flush)) (dirty_fits _ w.0 (omega arith) w.1 c.requires.fits),
-      ),
-    )
+    let e = length_part g.image.now (g.from + block_size * b) (omega (arith, below)) in record {
+      block_len = omega (arith, e);
+      block_size_bound = omega (arith, below);
+      fits =
+          fits_as (sym (copy_part g.image.now (g.from + block_size * b) (g.to + block_size * b) g.flush)) (dirty_fits _ w.0 (omega arith) w.1 c.requires.fits);
+    }
 
 pub loop-rest-smaller : goal.loop-rest-smaller
 loop-rest-smaller c = let m = c.loop-rest.rest in omega (arith, and_le_r m (m - 1))

@@ -29,7 +29,10 @@ overflow_add-target c = omega (arith, walk_below c.loop-rest.invariant.1.1.0 (om
 pub put_zero-next-requires : goal.put_zero-next-requires
 put_zero-next-requires c =
     let w = c.loop-rest.invariant.1.1 in
-    (omega (arith, walk_below w.0 (omega arith)), dirty_fits _ w.0 (omega arith) w.1 c.requires.fits)
+    record {
+      block_size_bound = omega (arith, walk_below w.0 (omega arith));
+      fits = dirty_fits _ w.0 (omega arith) w.1 c.requires.fits;
+    }
 
 pub loop-rest-smaller : goal.loop-rest-smaller
 loop-rest-smaller c = let m = c.loop-rest.rest in omega (arith, and_le_r m (m - 1))

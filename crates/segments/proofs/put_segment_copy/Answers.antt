@@ -20,14 +20,13 @@ unfolding copy_segment persist_copy
 put_copy-next-requires c =
     let l = c.loop-b in
     let g = c.args in
-    let e = length_part g.image.now (g.from + block_size * l.b) (omega arith) in (
-      omega arith,
-      (
-        omega arith,
-        fits_as (sym (copy_part g.image.now (g.from + block_size * l.b) (g.to + block_size * l.b) true))
-            (fits_each l.b g.layout.blocks _ (omega arith) c.requires.fits l.invariant.2),
-      ),
-    )
+    let e = length_part g.image.now (g.from + block_size * l.b) (omega arith) in record {
+      block_len = omega arith;
+      block_size_bound = omega arith;
+      fits =
+          fits_as (sym (copy_part g.image.now (g.from + block_size * l.b) (g.to + block_size * l.b) true))
+              (fits_each l.b g.layout.blocks _ (omega arith) c.requires.fits l.invariant.2);
+    }
 
 pub loop-b-preserved : goal.loop-b-preserved
 unfolding persist_copy

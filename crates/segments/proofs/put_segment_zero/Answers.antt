@@ -13,11 +13,11 @@ use Rattle.segments.proofs.put_segment_zero.Goals as goal
 pub loop-b-init : goal.loop-b-init
 loop-b-init c = (search rules, search rules, emitted_none _)
 
-pub put_zero-next-requires : goal.put_zero-next-requires
+pub put_zero-next-requires-clause-fits : goal.put_zero-next-requires-clause-fits
 unfolding zero_segment persist_zero
-put_zero-next-requires c =
+put_zero-next-requires-clause-fits c =
     let l = c.loop-b in
-    (search rules, fits_each l.b c.args.layout.blocks _ (omega arith) c.requires.fits l.invariant.2)
+    fits_each l.b c.args.layout.blocks _ (omega arith) c.requires.fits l.invariant.2
 
 pub loop-b-preserved : goal.loop-b-preserved
 unfolding persist_zero
