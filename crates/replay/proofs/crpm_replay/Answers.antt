@@ -10,13 +10,13 @@ unfolding replay_outcome
 returns-then-not-is_served c =
     let s = c.replay_status-status.ensures in
     let x = refused _ _ _ (λ e. eqb-false _ _ (sym c.is_served.ensures ∙ c.if-not-is_served.true) (s ∙ e)) in
-    (s, (x.0, x.1))
+    record { status_value = s; played_value = x.0; image_after = x.1 }
 
 pub play-requires : goal.play-requires
 play-requires c =
     let z = eqb-true _ _ (sym c.is_served.ensures ∙ c.if-not-is_served.false) in
     let x = judged _ _ _ (sym c.replay_status-status.ensures ∙ z) in
-    rw c.replay_count-count.ensures (count_inside _ _, x)
+    rw c.replay_count-count.ensures record { count_in_bounds = count_inside _ _; line_size_len = x.0; count_value = x.1 }
 
 pub returns : goal.returns
 unfolding replay_outcome

@@ -8,7 +8,7 @@ pub store_word-requires : goal.store_word-requires
 store_word-requires c = store_inside _ _ _ _ c.if-kind-eq-OP_STORE.true c.requires.line_size_len c.requires.word_value
 
 pub returns-then-kind-eq-OP_STORE : goal.returns-then-kind-eq-OP_STORE
-returns-then-kind-eq-OP_STORE c = c.Store-word.ensures ∙ played_store _ _ _ _ c.if-kind-eq-OP_STORE.true
+returns-then-kind-eq-OP_STORE c = c.store_word.ensures ∙ played_store _ _ _ _ c.if-kind-eq-OP_STORE.true
 
 pub returns-else-kind-eq-OP_STORE : goal.returns-else-kind-eq-OP_STORE
 returns-else-kind-eq-OP_STORE c = played_other _ _ _ _ c.if-kind-eq-OP_STORE.false
