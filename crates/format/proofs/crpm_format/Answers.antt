@@ -10,10 +10,10 @@ pub returns-then-not-is_served : goal.returns-then-not-is_served
 returns-then-not-is_served c =
     let s = c.size_status-status.ensures in
     let z = eqb-false _ _ (sym c.is_served.ensures ∙ c.if-not-is_served.true) in
-    let I = c.args.image.now in (
-      s ∙ status_given c.new-layout.result I ∙ ap (λ (l : Layout). (format_outcome l I).status) c.new-layout.ensures,
-      refused c.new-layout.result I (λ e. z (s ∙ e)) ∙ ap (λ (l : Layout). (format_outcome l I).image) c.new-layout.ensures,
-    )
+    let I = c.args.image.now in record {
+      result_value = s ∙ status_given c.new-layout.result I ∙ ap (λ (l : Layout). (format_outcome l I).status) c.new-layout.ensures;
+      image_after = refused c.new-layout.result I (λ e. z (s ∙ e)) ∙ ap (λ (l : Layout). (format_outcome l I).image) c.new-layout.ensures;
+    }
 
 pub write_formatted-requires : goal.write_formatted-requires
 write_formatted-requires c =
