@@ -1,19 +1,12 @@
 use Prim.Native.Nat.{◌+◌, ◌-◌, ◌≤◌, ◌<◌}
 use mathlib.Core.Path.{◌≡◌, ◌∙◌}
-use mathlib.Core.Logic.{⊎_elim}
 use native.Mathlib.Omega.{arith}
 use lib.ListN.{length, length-set}
 use borrow.Author.Rules.{rules}
 use Rattle.model.specs.Words.{byte_at}
 use Rattle.span.proofs.SpanLaws.{Laid, laid_none, laid_more, laid_all}
 use Rattle.span.proofs.overlaid_word.Goals as goal
-
--- ?? abbrev invariant-loop : tie.invariant-loop
-invariant-loop image at bytes place bytes-end word_end end word₀ i₀ word i =
-    (at ≤ i) × (place ≤ i) × (end ≤ at + length bytes) × (end ≤ place + 8) × (length word ≡ 8) × Laid (byte_at image) at bytes place i word
-
--- ?? abbrev decreases-loop : tie.decreases-loop
-decreases-loop image at bytes place bytes-end word_end end word₀ i₀ word i = end - i
+use Rattle.span.proofs.overlaid_word.Goals.{then-at-place, else-at-place, then-bytes_end-word_end, else-bytes_end-word_end}
 
 pub loop-i-init : goal.loop-i-init
 loop-i-init c =
@@ -21,8 +14,8 @@ loop-i-init c =
     let b = c.bytes_at-word in
     let i = c.if-at-place.i in
     let end = c.if-bytes_end-word_end.end in
-    let s : (a.at ≤ i) × (a.place ≤ i) × (a.at < i → i ≤ a.place) = ⊎_elim (λ w. (omega arith, omega arith, λ x. omega arith)) (λ w. (omega arith, omega arith, λ x. omega arith)) c.if-at-place.branch in
-    let e : (end ≤ a.at + length a.bytes.now) × (end ≤ a.place + 8) = ⊎_elim (λ w. (omega arith, omega arith)) (λ w. (omega arith, omega arith)) c.if-bytes_end-word_end.branch in
+    let s : (a.at ≤ i) × (a.place ≤ i) × (a.at < i → i ≤ a.place) = elim c.if-at-place.branch [ then-at-place w ↦ (omega arith, omega arith, λ x. omega arith) | else-at-place w ↦ (omega arith, omega arith, λ x. omega arith) ] in
+    let e : (end ≤ a.at + length a.bytes.now) × (end ≤ a.place + 8) = elim c.if-bytes_end-word_end.branch [ then-bytes_end-word_end w ↦ (omega arith, omega arith) | else-bytes_end-word_end w ↦ (omega arith, omega arith) ] in
     (s.0, s.1, e.0, e.1, search rules, laid_none (byte_at a.image.now) a.at a.bytes.now a.place i b.result s.2 b.ensures)
 
 pub bounds-bytes-i : goal.bounds-bytes-i
@@ -49,5 +42,5 @@ pub returns : goal.returns
 returns c =
     let a = c.args in
     let l = c.loop-i in
-    let e : l.i < a.place + 8 → a.at + length a.bytes.now ≤ l.i = ⊎_elim (λ w x. omega arith) (λ w x. omega arith) c.if-bytes_end-word_end.branch in
+    let e : l.i < a.place + 8 → a.at + length a.bytes.now ≤ l.i = elim c.if-bytes_end-word_end.branch [ then-bytes_end-word_end w ↦ λ x. omega arith | else-bytes_end-word_end w ↦ λ x. omega arith ] in
     c.join.ensures ∙ laid_all (byte_at a.image.now) a.at a.bytes.now a.place l.i l.word e l.invariant.5

@@ -7,34 +7,18 @@ use Rattle.span.proofs.put_aligned.Goals as goal
 pub put_words-next-requires : goal.put_words-next-requires
 put_words-next-requires c =
     let a = c.args in
-    (omega arith, words_fit a.image.now a.at a.bytes.now c.requires.fits)
-
--- NO GOAL same-length
--- same_length : tie.Need-same-length
--- same_length c = emitted_length c.before.before.before.put-words.ensures
+    record { bytes_bound = omega arith; fits = words_fit a.image.now a.at a.bytes.now c.requires.fits }
 
 pub returns-then-bytes-eq0 : goal.returns-then-bytes-eq0
 returns-then-bytes-eq0 c =
     let a = c.args in
     emitted_as c.put_words-next.ensures (whole_words a.image.now a.at a.bytes.now (omega arith) (omega arith) (omega arith))
 
-pub overflow_mul-bytes : goal.overflow_mul-bytes
-overflow_mul-bytes c = omega arith
-
-pub overflow_add-at : goal.overflow_add-at
-overflow_add-at c = omega arith
-
 pub put_overlaid-requires : goal.put_overlaid-requires
 put_overlaid-requires c =
     let a = c.args in
     let e = words_and_rest a.image.now a.at a.bytes.now (omega arith) c.if-bytes-eq0.false in
-    
     record { word_size_in_bounds = omega arith; fits = fits_then (fits_as (sym e) c.requires.fits) c.put_words-next.ensures }
-
--- NO GOAL same-length-2
--- same-length-2 : tie.Need-same-length-2
--- same-length-2 c =
---     emitted_length c.before.before.put-overlaid.ensures ∙ emitted_length c.before.before.before.before.before.before.before.put-words.ensures
 
 pub returns : goal.returns
 returns c =

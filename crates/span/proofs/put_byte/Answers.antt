@@ -8,6 +8,10 @@ use Rattle.model.specs.Ops.{word_place, for_domain}
 use Rattle.span.proofs.SpanLaws.{byte_laid}
 use Rattle.span.proofs.put_byte.Goals as goal
 
+pub put_store-requires : goal.put_store-requires
+unfolding for_domain
+put_store-requires c = record { room = c.requires.fits.room }
+
 pub returns : goal.returns
 returns c =
     let a = c.args in

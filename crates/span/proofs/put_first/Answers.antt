@@ -12,18 +12,10 @@ returns-then-at-eq0 c =
     let a = c.args in
     emitted_unless (not (eqb (a.at % 8) 0)) _ (ap not (eq-eqb (a.at % 8) 0 c.if-at-eq0.true)) refl refl
 
-pub overflow_mul-at : goal.overflow_mul-at
-overflow_mul-at c = omega arith
-
 pub put_overlaid-requires : goal.put_overlaid-requires
 put_overlaid-requires c =
     let a = c.args in
-    
     record { word_size_in_bounds = c.requires.word_size_in_bounds; fits = fits_if (not (eqb (a.at % 8) 0)) (ap not (ne_eqb (a.at % 8) 0 c.if-at-eq0.false)) c.requires.fits }
-
--- NO GOAL same-length
--- same_length : tie.Need-same-length
--- same_length c = emitted_length c.before.before.put-overlaid.ensures
 
 pub returns : goal.returns
 returns c =

@@ -20,15 +20,6 @@ returns-then-span-ge-BLOCK_SIZE c =
     λ client bytes x. let s = c.args.span in
     sym (or_left _ (or_right (eqb (length bytes) 0) (le-leb block_size s.offset (omega arith))))
 
-pub overflow_sub-result : goal.overflow_sub-result
-overflow_sub-result c = omega arith
-
-pub overflow_mul-result : goal.overflow_mul-result
-overflow_mul-result c = omega arith
-
-pub overflow_sub-result-2 : goal.overflow_sub-result-2
-overflow_sub-result-2 c = omega arith
-
 pub returns : goal.returns
 unfolding span_bad
 returns c =
