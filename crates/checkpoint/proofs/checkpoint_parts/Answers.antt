@@ -26,7 +26,7 @@ marked_segments-marked-requires c =
 pub checkpoint_length-ops-requires : goal.checkpoint_length-ops-requires
 checkpoint_length-ops-requires c =
     let ok = c.checkpoint_status-status.ensures.advancing (sym c.is_served.ensures ∙ c.if-not-is_served.false) in
-    ((ok.mains, ok.enough), (ok.within, c.marked_segments-marked.ensures))
+    record { mains_le_most = (ok.mains, ok.enough); by_index = ok.within; marked_value = c.marked_segments-marked.ensures }
 
 pub trace_status-room-requires : goal.trace_status-room-requires
 trace_status-room-requires c = omega (arith, c.checkpoint_length-ops.ensures.1)

@@ -10,7 +10,7 @@ use Rattle.checkpoint.proofs.checkpoint_run.Goals as goal
 
 pub returns-then-is_served : goal.returns-then-is_served
 returns-then-is_served c = λ R e.
-    let s = c.args.t2 in
+    let s = c.args.session in
     let g = c.checkpoint_parts-done.ensures R (c.clients_status-judged.ensures.result_value R e) in
     let z = sym c.is_served.ensures ∙ c.if-is_served.true in (
       g.0,
@@ -23,7 +23,7 @@ returns-then-is_served c = λ R e.
 pub returns-else-is_served : goal.returns-else-is_served
 returns-else-is_served c = λ R e.
     let a = c.args in
-    let s = a.t2 in
+    let s = a.session in
     let g = c.checkpoint_parts-done.ensures R (c.clients_status-judged.ensures.result_value R e) in
     let z = sym c.is_served.ensures ∙ c.if-is_served.false in (
       g.0,

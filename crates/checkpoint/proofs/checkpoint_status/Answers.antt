@@ -11,7 +11,7 @@ use Rattle.checkpoint.proofs.checkpoint_status.Goals as goal
 pub returns-then-not-is_served : goal.returns-then-not-is_served
 returns-then-not-is_served c =
     let r = sym c.is_served.ensures ∙ c.if-not-is_served.true in
-    ((λ R x. stage_refused _ _ _ c.context_status-context.ensures r), (λ z. absurd (true≢false (sym z ∙ r))))
+    record { result_value = (λ R x. stage_refused _ _ _ c.context_status-context.ensures r); advancing = (λ z. absurd (true≢false (sym z ∙ r))) }
 
 pub returns-then-not-is_served-2 : goal.returns-then-not-is_served-2
 returns-then-not-is_served-2 c =
@@ -19,7 +19,7 @@ returns-then-not-is_served-2 c =
     let s = session_of g.layout g.segments g.words.now g.domain in
     let y = sym c.is_served.ensures ∙ c.if-not-is_served.false in
     let r = sym c.is_served-2.ensures ∙ c.if-not-is_served-2.true in
-    ((λ R x. clients_refused s g.image.now R _ _ c.context_status-context.ensures y x r), (λ z. absurd (true≢false (sym z ∙ r))))
+    record { result_value = (λ R x. clients_refused s g.image.now R _ _ c.context_status-context.ensures y x r); advancing = (λ z. absurd (true≢false (sym z ∙ r))) }
 
 pub word_at-requires : goal.word_at-requires
 word_at-requires c =
@@ -31,10 +31,7 @@ returns-then-word_at-eq-LAST_EPOCH c =
     let g = c.args in
     let s = session_of g.layout g.segments g.words.now g.domain in
     let y = sym c.is_served.ensures ∙ c.if-not-is_served.false in
-    let z = sym c.is_served-2.ensures ∙ c.if-not-is_served-2.false in (
-      λ R x. first_holds 10 _ _ (eq-eqb _ _ (sym c.word_at.ensures ∙ c.if-word_at-eq-LAST_EPOCH.true)) ∙ sym (epoch_left s g.image.now R _ _ c.context_status-context.ensures y x z),
-      λ h. absurd (true≢false (sym h)),
-    )
+    let z = sym c.is_served-2.ensures ∙ c.if-not-is_served-2.false in record { result_value = λ R x. first_holds 10 _ _ (eq-eqb _ _ (sym c.word_at.ensures ∙ c.if-word_at-eq-LAST_EPOCH.true)) ∙ sym (epoch_left s g.image.now R _ _ c.context_status-context.ensures y x z); advancing = λ h. absurd (true≢false (sym h)) }
 
 pub returns : goal.returns
 returns c =

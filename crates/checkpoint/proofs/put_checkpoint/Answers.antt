@@ -7,7 +7,7 @@ use Rattle.checkpoint.proofs.put_checkpoint.Goals as goal
 
 pub put_flushes-flushed-requires : goal.put_flushes-flushed-requires
 unfolding checkpoint_ops for_domain
-put_flushes-flushed-requires c = ((c.requires.advancing.0.mains, c.requires.advancing.0.blocks, c.requires.advancing.0.enough), (c.requires.advancing.0.within, (c.requires.advancing.1, fits_first _ (fits_first _ (fits_first _ c.requires.fits)))))
+put_flushes-flushed-requires c = record { mains_le_most = (c.requires.advancing.0.mains, c.requires.advancing.0.blocks, c.requires.advancing.0.enough); by_index = c.requires.advancing.0.within; marked_value = c.requires.advancing.1; fits = fits_first _ (fits_first _ (fits_first _ c.requires.fits)) }
 
 pub put_sfence-fenced-requires : goal.put_sfence-fenced-requires
 unfolding checkpoint_ops for_domain
@@ -19,7 +19,7 @@ pub put_states-stored-requires : goal.put_states-stored-requires
 unfolding checkpoint_ops for_domain
 put_states-stored-requires c =
     let h = c.requires.fits in
-    (search rules, fits_then (fits_then (fits_first _ (fits_first _ h)) c.put_flushes-flushed.ensures) (emitted_plain _ refl c.put_sfence-fenced.ensures))
+    record { metadata_size_in_bounds = search rules; fits = fits_then (fits_then (fits_first _ (fits_first _ h)) c.put_flushes-flushed.ensures) (emitted_plain _ refl c.put_sfence-fenced.ensures) }
 
 pub put_sfence-held-requires : goal.put_sfence-held-requires
 unfolding checkpoint_ops for_domain
@@ -32,7 +32,7 @@ pub put_epoch-raised-requires : goal.put_epoch-raised-requires
 unfolding checkpoint_ops for_domain
 put_epoch-raised-requires c =
     let w = emitted_then c.put_flushes-flushed.ensures (emitted_then (emitted_plain _ refl c.put_sfence-fenced.ensures) c.put_states-stored.ensures) in
-    ((search rules, c.requires.advancing.0.raises), fits_then (fits_then (fits_first _ c.requires.fits) w) (emitted_plain _ refl c.put_sfence-held.ensures))
+    record { word_size_in_bounds = (search rules, c.requires.advancing.0.raises); fits = fits_then (fits_then (fits_first _ c.requires.fits) w) (emitted_plain _ refl c.put_sfence-held.ensures) }
 
 pub put_sfence-requires : goal.put_sfence-requires
 unfolding checkpoint_ops for_domain

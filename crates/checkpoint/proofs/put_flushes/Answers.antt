@@ -19,11 +19,8 @@ use Rattle.trace.proofs.WalkLaws.{walk_ends, walk_fits, walk_emits}
 use Rattle.segments.proofs.DirtyLaws.{none_dirty}
 use Rattle.session.specs.Marked.{marked_segments}
 use Rattle.session.proofs.MarkedLaws.{marked_small, marked_clear}
+use Rattle.checkpoint.proofs.put_flushes.Invariants.{flushed}
 use Rattle.checkpoint.proofs.put_flushes.Goals as goal
-
--- what is written for main segment i, by the words of dirty blocks: nothing where its word is 0
-abbrev flushed : Layout → List ℕ → ℕ → Ops
-flushed layout words i = each_dirty (get_or words i 0) layout.blocks (λ b. clwbs block_lines (main_at layout i + block_size * b))
 
 none : (layout : Layout) (words : List ℕ) (marked : ℕ) → marked ≡ marked_segments words layout.mains
     → (i : ℕ) → i < layout.mains → bit marked i ≡ 0 → flushed layout words i ≡ []
@@ -54,13 +51,7 @@ put_dirty_clwbs-next-requires c =
     let l = c.loop-rest in
     let g = c.args in
     let w = l.invariant.1.1 in
-    let below = walk_below w.0 (omega arith) in (
-      (omega arith, c.requires.by_index (count_trailing_zeros 64 l.rest) below),
-      (
-        omega (arith, c.main_at-at.ensures),
-        rw c.main_at-at.ensures.0 (walk_fits (flushed g.layout g.words.now) (none g.layout g.words.now g.marked c.requires.marked_value) w.0 (omega arith) w.1 c.requires.fits),
-      ),
-    )
+    let below = walk_below w.0 (omega arith) in record { blocks_le_most = (omega arith, c.requires.by_index (count_trailing_zeros 64 l.rest) below); blocks_bound = omega (arith, c.main_at-at.ensures); fits = rw c.main_at-at.ensures.0 (walk_fits (flushed g.layout g.words.now) (none g.layout g.words.now g.marked c.requires.marked_value) w.0 (omega arith) w.1 c.requires.fits) }
 
 pub loop-rest-smaller : goal.loop-rest-smaller
 loop-rest-smaller c = let m = c.loop-rest.rest in omega (arith, and_le_r m (m - 1))

@@ -21,6 +21,10 @@ use Rattle.session.specs.Marked.{marked_segments}
 use Rattle.session.proofs.MarkedLaws.{marked_small, marked_clear}
 use Rattle.checkpoint.proofs.put_flushes.Given as goal
 
+-- what is written for main segment i, by the words of dirty blocks: nothing where its word is 0
+abbrev pub flushed : Layout → List ℕ → ℕ → Ops
+flushed layout words i = each_dirty (get_or words i 0) layout.blocks (λ b. clwbs block_lines (main_at layout i + block_size * b))
+
 abbrev pub invariant-loop-rest : goal.invariant-loop-rest
 invariant-loop-rest l = (length l.trace ≡ length l.initial.trace) × ((k : ℕ) × (Walk l.marked l.layout.mains l.rest k × Emitted l.domain l.initial.trace l.n (cat k (flushed l.layout l.words)) l.trace l.next))
 

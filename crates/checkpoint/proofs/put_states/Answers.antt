@@ -13,10 +13,6 @@ use Prim.Native.Nat.{ℕ, ◌-◌, ◌*◌, ◌≤◌}
 use borrow.Author.Rules.{rules}
 use Rattle.checkpoint.proofs.put_states.Goals as goal
 
--- word k of the next states
-abbrev next_word : Image → ℕ → ℕ → ℕ → ℕ
-next_word image from segments k = word_of (next_states segments (seg_state image from)) (word_size * k)
-
 pub loop-k-init : goal.loop-k-init
 unfolding stores
 loop-k-init c = (search rules, search rules, emitted_none _)

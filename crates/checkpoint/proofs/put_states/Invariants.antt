@@ -13,6 +13,10 @@ use Prim.Native.Nat.{ℕ, ◌-◌, ◌*◌, ◌≤◌}
 use borrow.Author.Rules.{rules}
 use Rattle.checkpoint.proofs.put_states.Given as goal
 
+-- word k of the next states
+abbrev next_word : Image → ℕ → ℕ → ℕ → ℕ
+next_word image from segments k = word_of (next_states segments (seg_state image from)) (word_size * k)
+
 abbrev pub invariant-loop-k : goal.invariant-loop-k
 invariant-loop-k l = (l.k ≤ line_words)
     × (length l.trace ≡ length l.initial.trace)

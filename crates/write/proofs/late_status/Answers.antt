@@ -12,21 +12,15 @@ use Rattle.write.proofs.OutcomeLaws.{share_same}
 use Rattle.write.proofs.late_status.Goals as goal
 
 pub returns-then-none_free : goal.returns-then-none_free
-returns-then-none_free c = (
-  λ R O t e x y. first_holds 9 _ _ (sym c.none_free.ensures ∙ c.if-none_free.true),
-  (λ O t x y z. absurd (false≢true z), λ z copied. absurd (false≢true z)),
-)
+returns-then-none_free c = record { result_value = λ R O t e x y. first_holds 9 _ _ (sym c.none_free.ensures ∙ c.if-none_free.true); value = λ O t x y z. absurd (false≢true z); client_bound = λ z copied. absurd (false≢true z) }
 
 pub returns-then-not-is_served : goal.returns-then-not-is_served
 returns-then-not-is_served c =
     let a = c.args in
-    let r = sym c.is_served.ensures ∙ c.if-not-is_served.true in (
-      λ R O t e x y.
+    let r = sym c.is_served.ensures ∙ c.if-not-is_served.true in record { result_value = λ R O t e x y.
           let same = share_same R a.client c.has_copy.ensures c.free_for-free.ensures in
           first_fails 9 _ _ _ (sym c.none_free.ensures ∙ c.if-none_free.false)
-          (stage_refused _ _ _ (c.share_status-share.ensures.result_value R e ∙ ap first_error same) r),
-      (λ O t x y z. absurd (false≢true (sym r ∙ z)), λ z copied. absurd (false≢true (sym r ∙ z))),
-    )
+          (stage_refused _ _ _ (c.share_status-share.ensures.result_value R e ∙ ap first_error same) r); value = λ O t x y z. absurd (false≢true (sym r ∙ z)); client_bound = λ z copied. absurd (false≢true (sym r ∙ z)) }
 
 pub returns : goal.returns
 returns c =

@@ -4,7 +4,7 @@ use Rattle.trace.proofs.EmitLaws.{emitted_then, emitted_plain, fits_first, fits_
 use Rattle.write.proofs.put_write.Goals as goal
 
 pub put_copy_on_write-next-requires : goal.put_copy_on_write-next-requires
-put_copy_on_write-next-requires c = (c.requires.writable, (c.requires.copies_to, fits_first _ c.requires.fits))
+put_copy_on_write-next-requires c = record { writable = c.requires.writable; copies_to = c.requires.copies_to; fits = fits_first _ c.requires.fits }
 
 pub put_span-requires : goal.put_span-requires
 put_span-requires c =

@@ -19,10 +19,7 @@ returns-then-not-is_served c =
     let s = session_of a.layout a.segments a.words.now a.domain in
     let w = write_args_of a.client a.main a.block a.offset a.bytes.now in
     let n = sym c.is_served.ensures ∙ c.if-not-is_served.true in
-    let r = c.refused.ensures in (
-      λ R e. refused_early s a.image.now R w a.trace.now _ _ (c.early_status-early.ensures.result_value R a.bytes.now e refl) n (r.0, r.1),
-      (λ z. (r.2, r.3, r.4), λ z. absurd (false≢true (sym n ∙ sym (ap (λ (x : Status). served (code_of x)) r.0) ∙ z))),
-    )
+    let r = c.refused.ensures in record { gives = λ R e. refused_early s a.image.now R w a.trace.now _ _ (c.early_status-early.ensures.result_value R a.bytes.now e refl) n (r.0, r.1); dirty_segments_value = λ z. (r.2, r.3, r.4); main_lt_most = λ z. absurd (false≢true (sym n ∙ sym (ap (λ (x : Status). served (code_of x)) r.0) ∙ z)) }
 
 pub offset_bounds-words-main : goal.offset_bounds-words-main
 offset_bounds-words-main c =
@@ -103,7 +100,7 @@ late_status-late-requires c =
     let ok = writable s a.image.now w plain.0 in
     let ops : c.copy_count.result + c.span_words.result ≤ 2 ^ 33 =
     omega (arith, ok, ok.segment, c.span_at-at.ensures, c.copy_count.ensures.1, c.span_words.ensures) in
-    ((ok.sizes, omega (arith, ok.segment), ok.segment.valid), (ops, omega (arith, plain.1, plain.2), plain.2))
+    record { sizes_ok = (ok.sizes, omega (arith, ok.segment), ok.segment.valid); ops_bound = (ops, omega (arith, plain.1, plain.2), plain.2) }
 
 pub returns-then-not-is_served-2 : goal.returns-then-not-is_served-2
 returns-then-not-is_served-2 c =
@@ -118,13 +115,10 @@ returns-then-not-is_served-2 c =
     let O = on_trace s a.image.now w plan.result place.result in
     let count = length_ops s a.image.now w plan.result place.result _ _ (c.copy_count.ensures.0 a.image.now) c.span_words.ensures in
     let n = sym c.is_served-2.ensures ∙ c.if-not-is_served-2.true in
-    let r = c.refused-then-not-is_served-2.ensures in (
-      λ R e.
+    let r = c.refused-then-not-is_served-2.ensures in record { gives = λ R e.
           let none = sym (c.early_status-early.ensures.result_value R a.bytes.now e refl) ∙ eqb-true _ 0 early in
           refused_late s a.image.now R w a.trace.now plan.result place.result none (plan.ensures.0 a.words.now a.domain) place.ensures _ _
-          (c.late_status-late.ensures.result_value R O a.trace.now e count refl) n (r.0, r.1),
-      (λ z. (r.2, r.3, r.4), λ z. absurd (false≢true (sym n ∙ sym (ap (λ (x : Status). served (code_of x)) r.0) ∙ z))),
-    )
+          (c.late_status-late.ensures.result_value R O a.trace.now e count refl) n (r.0, r.1); dirty_segments_value = λ z. (r.2, r.3, r.4); main_lt_most = λ z. absurd (false≢true (sym n ∙ sym (ap (λ (x : Status). served (code_of x)) r.0) ∙ z)) }
 
 pub put_write-requires : goal.put_write-requires
 put_write-requires c =
