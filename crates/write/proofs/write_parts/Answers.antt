@@ -117,7 +117,7 @@ returns-then-not-is_served-2 c =
     let n = sym c.is_served-2.ensures ∙ c.if-not-is_served-2.true in
     let r = c.refused-then-not-is_served-2.ensures in record { gives = λ R e.
           let none = sym (c.early_status-early.ensures.result_value R a.bytes.now e refl) ∙ eqb-true _ 0 early in
-          refused_late s a.image.now R w a.trace.now plan.result place.result none (plan.ensures.0 a.words.now a.domain) place.ensures _ _
+          refused_late s a.image.now R w a.trace.now plan.result place.result none (plan.ensures.by_index a.words.now a.domain) place.ensures _ _
           (c.late_status-late.ensures.result_value R O a.trace.now e count refl) n (r.0, r.1); dirty_segments_value = λ z. (r.2, r.3, r.4); main_lt_most = λ z. absurd (false≢true (sym n ∙ sym (ap (λ (x : Status). served (code_of x)) r.0) ∙ z)) }
 
 pub put_write-requires : goal.put_write-requires
@@ -134,7 +134,7 @@ put_write-requires c =
     let count = length_ops s a.image.now w plan.result place.result _ _ (c.copy_count.ensures.0 a.image.now) c.span_words.ensures in
     let room = fits_whole (ops s a.image.now w plan.result place.result) a.trace.now (c.late_status-late.ensures.value O a.trace.now count refl (sym c.is_served-2.ensures ∙ c.if-not-is_served-2.false)) in
     
-    record { writable = (ok.segment, ok.word); copies_to = plan.ensures.1; in_bounds = omega (arith, ok, ok.segment, place.ensures); fits = room }
+    record { writable = (ok.segment, ok.word); copies_to = plan.ensures.copies_to; in_bounds = omega (arith, ok, ok.segment, place.ensures); fits = room }
 
 pub set_segment-requires : goal.set_segment-requires
 set_segment-requires c =
@@ -186,7 +186,7 @@ returns c =
     record { gives = λ R e.
           let none = sym (c.early_status-early.ensures.result_value R a.bytes.now e refl) ∙ eqb-true _ 0 early in
           let last = sym (c.late_status-late.ensures.result_value R O a.trace.now e count refl) ∙ eqb-true _ 0 z in
-          served-write s a.image.now R w a.trace.now plan.result place.result none (plan.ensures.0 a.words.now a.domain) place.ensures last _ _ _ room refl
+          served-write s a.image.now R w a.trace.now plan.result place.result none (plan.ensures.by_index a.words.now a.domain) place.ensures last _ _ _ room refl
           c.set_segment.ensures (c.written_word.ensures a.client a.bytes.now refl)
           (c.used_after.ensures R e ∙ ap (λ (x : Bool). cond x (suc (client_at R a.client).used) (client_at R a.client).used) c.has_copy.ensures)
           (sym count) c.put_write.ensures; dirty_segments_value = λ n. absurd (true≢false n); main_lt_most = λ n. (omega (arith, ok.segment), plain.1, plain.2) }
