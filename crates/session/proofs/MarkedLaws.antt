@@ -1,14 +1,14 @@
 -- Laws of the set of main segments that have a dirty block (specs/Marked.antt): its bits, how it is made, what a walk over it sums up.
 use Prim.Native.Nat.{ℕ, zero, suc, ◌+◌, ◌-◌, ◌^◌, ◌≤◌, ◌<◌}
-use mathlib.Core.Path.{◌≡◌, refl, sym, ap, ◌∙◌}
-use mathlib.Core.Bool.{Bool, true, false, cond}
+use mathlib.Core.Path.{◌≡◌, sym, ap, ◌∙◌}
+use mathlib.Core.Bool.{cond}
 use mathlib.Core.List.{List}
 use native.Mathlib.Omega.{arith}
 use native.Mathlib.Decide.{ℕ_discrete}
 use lib.Count.{ones, ones-le, count_trailing_zeros}
 use lib.Dec.{eqb}
 use lib.ListN.{get_or}
-use borrow.Author.Tests.{eq-eqb, ne_eqb, eqb-true}
+use borrow.Author.Tests.{eq-eqb, ne_eqb}
 use Rattle.model.specs.Range.{sum_to}
 use Rattle.model.specs.Session.{bit, is_dirty, set_bit}
 use Rattle.model.proofs.Laws.Range.{sum_ext}

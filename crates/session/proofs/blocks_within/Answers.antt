@@ -1,12 +1,9 @@
-use Prim.Native.Nat.{◌-◌, ◌^◌, ◌≤◌}
-use mathlib.Core.Path.{◌≡◌, ◌∙◌}
+use Prim.Native.Nat.{◌^◌}
+use mathlib.Core.Path.{◌∙◌}
 use native.Mathlib.Omega.{arith}
-use lib.Dec.{ltb}
-use lib.ListN.{get_or}
 use lib.Pow.{pow_pos}
 use borrow.Author.Tests.{lt-ltb}
 use borrow.Author.Rules.{rules}
-use Rattle.model.specs.Range.{all_b}
 use Rattle.model.proofs.Laws.Range.{all_none}
 use Rattle.session.proofs.OverlaidLaws.{within_more}
 use Rattle.session.proofs.blocks_within.Goals as goal
@@ -16,8 +13,3 @@ loop-i-init c = (search rules, lt-ltb 0 (2 ^ c.args.blocks) (pow_pos _) ∙ all_
 
 pub loop-i-preserved : goal.loop-i-preserved
 loop-i-preserved c = (omega arith, within_more c.args.blocks c.loop-i.seen c.loop-i.i c.args.words.now c.loop-i.invariant.1)
-
-pub returns : goal.returns
-returns c =
-    let e : c.loop-i.i ≡ c.args.mains = omega arith in
-    c.within.ensures ∙ rw e at c.loop-i.invariant.1

@@ -1,14 +1,8 @@
 use Prim.Native.Nat.{◌-◌, ◌^◌, ◌≤◌}
-use mathlib.Core.Path.{◌≡◌, ◌∙◌}
-use native.Mathlib.Omega.{arith}
+use mathlib.Core.Path.{◌≡◌}
 use lib.Dec.{ltb}
 use lib.ListN.{get_or}
-use lib.Pow.{pow_pos}
-use borrow.Author.Tests.{lt-ltb}
-use borrow.Author.Rules.{rules}
 use Rattle.model.specs.Range.{all_b}
-use Rattle.model.proofs.Laws.Range.{all_none}
-use Rattle.session.proofs.OverlaidLaws.{within_more}
 use Rattle.session.proofs.blocks_within.Given as goal
 
 abbrev pub invariant-loop-i : goal.invariant-loop-i

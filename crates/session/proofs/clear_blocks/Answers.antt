@@ -1,5 +1,4 @@
 use native.Mathlib.Omega.{arith}
-use borrow.Author.Rules.{rules}
 use Rattle.session.proofs.BitLaws.{low_cleared}
 use Rattle.session.proofs.clear_blocks.Goals as goal
 

@@ -1,8 +1,6 @@
 use mathlib.Core.Bool.{Bool, cond}
 use mathlib.Core.Path.{sym, ap, ◌∙◌}
 use native.Mathlib.Omega.{arith}
-use borrow.Author.Tests.{not-true, not-false}
-use borrow.Author.Rules.{rules}
 use Rattle.model.specs.Status.{code_of}
 use Rattle.model.specs.Container.{container_errors}
 use Rattle.model.specs.Session.{session_errors}
@@ -22,26 +20,24 @@ active_at-active-requires c =
     let a = c.args in
     omega (arith, container_left a.layout a.image.now _ c.container_status-container.ensures (sym c.is_served.ensures ∙ c.if-not-is_served.false))
 
--- NO GOAL slice-bounds-session-valid-end
--- part-session-valid-end : tie.Need-slice-bounds-session-valid-end
--- part-session-valid-end c =
---     let b = c.before in
---     let a = b.before.before.before.before.before.args in
---     omega (arith, container_left a.layout a.image.now _ b.before.before.container-status.ensures (sym b.before.is-served.ensures ∙ not-false _ b.if1.false))
+pub slice_bounds-session_valid-end : goal.slice_bounds-session_valid-end
+slice_bounds-session_valid-end c =
+    let a = c.args in
+    omega (arith, container_left a.layout a.image.now _ c.container_status-container.ensures (sym c.is_served.ensures ∙ c.if-not-is_served.false))
 
-pub session_valid-requires : goal.session_valid-requires
-session_valid-requires c =
+pub session_valid-requires-clause-le_mains : goal.session_valid-requires-clause-le_mains
+session_valid-requires-clause-le_mains c =
     let a = c.args in
     omega (arith, container_left a.layout a.image.now _ c.container_status-container.ensures (sym c.is_served.ensures ∙ c.if-not-is_served.false))
 
 pub returns-then-not-session_valid : goal.returns-then-not-session_valid
 returns-then-not-session_valid c =
     let a = c.args in
-    ap (λ (v : Bool). cond v 0 5) (sym (not-true c.session_valid.result c.if-not-session_valid.true))
+    ap (λ (v : Bool). cond v 0 5) (sym c.if-not-session_valid.true)
     ∙ session_judged (session_of a.layout a.segments a.words.now a.domain) a.image.now _ _ _ c.container_status-container.ensures (sym c.is_served.ensures ∙ c.if-not-is_served.false) c.active_at-active.ensures.0 c.session_valid.ensures
 
 pub returns : goal.returns
 returns c =
     let a = c.args in
-    ap (λ (v : Bool). cond v 0 5) (sym (not-false c.session_valid.result c.if-not-session_valid.false))
+    ap (λ (v : Bool). cond v 0 5) (sym c.if-not-session_valid.false)
     ∙ session_judged (session_of a.layout a.segments a.words.now a.domain) a.image.now _ _ _ c.container_status-container.ensures (sym c.is_served.ensures ∙ c.if-not-is_served.false) c.active_at-active.ensures.0 c.session_valid.ensures

@@ -1,5 +1,5 @@
-use Prim.Native.Nat.{◌+◌, ◌-◌, ◌≤◌}
-use mathlib.Core.Path.{◌≡◌, refl, ◌∙◌}
+use Prim.Native.Nat.{◌+◌}
+use mathlib.Core.Path.{refl, ◌∙◌}
 use native.Mathlib.Omega.{arith}
 use lib.Dec.{eqb}
 use lib.ListN.{get_or}
@@ -18,6 +18,3 @@ loop-t-preserved c =
     let g = c.args in
     let w = get_or g.words.now (g.i + l.t) 0 in
     (omega arith, or_zero_lem l.seen w ∙ all_more l.t (λ k. eqb (get_or g.words.now (g.i + k) 0) 0) l.invariant.1 refl)
-
-pub returns : goal.returns
-returns c = let e : c.loop-t.t ≡ 8 = omega arith in rw e at c.loop-t.invariant.1

@@ -1,11 +1,8 @@
 use Prim.Native.Nat.{◌+◌, ◌-◌, ◌≤◌}
-use mathlib.Core.Path.{◌≡◌, refl, ◌∙◌}
-use native.Mathlib.Omega.{arith}
+use mathlib.Core.Path.{◌≡◌}
 use lib.Dec.{eqb}
 use lib.ListN.{get_or}
 use Rattle.model.specs.Range.{all_b}
-use Rattle.model.proofs.Laws.Range.{all_more, or_zero_lem}
-use borrow.Author.Rules.{rules}
 use Rattle.session.proofs.eight_clear.Given as goal
 
 abbrev pub invariant-loop-t : goal.invariant-loop-t

@@ -1,4 +1,4 @@
-use Prim.Native.Nat.{ℕ, ◌+◌, ◌-◌, ◌≤◌, ◌<◌}
+use Prim.Native.Nat.{ℕ, ◌+◌, ◌<◌}
 use mathlib.Core.Path.{◌≡◌, refl, sym, ap, ◌∙◌}
 use mathlib.Core.Bool.{cond}
 use native.Mathlib.Omega.{arith}
@@ -16,9 +16,6 @@ pub loop-i-init : goal.loop-i-init
 unfolding marked_segments
 loop-i-init c = (search rules, refl)
 
-pub loop-i-smaller-then-eight_passed : goal.loop-i-smaller-then-eight_passed
-loop-i-smaller-then-eight_passed c = omega (arith, c.eight_passed.ensures c.if-eight_passed.true)
-
 pub loop-i-preserved-then-eight_passed : goal.loop-i-preserved-then-eight_passed
 loop-i-preserved-then-eight_passed c =
     let l = c.loop-i in
@@ -34,8 +31,3 @@ loop-i-preserved c =
       omega arith,
       c.with_mark-set.ensures ∙ ap (λ (m : ℕ). cond (eqb (get_or words l.i 0) 0) m (set_bit m l.i)) l.invariant.1 ∙ sym (marked_more words l.i),
     )
-
-pub returns : goal.returns
-returns c =
-    let e : c.loop-i.i ≡ c.args.mains = omega arith in
-    c.loop-i.invariant.1 ∙ ap (marked_segments c.args.words.now) e

@@ -1,15 +1,6 @@
-use Prim.Native.Nat.{ℕ, ◌+◌, ◌-◌, ◌≤◌, ◌<◌}
-use mathlib.Core.Path.{◌≡◌, refl, sym, ap, ◌∙◌}
-use mathlib.Core.Bool.{cond}
-use native.Mathlib.Omega.{arith}
-use lib.Dec.{eqb}
-use lib.ListN.{get_or}
-use borrow.Author.Tests.{eqb-true}
-use Rattle.model.specs.Session.{set_bit}
-use Rattle.model.proofs.Laws.Range.{all_at}
+use Prim.Native.Nat.{◌-◌, ◌≤◌}
+use mathlib.Core.Path.{◌≡◌}
 use Rattle.session.specs.Marked.{marked_segments}
-use Rattle.session.proofs.MarkedLaws.{marked_more, marked_skip}
-use borrow.Author.Rules.{rules}
 use Rattle.session.proofs.marked_segments.Given as goal
 
 abbrev pub invariant-loop-i : goal.invariant-loop-i

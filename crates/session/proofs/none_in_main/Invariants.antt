@@ -1,12 +1,9 @@
 use Prim.Native.Nat.{◌≤◌}
 use mathlib.Core.Bool.{◌&&◌}
-use mathlib.Core.Path.{◌≡◌, refl, sym, ◌∙◌}
-use native.Mathlib.Omega.{arith}
-use lib.Count.{trailing_le}
+use mathlib.Core.Path.{◌≡◌}
 use lib.Dec.{eqb}
 use lib.ListN.{get_or}
-use borrow.Author.Rules.{rules}
-use Rattle.session.proofs.GroupLaws.{group_room, beyond_less, none_of, none_left, none_more}
+use Rattle.session.proofs.GroupLaws.{none_of}
 use Rattle.session.proofs.none_in_main.Given as goal
 
 abbrev pub invariant-loop-rest : goal.invariant-loop-rest

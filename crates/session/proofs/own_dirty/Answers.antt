@@ -1,6 +1,5 @@
 use Prim.Native.Nat.{ℕ, ◌<◌}
 use native.Mathlib.Omega.{arith}
-use borrow.Author.Rules.{rules}
 use lib.ListN.{get_or}
 use Rattle.session.proofs.GroupLaws.{tested, tested_small, tested_word, own_word}
 use Rattle.session.proofs.own_dirty.Goals as goal

@@ -1,13 +1,8 @@
-use Prim.Native.Nat.{◌-◌, ◌≤◌}
-use mathlib.Core.Path.{sym, ◌≡◌}
-use mathlib.Core.Bool.{◌||◌}
+use mathlib.Core.Path.{sym}
 use native.Mathlib.Omega.{arith}
-use lib.Dec.{eqb, ltb}
-use lib.ListN.{get_or}
 use borrow.Author.Tests.{lt-ltb}
 use borrow.Author.Rules.{rules}
 use Rattle.model.proofs.Laws.Range.{all_from, or_left}
-use Rattle.model.specs.Range.{all_b}
 use Rattle.session.proofs.OverlaidLaws.{clear_more}
 use Rattle.session.proofs.rest_clear.Goals as goal
 
@@ -17,6 +12,3 @@ loop-i-init c = (search rules, search rules, sym (all_from _ _ (λ k l. or_left 
 pub loop-i-preserved : goal.loop-i-preserved
 loop-i-preserved c =
     (omega arith, omega arith, clear_more c.args.mains c.loop-i.seen c.loop-i.i c.args.words.now (omega arith) c.loop-i.invariant.2)
-
-pub returns : goal.returns
-returns c = let e : c.loop-i.i ≡ 64 = omega arith in rw e at c.loop-i.invariant.2

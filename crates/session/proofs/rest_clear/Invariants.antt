@@ -1,14 +1,9 @@
 use Prim.Native.Nat.{◌-◌, ◌≤◌}
-use mathlib.Core.Path.{sym, ◌≡◌}
+use mathlib.Core.Path.{◌≡◌}
 use mathlib.Core.Bool.{◌||◌}
-use native.Mathlib.Omega.{arith}
 use lib.Dec.{eqb, ltb}
 use lib.ListN.{get_or}
-use borrow.Author.Tests.{lt-ltb}
-use borrow.Author.Rules.{rules}
-use Rattle.model.proofs.Laws.Range.{all_from, or_left}
 use Rattle.model.specs.Range.{all_b}
-use Rattle.session.proofs.OverlaidLaws.{clear_more}
 use Rattle.session.proofs.rest_clear.Given as goal
 
 abbrev pub invariant-loop-i : goal.invariant-loop-i

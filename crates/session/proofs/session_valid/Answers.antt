@@ -1,18 +1,12 @@
 use mathlib.Core.Bool.{true, false}
 use mathlib.Core.Path.{refl, sym, ◌∙◌}
 use native.Mathlib.Omega.{arith}
-use borrow.Author.Rules.{rules}
-use borrow.Author.Tests.{not-true, not-false, ltb-true}
 use Rattle.session.proofs.SessionLaws.{valid_session_tests}
 use Rattle.session.proofs.session_valid.Goals as goal
 
 pub returns-then-not-within : goal.returns-then-not-within
 returns-then-not-within c =
     valid_session_tests _ _ false _ _ _ _ (omega arith) (sym c.if-not-within.true ∙ c.within.ensures) refl refl refl refl
-
-pub none_in_main-requires : goal.none_in_main-requires
-none_in_main-requires c =
-    (search rules, ltb-true _ _ (sym c.within.ensures ∙ c.if-not-within.false), search rules)
 
 pub returns : goal.returns
 returns c =

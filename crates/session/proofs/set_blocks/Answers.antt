@@ -1,5 +1,4 @@
 use native.Mathlib.Omega.{arith}
-use borrow.Author.Rules.{rules}
 use Rattle.session.proofs.BitLaws.{run-set}
 use Rattle.session.proofs.set_blocks.Goals as goal
 

@@ -1,7 +1,6 @@
 use mathlib.Core.Path.{ap}
 use native.Mathlib.Omega.{arith}
 use lib.Bits.{bit_or}
-use borrow.Author.Rules.{rules}
 use Rattle.model.specs.Session.{set_bit}
 use Rattle.words.proofs.BitLaws.{shifted_one}
 use Rattle.session.proofs.set_segment.Goals as goal
