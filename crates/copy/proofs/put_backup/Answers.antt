@@ -10,44 +10,42 @@ use Rattle.copy.proofs.put_backup.Goals as goal
 
 pub backup_at-to-requires : goal.backup_at-to-requires
 backup_at-to-requires c =
-    let g = c.plan-1.given in
-    let h : g.0.0 < c.args.segment.layout.backups = subst (CopiesTo c.args.segment.layout) g.1 c.requires.copies_to in
+    let g = c.in-OwnBackup in
+    let h : g.j < c.args.segment.layout.backups = subst (CopiesTo c.args.segment.layout) g.is c.requires.copies_to in
     omega arith
 
 pub put_dirty_copies-requires : goal.put_dirty_copies-requires
 put_dirty_copies-requires c =
     let a = c.args in
-    let g = c.plan-1.given in
+    let g = c.in-OwnBackup in
     let from = c.main_at-from.ensures in
     let to = c.backup_at-to.ensures in
-    let ops = own_ops a.segment.layout a.image.now a.segment.word a.segment.main _ _ g.0.0 a.plan from.0 to.0 g.1 in
-    
+    let ops = own_ops a.segment.layout a.image.now a.segment.word a.segment.main _ _ g.j a.plan from.0 to.0 g.is in
     record { blocks_le_most = (omega arith, c.requires.writable.1); blocks_in_bounds = omega arith; blocks_bound = omega arith; fits = fits_as (sym ops) c.requires.fits }
 
 pub backup_at-to-requires-in-NewBackup : goal.backup_at-to-requires-in-NewBackup
 backup_at-to-requires-in-NewBackup c =
-    let g = c.plan-in-NewBackup-1.given in
-    let h : g.0.0 < c.args.segment.layout.backups = subst (CopiesTo c.args.segment.layout) g.1 c.requires.copies_to in
+    let g = c.in-NewBackup in
+    let h : g.j < c.args.segment.layout.backups = subst (CopiesTo c.args.segment.layout) g.is c.requires.copies_to in
     omega arith
 
 pub put_pair-next-requires : goal.put_pair-next-requires
 put_pair-next-requires c =
     let a = c.args in
-    let g = c.plan-in-NewBackup-1.given in
-    let h : g.0.0 < a.segment.layout.backups = subst (CopiesTo a.segment.layout) g.1 c.requires.copies_to in
+    let g = c.in-NewBackup in
+    let h : g.j < a.segment.layout.backups = subst (CopiesTo a.segment.layout) g.is c.requires.copies_to in
     let from = c.main_at-from.ensures in
     let to = c.backup_at-to-in-NewBackup.ensures in
-    let ops = new_ops_lem a.segment.layout a.image.now a.segment.word a.segment.main _ _ g.0.0 a.plan from.0 to.0 g.1 in
-    (omega arith, fits_first _ (fits_as (sym ops) c.requires.fits))
+    let ops = new_ops_lem a.segment.layout a.image.now a.segment.word a.segment.main _ _ g.j a.plan from.0 to.0 g.is in
+    record { main_lt_most = omega arith; fits = fits_first _ (fits_as (sym ops) c.requires.fits) }
 
 pub put_segment_copy-requires : goal.put_segment_copy-requires
 put_segment_copy-requires c =
     let a = c.args in
-    let g = c.plan-in-NewBackup-1.given in
+    let g = c.in-NewBackup in
     let from = c.main_at-from.ensures in
     let to = c.backup_at-to-in-NewBackup.ensures in
-    let ops = new_ops_lem a.segment.layout a.image.now a.segment.word a.segment.main _ _ g.0.0 a.plan from.0 to.0 g.1 in
-    
+    let ops = new_ops_lem a.segment.layout a.image.now a.segment.word a.segment.main _ _ g.j a.plan from.0 to.0 g.is in
     record { layout_in_bounds = omega arith; layout_bound = omega arith; fits = fits_then (fits_as (sym ops) c.requires.fits) c.put_pair-next.ensures }
 
 pub returns-in-NoCopy : goal.returns-in-NoCopy
@@ -56,25 +54,21 @@ returns-in-NoCopy c =
     let a = c.args in
     emitted_as emitted_nil (ap (backup_ops a.segment.layout a.image.now a.segment.word a.segment.main) (sym c.in-NoCopy.is))
 
--- NO GOAL same-length
--- same_length : tie.Need-same-length
--- same_length c = emitted_length c.before.before.put-dirty-copies.ensures
-
 pub returns-in-OwnBackup : goal.returns-in-OwnBackup
 returns-in-OwnBackup c =
     let a = c.args in
-    let g = c.plan-1.given in
+    let g = c.in-OwnBackup in
     let from = c.main_at-from.ensures in
     let to = c.backup_at-to.ensures in
-    emitted_as c.put_dirty_copies.ensures (own_ops a.segment.layout a.image.now a.segment.word a.segment.main _ _ g.0.0 a.plan from.0 to.0 g.1)
+    emitted_as c.put_dirty_copies.ensures (own_ops a.segment.layout a.image.now a.segment.word a.segment.main _ _ g.j a.plan from.0 to.0 g.is)
 
 pub returns-in-NewBackup : goal.returns-in-NewBackup
 returns-in-NewBackup c =
     let a = c.args in
-    let g = c.plan-in-NewBackup-1.given in
+    let g = c.in-NewBackup in
     let from = c.main_at-from.ensures in
     let to = c.backup_at-to-in-NewBackup.ensures in
-    emitted_as (emitted_then c.put_pair-next.ensures c.put_segment_copy.ensures) (new_ops_lem a.segment.layout a.image.now a.segment.word a.segment.main _ _ g.0.0 a.plan from.0 to.0 g.1)
+    emitted_as (emitted_then c.put_pair-next.ensures c.put_segment_copy.ensures) (new_ops_lem a.segment.layout a.image.now a.segment.word a.segment.main _ _ g.j a.plan from.0 to.0 g.is)
 
 pub returns-in-NoneFree : goal.returns-in-NoneFree
 unfolding backup_ops

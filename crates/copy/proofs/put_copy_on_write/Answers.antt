@@ -15,13 +15,12 @@ pub put_backup-next-requires : goal.put_backup-next-requires
 put_backup-next-requires c =
     let a = c.args in
     let ops = copy_ops_lem a.segment.layout a.image.now a.segment.word a.segment.main a.plan (sym c.has_copy.ensures ∙ c.if-not-has_copy.false) in
-    (c.requires.writable, (c.requires.copies_to, fits_first _ (fits_as (sym ops) c.requires.fits)))
+    record { writable = c.requires.writable; copies_to = c.requires.copies_to; fits = fits_first _ (fits_as (sym ops) c.requires.fits) }
 
 pub put_state-requires : goal.put_state-requires
 put_state-requires c =
     let a = c.args in
     let ops = copy_ops_lem a.segment.layout a.image.now a.segment.word a.segment.main a.plan (sym c.has_copy.ensures ∙ c.if-not-has_copy.false) in
-    
     record { main_lt_most = omega (arith, c.requires.writable.0); fits = fits_then (fits_as (sym ops) c.requires.fits) c.put_backup-next.ensures }
 
 pub returns : goal.returns

@@ -8,7 +8,7 @@ use Rattle.copy.proofs.put_pair.Goals as goal
 
 pub put_byte-next-requires : goal.put_byte-next-requires
 unfolding pair_ops for_domain
-put_byte-next-requires c = (omega arith, fits_plain refl (fits_first _ c.requires.fits))
+put_byte-next-requires c = record { word_size_in_bounds = omega arith; fits = fits_plain refl (fits_first _ c.requires.fits) }
 
 pub put_clwb-requires : goal.put_clwb-requires
 unfolding pair_ops for_domain

@@ -30,7 +30,7 @@ pub put_byte-clwb-requires : goal.put_byte-clwb-requires
 unfolding for_domain
 put_byte-clwb-requires c =
     let a = c.args in
-    (omega arith, record { room = omega (arith, count-state a.domain a.image.now a.main, emitted_length c.put_sfence-store.ensures) })
+    record { word_size_in_bounds = omega arith; fits = record { room = omega (arith, count-state a.domain a.image.now a.main, emitted_length c.put_sfence-store.ensures) } }
 
 pub put_clwb-fence-requires : goal.put_clwb-fence-requires
 unfolding for_domain
@@ -53,7 +53,7 @@ unfolding state_ops for_domain
 returns c =
     let a = c.args in
     let line = c.active_at-active.ensures.0 in
-    let first : Emitted adr a.trace.now a.n (sfence ∷ []) c.put_sfence-store.new.0 c.put_sfence-store.result = c.put_sfence-store.ensures in
+    let first : Emitted adr a.trace.now a.n (sfence ∷ []) c.put_sfence-store.new.trace c.put_sfence-store.result = c.put_sfence-store.ensures in
     emitted_then (emitted_plain a.domain refl first)
     (emitted_then (emitted_plain a.domain refl (rw line at c.put_byte-clwb.ensures))
     (emitted_then (rw line at c.put_clwb-fence.ensures) (emitted_plain a.domain refl c.put_sfence.ensures)))
