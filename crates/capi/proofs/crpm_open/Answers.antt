@@ -11,5 +11,5 @@ returns c =
     let e = c.give_answer.ensures in
     let a = c.args in
     let R = clients_in a.clients.now in
-    answer-returned a.trace.now c.open_run-done.result.answer _ _ _ _ _ _ e.0 e.1.0 c.clear_clients.ensures e.1.1
+    answer-returned a.trace.now c.open_run-done.result.answer _ _ _ _ _ _ e.value e.session_after c.clear_clients.ensures e.ops_after
     (open_outcome (layout_of a.mains a.backups a.blocks) a.domain a.image.now (lent R a.trace.now)) (c.open_run-done.ensures R c.run_in-run.ensures)

@@ -12,17 +12,17 @@ use Rattle.capi.proofs.crpm_write.Goals as goal
 pub overflow_add-session : goal.overflow_add-session
 overflow_add-session c =
     let r = c.write_parts-written in
-    omega (arith, (r.ensures.1.1 (sym c.is_served.ensures ∙ c.if-is_served.true)).0)
+    omega (arith, (r.ensures.main_lt_most (sym c.is_served.ensures ∙ c.if-is_served.true)).0)
 
 pub offset_bounds-session-main : goal.offset_bounds-session-main
 offset_bounds-session-main c =
     let r = c.write_parts-written in
-    omega (arith, (r.ensures.1.1 (sym c.is_served.ensures ∙ c.if-is_served.true)).0)
+    omega (arith, (r.ensures.main_lt_most (sym c.is_served.ensures ∙ c.if-is_served.true)).0)
 
 pub bounds-session-main : goal.bounds-session-main
 bounds-session-main c =
     let r = c.write_parts-written in
-    omega (arith, (r.ensures.1.1 (sym c.is_served.ensures ∙ c.if-is_served.true)).0)
+    omega (arith, (r.ensures.main_lt_most (sym c.is_served.ensures ∙ c.if-is_served.true)).0)
 
 pub record_of-record-requires : goal.record_of-record-requires
 record_of-record-requires c =
