@@ -1,8 +1,10 @@
-// Standard input, read into a lent buffer. What stands there afterwards is the system's: std says how many bytes a read gives and
-// nothing of which.
+// Standard input, read into a lent buffer. What stands there afterwards is the system's: of standard input std says how many bytes a
+// read gives and nothing of which. Of a reader whose bytes are known it is said.
 
 #![tactic(auto)]
 
+ghost use Rattle.std.specs.Prelude.{◌≡◌, ◌<◌, false, length, take};
+ghost use Rattle.std.specs.Io.KnownBytes.{Consumes, IsAtEnd};
 ghost use Rattle.io.specs.Counts.{IsPrefixLen};
 
 use std::io::Read;
@@ -16,7 +18,9 @@ pub struct Input {
 
 // Reads standard input, or what else is lent as a reader, until it ends, the buffer is full, or a read fails.
 pub fn read_input<R: Read>(reader: &mut R, buffer: &mut [u8]) -> Input
-    ensures { IsPrefixLen result.count buffer.new }
+    ensures in_bounds { IsPrefixLen result.count buffer.new }
+    ensures bytes { Consumes (R.remaining reader.old) (R.remaining reader.new) (take result.count buffer.new) }
+    ensures end { result.failed ≡ false → result.count < length buffer.new → IsAtEnd (R.remaining reader.new) }
 {
     let mut count = 0;
     while count < buffer.len() {
