@@ -1,15 +1,12 @@
 use Prim.Native.Nat.{◌-◌}
-use mathlib.Core.Path.{sym}
 use mathlib.Core.List.{◌++◌}
 use native.Mathlib.Omega.{arith}
 use lib.ListN.{length, drop, length-drop, length-take}
-use lib.Seq.{length-take-le}
 use Rattle.parser.proofs.VerdictLaws.{good_sheet}
 use Rattle.printer.specs.Decimal.{decimal, Appended}
 use Rattle.printer.proofs.AppendedLaws.{appended_then, appended_as}
 use Rattle.calls.proofs.Texts.{line_end_bytes}
 use Rattle.upgrade.proofs.RewritingLaws.{spares_bytes, second_is, line_put, parts_put, line, first_short, rewritten_size}
-use borrow.Author.Rules.{rules}
 use Rattle.upgrade.proofs.put_rewritten.Goals as goal
 
 pub returns : goal.returns
@@ -19,12 +16,9 @@ returns c =
     let t = c.append_text-first in
     let u = c.append_number-line in
     let v = c.append_text in
-    let put : Appended _ _ (spares_bytes ++ decimal m.result ++ line_end_bytes) _ u.result = u.ensures.0 in
+    let put : Appended _ _ (spares_bytes ++ decimal m.result ++ line_end_bytes) _ u.result = u.ensures.appended in
     appended_as (parts_put c.args.input.now n.result n.ensures.0 m.result m.ensures)
     (appended_then (appended_then t.ensures put) v.ensures)
-
-pub slice_bounds-append_text-end : goal.slice_bounds-append_text-end
-slice_bounds-append_text-end c = sym (length-take-le _ _ c.next_line-second.ensures.1)
 
 pub append_text-first-requires : goal.append_text-first-requires
 append_text-first-requires c =
@@ -56,8 +50,8 @@ append_text-requires c =
       line_put i n.result n.ensures.0 m.result m.ensures (line i c.requires.0),
       t.ensures.place,
       t.ensures.size,
-      u.ensures.0.place,
-      u.ensures.0.size,
+      u.ensures.appended.place,
+      u.ensures.appended.size,
       c.requires.1,
       c.requires.2,
     )

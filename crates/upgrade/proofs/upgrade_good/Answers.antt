@@ -1,6 +1,5 @@
 use Rattle.printer.proofs.AppendedLaws.{appended_as}
 use Rattle.upgrade.proofs.AnswerLaws.{says, leaves_out, too_long, short_enough, rewrites}
-use borrow.Author.Rules.{rules}
 use Rattle.upgrade.proofs.upgrade_good.Goals as goal
 
 pub returns-then-is_named : goal.returns-then-is_named
