@@ -1,6 +1,5 @@
 use mathlib.Core.Path.{sym, ap, ◌∙◌}
-use borrow.Author.Tests.{eqb-true, eqb-false, not-true, not-false}
-use borrow.Author.Rules.{rules}
+use borrow.Author.Tests.{eqb-true, eqb-false}
 use Rattle.model.specs.declared.Layout.{Layout}
 use Rattle.model.specs.Format.{format_outcome}
 use Rattle.format.proofs.FormatLaws.{status_given, refused, served-sizes, served_image}
@@ -24,5 +23,5 @@ pub returns : goal.returns
 returns c =
     let z = eqb-true _ _ (sym c.is_served.ensures ∙ c.if-not-is_served.false) in
     let s = c.size_status-status.ensures in
-    let I = c.args.image.now in 
+    let I = c.args.image.now in
     record { result_value = sym z ∙ s ∙ status_given c.new-layout.result I ∙ ap (λ (l : Layout). (format_outcome l I).status) c.new-layout.ensures; image_after = c.write_formatted.ensures ∙ served_image c.new-layout.result I (sym s ∙ z) ∙ ap (λ (l : Layout). (format_outcome l I).image) c.new-layout.ensures }

@@ -1,10 +1,6 @@
-use Prim.Native.Nat.{◌-◌, ◌≤◌}
-use mathlib.Core.Path.{◌≡◌, refl, sym, ◌∙◌}
-use native.Mathlib.Omega.{arith}
+use Prim.Native.Nat.{◌≤◌}
+use mathlib.Core.Path.{◌≡◌}
 use Rattle.model.specs.Replay.{all_well_formed}
-use Rattle.replay.proofs.JudgeLaws.{judged_none, judged_less, judged_stop}
-use borrow.Author.Tests.{not-true, not-false}
-use borrow.Author.Rules.{rules}
 use Rattle.replay.proofs.all_well_formed.Given as goal
 
 abbrev pub invariant-loop-k : goal.invariant-loop-k

@@ -1,7 +1,6 @@
 use mathlib.Core.Path.{sym, ◌∙◌}
 use Rattle.model.specs.Replay.{replay_outcome}
-use borrow.Author.Rules.{rules}
-use borrow.Author.Tests.{eqb-true, eqb-false, not-true, not-false}
+use borrow.Author.Tests.{eqb-true, eqb-false}
 use Rattle.replay.proofs.ReplayLaws.{judged, count_inside, refused, all_played}
 use Rattle.replay.proofs.crpm_replay.Goals as goal
 
@@ -24,5 +23,4 @@ returns c =
     let s = c.replay_status-status.ensures in
     let z = eqb-true _ _ (sym c.is_served.ensures ∙ c.if-not-is_served.false) in
     let x = all_played _ _ _ (sym s ∙ z) c.replay_count-count.ensures c.play.ensures in
-    
     record { status_value = sym z ∙ s; played_value = x.0; image_after = x.1 }

@@ -1,4 +1,3 @@
-use borrow.Author.Rules.{rules}
 use Rattle.replay.proofs.JudgeLaws.{judged_store, judged_other}
 use Rattle.replay.proofs.op_well_formed.Goals as goal
 

@@ -1,9 +1,4 @@
-use Prim.Native.Nat.{◌-◌, ◌≤◌}
-use mathlib.Core.Path.{◌≡◌}
 use native.Mathlib.Omega.{arith}
-use lib.ListN.{length}
-use Rattle.model.specs.Ops.{replay}
-use Rattle.model.specs.Replay.{replayed_ops}
 use Rattle.replay.proofs.JudgeLaws.{judged_at}
 use Rattle.replay.proofs.ReplayLaws.{played_none, played_more}
 use borrow.Author.Rules.{rules}
@@ -19,6 +14,3 @@ play_op-requires c =
 pub loop-k-preserved : goal.loop-k-preserved
 loop-k-preserved c =
     (omega arith, omega arith, played_more _ _ c.loop-k.k (omega arith) c.loop-k.invariant.2 c.play_op.ensures)
-
-pub returns : goal.returns
-returns c = let e : c.loop-k.k ≡ c.args.count = omega arith in rw e at c.loop-k.invariant.2

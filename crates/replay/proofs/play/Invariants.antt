@@ -1,12 +1,8 @@
 use Prim.Native.Nat.{◌-◌, ◌≤◌}
 use mathlib.Core.Path.{◌≡◌}
-use native.Mathlib.Omega.{arith}
 use lib.ListN.{length}
 use Rattle.model.specs.Ops.{replay}
 use Rattle.model.specs.Replay.{replayed_ops}
-use Rattle.replay.proofs.JudgeLaws.{judged_at}
-use Rattle.replay.proofs.ReplayLaws.{played_none, played_more}
-use borrow.Author.Rules.{rules}
 use Rattle.replay.proofs.play.Given as goal
 
 abbrev pub invariant-loop-k : goal.invariant-loop-k

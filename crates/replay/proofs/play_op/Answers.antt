@@ -1,7 +1,6 @@
 use mathlib.Core.Path.{◌∙◌}
 use Rattle.replay.proofs.JudgeLaws.{store_inside}
 use Rattle.replay.proofs.ReplayLaws.{played_store, played_other}
-use borrow.Author.Rules.{rules}
 use Rattle.replay.proofs.play_op.Goals as goal
 
 pub store_word-requires : goal.store_word-requires

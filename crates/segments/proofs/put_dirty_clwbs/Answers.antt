@@ -1,26 +1,14 @@
-use Prim.Native.Nat.{ℕ, ◌+◌, ◌-◌, ◌*◌}
-use mathlib.Core.Path.{◌≡◌}
+use Prim.Native.Nat.{◌+◌}
 use native.Mathlib.Omega.{arith}
-use lib.Bits.{and_le_r}
-use lib.Count.{count_trailing_zeros, trailing_le}
-use lib.ListN.{length}
+use lib.Count.{count_trailing_zeros}
 use borrow.Author.Rules.{rules}
-use Rattle.model.specs.Layout.{block_size, block_lines}
-use Rattle.model.specs.Ops.{clwbs, each_dirty}
-use Rattle.trace.specs.Emit.{Emitted}
 use Rattle.trace.proofs.EmitLaws.{emitted_none}
-use Rattle.words.proofs.WalkLaws.{Walk, walk_start, walk_below, walk_turns}
+use Rattle.words.proofs.WalkLaws.{walk_start, walk_below, walk_turns}
 use Rattle.segments.proofs.DirtyLaws.{dirty_ends, dirty_fits, dirty_emits}
 use Rattle.segments.proofs.put_dirty_clwbs.Goals as goal
 
 pub loop-rest-init : goal.loop-rest-init
 loop-rest-init c = (search rules, (0, (walk_start (search rules) (search rules), emitted_none _)))
-
-pub overflow_cast-place : goal.overflow_cast-place
-overflow_cast-place c = omega (arith, trailing_le 64 c.loop-rest.rest)
-
-pub overflow_mul-place : goal.overflow_mul-place
-overflow_mul-place c = omega (arith, trailing_le 64 c.loop-rest.rest)
 
 pub overflow_add-place : goal.overflow_add-place
 overflow_add-place c = omega (arith, walk_below c.loop-rest.invariant.1.1.0 (omega arith))
@@ -32,9 +20,6 @@ put_clwbs-next-requires c =
       block_size_bound = omega (arith, walk_below w.0 (omega arith));
       fits = dirty_fits _ w.0 (omega arith) w.1 c.requires.fits;
     }
-
-pub loop-rest-smaller : goal.loop-rest-smaller
-loop-rest-smaller c = let m = c.loop-rest.rest in omega (arith, and_le_r m (m - 1))
 
 pub loop-rest-preserved : goal.loop-rest-preserved
 loop-rest-preserved c =

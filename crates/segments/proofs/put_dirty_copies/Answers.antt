@@ -1,40 +1,20 @@
-use Prim.Native.Nat.{ℕ, ◌+◌, ◌-◌, ◌*◌}
-use mathlib.Core.Path.{◌≡◌, sym}
+use Prim.Native.Nat.{◌+◌, ◌*◌}
+use mathlib.Core.Path.{sym}
 use native.Mathlib.Omega.{arith}
-use lib.Bits.{and_le_r}
-use lib.Count.{count_trailing_zeros, trailing_le}
-use lib.ListN.{length}
+use lib.Count.{count_trailing_zeros}
 use borrow.Author.Rules.{rules}
-use Rattle.model.specs.Words.{word_at}
-use Rattle.model.specs.Layout.{word_size, block_size}
-use Rattle.model.specs.Ops.{put_block, each_dirty}
-use Rattle.trace.specs.Emit.{Emitted}
+use Rattle.model.specs.Layout.{block_size}
 use Rattle.trace.proofs.EmitLaws.{fits_as, emitted_as, emitted_none}
 use Rattle.blocks.proofs.PartLaws.{length_part, copy_part}
-use Rattle.words.proofs.WalkLaws.{Walk, walk_start, walk_below, walk_turns}
+use Rattle.words.proofs.WalkLaws.{walk_start, walk_below, walk_turns}
 use Rattle.segments.proofs.DirtyLaws.{dirty_ends, dirty_fits, dirty_emits}
 use Rattle.segments.proofs.put_dirty_copies.Goals as goal
 
 pub loop-rest-init : goal.loop-rest-init
 loop-rest-init c = (search rules, (0, (walk_start (search rules) (search rules), emitted_none _)))
 
-pub overflow_cast-b : goal.overflow_cast-b
-overflow_cast-b c = omega (arith, trailing_le 64 c.loop-rest.rest)
-
-pub overflow_mul-source : goal.overflow_mul-source
-overflow_mul-source c = omega (arith, trailing_le 64 c.loop-rest.rest)
-
-pub overflow_add-source : goal.overflow_add-source
-overflow_add-source c = omega (arith, walk_below c.loop-rest.invariant.1.1.0 (omega arith))
-
-pub overflow_mul-target : goal.overflow_mul-target
-overflow_mul-target c = omega (arith, trailing_le 64 c.loop-rest.rest)
-
 pub overflow_add-target : goal.overflow_add-target
 overflow_add-target c = omega (arith, walk_below c.loop-rest.invariant.1.1.0 (omega arith))
-
-pub overflow_add-source-in-loop-rest : goal.overflow_add-source-in-loop-rest
-overflow_add-source-in-loop-rest c = omega (arith, walk_below c.loop-rest.invariant.1.1.0 (omega arith))
 
 pub slice_bounds-put_copy-end : goal.slice_bounds-put_copy-end
 slice_bounds-put_copy-end c = omega (arith, walk_below c.loop-rest.invariant.1.1.0 (omega arith))
@@ -52,9 +32,6 @@ put_copy-next-requires c =
       fits =
           fits_as (sym (copy_part g.image.now (g.from + block_size * b) (g.to + block_size * b) g.flush)) (dirty_fits _ w.0 (omega arith) w.1 c.requires.fits);
     }
-
-pub loop-rest-smaller : goal.loop-rest-smaller
-loop-rest-smaller c = let m = c.loop-rest.rest in omega (arith, and_le_r m (m - 1))
 
 pub loop-rest-preserved : goal.loop-rest-preserved
 loop-rest-preserved c =

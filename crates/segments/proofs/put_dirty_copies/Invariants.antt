@@ -1,18 +1,11 @@
-use Prim.Native.Nat.{ℕ, ◌+◌, ◌-◌, ◌*◌}
-use mathlib.Core.Path.{◌≡◌, sym}
-use native.Mathlib.Omega.{arith}
-use lib.Bits.{and_le_r}
-use lib.Count.{count_trailing_zeros, trailing_le}
+use Prim.Native.Nat.{ℕ, ◌+◌, ◌*◌}
+use mathlib.Core.Path.{◌≡◌}
 use lib.ListN.{length}
-use borrow.Author.Rules.{rules}
 use Rattle.model.specs.Words.{word_at}
 use Rattle.model.specs.Layout.{word_size, block_size}
 use Rattle.model.specs.Ops.{put_block, each_dirty}
 use Rattle.trace.specs.Emit.{Emitted}
-use Rattle.trace.proofs.EmitLaws.{fits_as, emitted_as, emitted_none}
-use Rattle.blocks.proofs.PartLaws.{length_part, copy_part}
-use Rattle.words.proofs.WalkLaws.{Walk, walk_start, walk_below, walk_turns}
-use Rattle.segments.proofs.DirtyLaws.{dirty_ends, dirty_fits, dirty_emits}
+use Rattle.words.proofs.WalkLaws.{Walk}
 use Rattle.segments.proofs.put_dirty_copies.Given as goal
 
 abbrev pub invariant-loop-rest : goal.invariant-loop-rest

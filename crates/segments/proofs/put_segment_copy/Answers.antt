@@ -1,14 +1,11 @@
 use Rattle.blocks.proofs.PartLaws.{length_part, copy_part}
 use Rattle.trace.proofs.EmitLaws.{fits_as, fits_each, emitted_as, emitted_none, emitted_each}
-use Rattle.trace.specs.Emit.{Emitted}
 use Rattle.model.specs.Ops.{persist_copy, copy_segment}
 use Rattle.model.specs.Layout.{block_size}
-use Rattle.model.specs.Range.{cat}
-use lib.ListN.{length}
 use native.Mathlib.Omega.{arith}
 use mathlib.Core.Path.{◌≡◌, sym}
 use mathlib.Core.Bool.{true}
-use Prim.Native.Nat.{◌+◌, ◌-◌, ◌*◌, ◌≤◌}
+use Prim.Native.Nat.{◌+◌, ◌*◌}
 use borrow.Author.Rules.{rules}
 use Rattle.segments.proofs.put_segment_copy.Goals as goal
 
@@ -25,7 +22,7 @@ put_copy-next-requires c =
       block_size_bound = omega arith;
       fits =
           fits_as (sym (copy_part g.image.now (g.from + block_size * l.b) (g.to + block_size * l.b) true))
-              (fits_each l.b g.layout.blocks _ (omega arith) c.requires.fits l.invariant.2);
+          (fits_each l.b g.layout.blocks _ (omega arith) c.requires.fits l.invariant.2);
     }
 
 pub loop-b-preserved : goal.loop-b-preserved

@@ -1,15 +1,10 @@
-use Rattle.blocks.proofs.PartLaws.{length_part, copy_part}
-use Rattle.trace.proofs.EmitLaws.{fits_as, fits_each, emitted_as, emitted_none, emitted_each}
 use Rattle.trace.specs.Emit.{Emitted}
-use Rattle.model.specs.Ops.{persist_copy, copy_segment}
+use Rattle.model.specs.Ops.{persist_copy}
 use Rattle.model.specs.Layout.{block_size}
 use Rattle.model.specs.Range.{cat}
 use lib.ListN.{length}
-use native.Mathlib.Omega.{arith}
-use mathlib.Core.Path.{◌≡◌, sym}
-use mathlib.Core.Bool.{true}
+use mathlib.Core.Path.{◌≡◌}
 use Prim.Native.Nat.{◌+◌, ◌-◌, ◌*◌, ◌≤◌}
-use borrow.Author.Rules.{rules}
 use Rattle.segments.proofs.put_segment_copy.Given as goal
 
 abbrev pub invariant-loop-b : goal.invariant-loop-b

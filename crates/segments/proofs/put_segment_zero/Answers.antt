@@ -1,12 +1,7 @@
-use Rattle.model.specs.Range.{cat}
 use Rattle.trace.proofs.EmitLaws.{emitted_none, emitted_each, fits_each}
-use Rattle.trace.specs.Emit.{Emitted}
 use Rattle.model.specs.Ops.{persist_zero, zero_segment}
-use Rattle.model.specs.Layout.{block_size}
-use lib.ListN.{length}
 use native.Mathlib.Omega.{arith}
 use mathlib.Core.Path.{◌≡◌}
-use Prim.Native.Nat.{◌+◌, ◌-◌, ◌*◌, ◌≤◌}
 use borrow.Author.Rules.{rules}
 use Rattle.segments.proofs.put_segment_zero.Goals as goal
 
