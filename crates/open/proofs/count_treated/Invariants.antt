@@ -12,7 +12,7 @@ use Rattle.model.proofs.Laws.Range.{sum_none, sum_more}
 use Rattle.open.proofs.count_treated.Given as goal
 
 abbrev pub invariant-loop-i : goal.invariant-loop-i
-invariant-loop-i l = (l.i ≤ l.mains) × (l.sum ≡ sum_to l.i (turn l.layout l.image l.line)) × (l.sum ≤ l.i)
+invariant-loop-i l = (l.i ≤ l.mains) × (l.sum ≡ sum_to l.i (λ j. acts (recovery_action (seg_state l.image l.line j) (is_paired l.layout (backup_to_main l.image) j)))) × (l.sum ≤ l.i)
 
 abbrev pub decreases-loop-i : goal.decreases-loop-i
 decreases-loop-i l = l.mains - l.i

@@ -14,7 +14,6 @@ unfolding action_ops
 put_segment_zero-requires c =
     let g = c.args in
     let r = ap (action_ops g.layout g.image.now g.i g.j) c.in-ZeroMain.is ∙ ap (zero_segment g.layout) (sym c.main_at.ensures.0) in
-    
     record { layout_bound = omega arith; fits = fits_as r c.requires.fits }
 
 pub backup_at-to-requires : goal.backup_at-to-requires
@@ -27,7 +26,6 @@ put_segment_copy-requires c =
     let g = c.args in
     let r = ap (action_ops g.layout g.image.now g.i g.j) c.in-CopyToBackup.is
     ∙ ap₂ (λ (x y : ℕ). copy_segment g.layout g.image.now x y) (sym c.main_at-from.ensures.0) (sym c.backup_at-to.ensures.0) in
-    
     record { layout_in_bounds = omega (arith, segment_in_image g.layout g.i (omega arith)); layout_bound = omega arith; fits = fits_as r c.requires.fits }
 
 pub backup_at-from-requires : goal.backup_at-from-requires
@@ -41,17 +39,13 @@ put_segment_copy-requires-in-CopyToMain c =
     let r = ap (action_ops g.layout g.image.now g.i g.j) c.in-CopyToMain.is
     ∙ ap₂ (λ (x y : ℕ). copy_segment g.layout g.image.now x y) (sym c.backup_at-from.ensures.0) (sym c.main_at-to.ensures.0) in
     let b = c.requires.i_lt_mains.1 (ap takes_backup c.in-CopyToMain.is) in
-    (omega (arith, segment_in_image g.layout (g.layout.mains + g.j) (omega arith)), (omega arith, fits_as r c.requires.fits))
+    record { layout_in_bounds = omega (arith, segment_in_image g.layout (g.layout.mains + g.j) (omega arith)); layout_bound = omega arith; fits = fits_as r c.requires.fits }
 
 pub returns-in-Nothing : goal.returns-in-Nothing
 unfolding action_ops
 returns-in-Nothing c =
     let g = c.args in
     emitted_as emitted_nil (sym (ap (action_ops g.layout g.image.now g.i g.j) c.in-Nothing.is))
-
--- NO GOAL same-length
--- same_length : tie.Need-same-length
--- same_length c = emitted_length c.before.before.put-segment-zero.ensures
 
 pub returns-in-ZeroMain : goal.returns-in-ZeroMain
 unfolding action_ops
@@ -60,10 +54,6 @@ returns-in-ZeroMain c =
     emitted_as c.put_segment_zero.ensures
     (ap (zero_segment g.layout) c.main_at.ensures.0 ∙ sym (ap (action_ops g.layout g.image.now g.i g.j) c.in-ZeroMain.is))
 
--- NO GOAL same-length-2
--- same-length-2 : tie.Need-same-length-2
--- same-length-2 c = emitted_length c.before.before.put-segment-copy.ensures
-
 pub returns-in-CopyToBackup : goal.returns-in-CopyToBackup
 unfolding action_ops
 returns-in-CopyToBackup c =
@@ -71,10 +61,6 @@ returns-in-CopyToBackup c =
     emitted_as c.put_segment_copy.ensures
     (ap₂ (λ (x y : ℕ). copy_segment g.layout g.image.now x y) c.main_at-from.ensures.0 c.backup_at-to.ensures.0
     ∙ sym (ap (action_ops g.layout g.image.now g.i g.j) c.in-CopyToBackup.is))
-
--- NO GOAL same-length-3
--- same-length-3 : tie.Need-same-length-3
--- same-length-3 c = emitted_length c.before.before.put-segment-copy2.ensures
 
 pub returns-in-CopyToMain : goal.returns-in-CopyToMain
 unfolding action_ops

@@ -16,10 +16,10 @@ loop-i-init c = (search rules, emitted_none _)
 pub put_segment-next-requires : goal.put_segment-next-requires
 unfolding recovery_ops
 put_segment-next-requires c =
-    let g = c.args in (
-      (omega arith, c.requires.valid_by.0, c.requires.valid_by.1),
-      fits_each c.loop-i.i g.layout.mains (recover_segment g.layout g.image.now g.line) (omega arith) (fits_first (sfence ∷ []) c.requires.fits) c.loop-i.invariant.1,
-    )
+    let g = c.args in record {
+      i_lt_mains = (omega arith, c.requires.valid_by.0, c.requires.valid_by.1);
+      fits = fits_each c.loop-i.i g.layout.mains (recover_segment g.layout g.image.now g.line) (omega arith) (fits_first (sfence ∷ []) c.requires.fits) c.loop-i.invariant.1;
+    }
 
 pub loop-i-preserved : goal.loop-i-preserved
 loop-i-preserved c =
@@ -30,10 +30,6 @@ unfolding recovery_ops for_domain
 put_sfence-requires c =
     let e : c.loop-i.i ≡ c.args.layout.mains = omega arith in
     fits_plain refl (fits_then c.requires.fits (rw e at c.loop-i.invariant.1))
-
--- NO GOAL same-length
--- same_length : tie.Need-same-length invariant-loop decreases-loop
--- same_length c = emitted_length c.before.before.put-sfence.ensures ∙ emitted_length c.before.before.before.before.before.loop.invariant.1
 
 pub returns : goal.returns
 unfolding recovery_ops for_domain

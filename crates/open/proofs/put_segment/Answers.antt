@@ -19,12 +19,8 @@ put_action-requires c =
     let I = g.image.now in
     let j = c.backup_of-j.ensures in
     let e = c.segment_action-action.ensures in
-    let st = seg_state I g.line g.i in 
+    let st = seg_state I g.line g.i in
     record { i_lt_mains = (omega arith, (λ h. omega (arith, takes_own l I st g.i _ _ e j h, takes_there l I st g.i _ e h)), c.requires.i_lt_mains.1.sizes, c.requires.i_lt_mains.1.long); fits = fits_as (sym (own_ops l I g.line g.i _ _ e j)) c.requires.fits }
-
--- NO GOAL same-length
--- same_length : tie.Need-same-length
--- same_length c = emitted_length c.before.before.put-action.ensures
 
 pub returns : goal.returns
 returns c =

@@ -51,11 +51,10 @@ trace_status-room-requires c = omega (arith, c.recovery_length-ops.ensures.1)
 pub returns-then-not-is_served-3 : goal.returns-then-not-is_served-3
 unfolding recovery_outcome
 returns-then-not-is_served-3 c = λ R y.
-    let x = c in
-    let g = x.args in
+    let g = c.args in
     let O = recovery_ops g.layout g.image.now g.line in
     let z = sym c.is_served.ensures ∙ c.if-not-is_served.false in
-    let p = recovery_left g.layout g.domain g.image.now g.line _ x.examine.ensures.valid R g.trace.now c.if-not-found.false _ c.domain_status-kind.ensures z _ y
+    let p = recovery_left g.layout g.domain g.image.now g.line _ c.examine-found.ensures.valid R g.trace.now c.if-not-found.false _ c.domain_status-kind.ensures z _ y
     (sym c.is_served-2.ensures ∙ c.if-not-is_served-2.false) in
     let e = c.trace_status-room.ensures (for_domain g.domain O) g.trace.now (sym c.recovery_length-ops.ensures.0) refl in
     refused_gives _ g.layout R g.domain O g.trace.now _ c.refused-then-not-is_served-3.ensures (e ∙ sym p) (sym c.is_served-3.ensures ∙ c.if-not-is_served-3.true)
@@ -63,27 +62,23 @@ returns-then-not-is_served-3 c = λ R y.
 pub put_recovery-requires : goal.put_recovery-requires
 put_recovery-requires c =
     let g = c.args in
-    let z = eqb-true _ 0 (sym c.is_served-3.ensures ∙ c.if-not-is_served-3.false) in 
-    record { valid_by = recovers_by g.layout g.image.now g.line _ c.requires.0 c.requires.1 c.requires.2 c.examine-found.ensures c.if-not-found.false; fits = fits_whole (recovery_ops g.layout g.image.now g.line) g.trace.now
-          (sym z ∙ c.trace_status-room.ensures _ _ (sym c.recovery_length-ops.ensures.0) refl) }
-
--- NO GOAL same-length
--- same_length : tie.Need-same-length
--- same_length c = emitted_length c.before.before.before.before.put-recovery.ensures
+    let z = eqb-true _ 0 (sym c.is_served-3.ensures ∙ c.if-not-is_served-3.false) in
+    record {
+      valid_by = recovers_by g.layout g.image.now g.line _ c.requires.0 c.requires.1 c.requires.2 c.examine-found.ensures c.if-not-found.false;
+      fits = fits_whole (recovery_ops g.layout g.image.now g.line) g.trace.now
+          (sym z ∙ c.trace_status-room.ensures _ _ (sym c.recovery_length-ops.ensures.0) refl);
+    }
 
 pub returns : goal.returns
 unfolding recovery_outcome
 returns c = λ R y.
-    let k = c in
-    let d = k in
-    let x = d in
-    let g = x.args in
+    let g = c.args in
     let l = g.layout in
     let t = g.trace.now in
     let O = recovery_ops l g.image.now g.line in
     let m = c.recovery_length-ops.ensures.0 in
     let s = sym c.is_served.ensures ∙ c.if-not-is_served.false in
-    let p = recovery_left l g.domain g.image.now g.line _ x.examine.ensures.valid R t d.if1.false _ k.domain-status.ensures s _ y
+    let p = recovery_left l g.domain g.image.now g.line _ c.examine-found.ensures.valid R t c.if-not-found.false _ c.domain_status-kind.ensures s _ y
     (sym c.is_served-2.ensures ∙ c.if-not-is_served-2.false) in
     let z = sym (eqb-true _ 0 (sym c.is_served-3.ensures ∙ c.if-not-is_served-3.false)) ∙ c.trace_status-room.ensures (for_domain g.domain O) t (sym m) refl in
     served_gives _ R t _ _ c.served.ensures.0
