@@ -1,7 +1,6 @@
 // THE CALLS OF A HISTORY, as users of the library make them: opening, write and checkpoint, with the records of all clients (the trade:
 // consoles) lent by name. Nothing is asked of the caller. Each takes the records as a value, leaves the work to the crate of the call, and
-// puts back what changed: a slice of records is outside the forms that the borrow checker covers, so each is proved by a walk, and has no
-// branch.
+// puts back what changed.
 
 #![tactic(auto)]
 
