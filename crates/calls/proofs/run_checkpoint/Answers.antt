@@ -16,17 +16,19 @@ use Rattle.calls.proofs.run_checkpoint.Goals as goal
 pub returns-then-not-wanted : goal.returns-then-not-wanted
 returns-then-not-wanted c =
     let a = c.args in
-    let unwanted : a.wanted ≡ false = not-true a.wanted c.if-not-wanted.true in
-    (checkpoint_none _ a.ran _ _ _ _ _ unwanted refl (refl, refl) (appended_as no_save_text c.append_text-end.ensures), omega arith)
+    let unwanted : a.wanted ≡ false = c.if-not-wanted.true in
+    record {
+        checkpoint_ran = checkpoint_none _ a.ran _ _ _ _ _ unwanted refl (refl, refl) (appended_as no_save_text c.append_text-end.ensures);
+        place_bound = omega arith;
+    }
 
 pub returns : goal.returns
 unfolding blank
 returns c =
     let a = c.args in
-    let wanted : a.wanted ≡ true = not-false a.wanted c.if-not-wanted.false in
-    let r : Ran = record { session = c.step_checkpoint-checkpointed.result.session; client = get_or c.step_checkpoint-checkpointed.new.1.1.0 0 []; place = c.append_answer-place.result } in
-    let m : Made a.image.now a.ran checkpoint_args c.step_checkpoint-checkpointed.result c.step_checkpoint-checkpointed.new.1.1.0 c.step_checkpoint-checkpointed.new.1.1.1.0 c.step_checkpoint-checkpointed.new.0 r =
+    let wanted : a.wanted ≡ true = c.if-not-wanted.false in
+    let r : Ran = record { session = c.step_checkpoint-checkpointed.result.session; client = get_or c.step_checkpoint-checkpointed.new.clients 0 []; place = c.append_answer-place.result } in
+    let m : Made a.image.now a.ran checkpoint_args c.step_checkpoint-checkpointed.result c.step_checkpoint-checkpointed.new.clients c.step_checkpoint-checkpointed.new.trace c.step_checkpoint-checkpointed.new.image r =
     record { stepped = c.step_checkpoint-checkpointed.ensures; session = refl; one = omega arith; client = refl } in
     let q = checkpoint-made _ a.ran _ c.step_checkpoint-checkpointed.result _ _ _ _ _ _ c.code.result r wanted m save_text c.code.ensures c.append_answer-place.ensures.appended in
-    
     record { checkpoint_ran = λ b «is». let x = q b «is» in (x.0, (x.1.0, x.1.1, x.1.2)); place_bound = omega arith }
