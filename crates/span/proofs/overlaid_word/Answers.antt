@@ -1,10 +1,10 @@
-use Prim.Native.Nat.{◌+◌, ◌-◌, ◌≤◌, ◌<◌}
-use mathlib.Core.Path.{◌≡◌, ◌∙◌}
+use Prim.Native.Nat.{◌+◌, ◌≤◌, ◌<◌}
+use mathlib.Core.Path.{◌∙◌}
 use native.Mathlib.Omega.{arith}
 use lib.ListN.{length, length-set}
 use borrow.Author.Rules.{rules}
 use Rattle.model.specs.Words.{byte_at}
-use Rattle.span.proofs.SpanLaws.{Laid, laid_none, laid_more, laid_all}
+use Rattle.span.proofs.SpanLaws.{laid_none, laid_more, laid_all}
 use Rattle.span.proofs.overlaid_word.Goals as goal
 use Rattle.span.proofs.overlaid_word.Goals.{then-at-place, else-at-place, then-bytes_end-word_end, else-bytes_end-word_end}
 
@@ -17,13 +17,6 @@ loop-i-init c =
     let s : (a.at ≤ i) × (a.place ≤ i) × (a.at < i → i ≤ a.place) = elim c.if-at-place.branch [ then-at-place w ↦ (omega arith, omega arith, λ x. omega arith) | else-at-place w ↦ (omega arith, omega arith, λ x. omega arith) ] in
     let e : (end ≤ a.at + length a.bytes.now) × (end ≤ a.place + 8) = elim c.if-bytes_end-word_end.branch [ then-bytes_end-word_end w ↦ (omega arith, omega arith) | else-bytes_end-word_end w ↦ (omega arith, omega arith) ] in
     (s.0, s.1, e.0, e.1, search rules, laid_none (byte_at a.image.now) a.at a.bytes.now a.place i b.result s.2 b.ensures)
-
-pub bounds-bytes-i : goal.bounds-bytes-i
-bounds-bytes-i c =
-    let l = c.loop-i in
-    let a = c.args in
-    let e : l.i - a.at < length a.bytes.now = omega arith in
-    e
 
 pub loop-i-preserved : goal.loop-i-preserved
 loop-i-preserved c =

@@ -1,19 +1,19 @@
 use Prim.Native.Nat.{◌-◌, ◌%◌}
-use mathlib.Core.Path.{◌≡◌, refl, sym, ◌∙◌}
+use mathlib.Core.Path.{◌≡◌, refl, sym}
 use native.Mathlib.Omega.{arith}
 use lib.Dec.{eqb}
-use lib.ListN.{length, length-take, length-drop}
+use lib.ListN.{length}
 use borrow.Author.Tests.{eqb-true}
 use Rattle.model.proofs.Laws.Range.{and_left, and_right}
-use Rattle.trace.proofs.EmitLaws.{emitted_length, emitted_as, emitted_then, fits_as, fits_then}
+use Rattle.trace.proofs.EmitLaws.{emitted_as, emitted_then, fits_as, fits_then}
 use Rattle.span.specs.Steps.{first_stores}
 use Rattle.span.proofs.SpanLaws.{words_fit, whole_words, first_fits, first_alone, first_and_later}
 use Rattle.span.proofs.put_span.Goals as goal
 
-pub put_words-requires : goal.put_words-requires
-put_words-requires c =
+pub put_words-requires-clause-fits : goal.put_words-requires-clause-fits
+put_words-requires-clause-fits c =
     let a = c.args in
-    record { bytes_bound = omega arith; fits = words_fit a.image.now a.at a.bytes.now c.requires.fits }
+    words_fit a.image.now a.at a.bytes.now c.requires.fits
 
 pub returns-then-at-bytes : goal.returns-then-at-bytes
 returns-then-at-bytes c =
@@ -23,10 +23,10 @@ returns-then-at-bytes c =
     let y : length a.bytes.now % 8 ≡ 0 = eqb-true (length a.bytes.now % 8) 0 (and_right (eqb (a.at % 8) 0) _ t) in
     emitted_as c.put_words.ensures (whole_words a.image.now a.at a.bytes.now (omega arith) x y)
 
-pub put_first-next-requires : goal.put_first-next-requires
-put_first-next-requires c =
+pub put_first-next-requires-clause-fits : goal.put_first-next-requires-clause-fits
+put_first-next-requires-clause-fits c =
     let a = c.args in
-    record { word_size_in_bounds = omega arith; fits = first_fits a.image.now a.at a.bytes.now c.requires.fits }
+    first_fits a.image.now a.at a.bytes.now c.requires.fits
 
 pub returns-then-bytes-skip : goal.returns-then-bytes-skip
 returns-then-bytes-skip c =
@@ -34,16 +34,12 @@ returns-then-bytes-skip c =
     emitted_as {O = first_stores a.image.now a.at a.bytes.now} c.put_first-next.ensures
     (first_alone a.image.now a.at a.bytes.now (omega arith) (omega arith))
 
-pub put_aligned-requires : goal.put_aligned-requires
-put_aligned-requires c =
+pub put_aligned-requires-clause-fits : goal.put_aligned-requires-clause-fits
+put_aligned-requires-clause-fits c =
     let a = c.args in
     let e = first_and_later a.image.now a.at ((8 - a.at % 8) % 8) a.bytes.now refl (omega arith) in
-    record {
-      word_size_value = (omega arith, simp (length-take, length-drop) (omega arith), simp (length-take, length-drop) (omega arith));
-      line_size_len = c.requires.line_size_len;
-      fits = fits_then {A = first_stores a.image.now a.at a.bytes.now} (fits_as (sym e) c.requires.fits)
-          c.put_first-next.ensures;
-    }
+    fits_then {A = first_stores a.image.now a.at a.bytes.now} (fits_as (sym e) c.requires.fits)
+    c.put_first-next.ensures
 
 pub returns : goal.returns
 returns c =
