@@ -1,5 +1,5 @@
 // Opening, write and checkpoint for a program that holds the records of two clients in a local array: each lends it to the call, and answers
-// what the call gave, with the records afterwards. Their parameters are plain, so their callers need no walk.
+// what the call gave, with the records afterwards.
 
 #![tactic(auto)]
 

@@ -50,7 +50,6 @@ put_checkpoint-requires c =
     let e = c.trace_status-room.ensures O g.trace.now (sym (c.checkpoint_length-ops.ensures.0 g.segments g.image.now)) refl in
     let p = sym (eqb-true _ 0 (sym c.is_served-2.ensures ∙ c.if-not-is_served-2.false)) ∙ e in
     let ok = c.checkpoint_status-status.ensures.advancing (sym c.is_served.ensures ∙ c.if-not-is_served.false) in
-    
     record { advancing = (ok, c.marked_segments-marked.ensures); fits = fits_whole (checkpoint_ops s g.image.now) g.trace.now p }
 
 pub returns : goal.returns

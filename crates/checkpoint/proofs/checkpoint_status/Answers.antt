@@ -38,6 +38,9 @@ returns c =
     let g = c.args in
     let s = session_of g.layout g.segments g.words.now g.domain in
     let y = sym c.is_served.ensures ∙ c.if-not-is_served.false in
-    let z = sym c.is_served-2.ensures ∙ c.if-not-is_served-2.false in 
-    record { result_value = λ R x. first_fails 10 0 _ _ (ne_eqb _ _ (λ e. c.if-word_at-eq-LAST_EPOCH.false (c.word_at.ensures ∙ e))) first_of_none
-          ∙ sym (epoch_left s g.image.now R _ _ c.context_status-context.ensures y x z); advancing = λ h. advancing s g.image.now _ c.requires c.context_status-context.ensures y (λ e. c.if-word_at-eq-LAST_EPOCH.false (c.word_at.ensures ∙ e)) }
+    let z = sym c.is_served-2.ensures ∙ c.if-not-is_served-2.false in
+    record {
+      result_value = λ R x. first_fails 10 0 _ _ (ne_eqb _ _ (λ e. c.if-word_at-eq-LAST_EPOCH.false (c.word_at.ensures ∙ e))) first_of_none
+          ∙ sym (epoch_left s g.image.now R _ _ c.context_status-context.ensures y x z);
+      advancing = λ h. advancing s g.image.now _ c.requires c.context_status-context.ensures y (λ e. c.if-word_at-eq-LAST_EPOCH.false (c.word_at.ensures ∙ e));
+    }

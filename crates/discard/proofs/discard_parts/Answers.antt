@@ -62,7 +62,6 @@ put_discard-requires c =
     let same = discard_ops_lem s g.image.now g.main _ c.discarded_blocks-word.ensures in
     let m = c.discard_length-ops.ensures.0 g.domain g.layout g.image.now g.main _ within ∙ ap (λ (X : Ops). length (for_domain g.domain X)) same in
     let p = sym (eqb-true _ 0 (sym c.is_served-2.ensures ∙ c.if-not-is_served-2.false)) ∙ c.trace_status-room.ensures O g.trace.now (sym m) refl in
-    
     record { main_lt_mains = (d.main, d.sizes, d.long, within); valid = d.valid; fits = fits_as (sym same) (fits_whole (discard_ops s g.image.now g.main) g.trace.now p) }
 
 pub returns : goal.returns

@@ -21,18 +21,24 @@ pub returns-then-not-is_served-2 : goal.returns-then-not-is_served-2
 returns-then-not-is_served-2 c =
     let a = c.args in
     let s = session_of a.layout a.segments a.words.now a.domain in
-    let n = sym c.is_served-2.ensures ∙ c.if-not-is_served-2.true in record { result_value = λ R bytes e x.
+    let n = sym c.is_served-2.ensures ∙ c.if-not-is_served-2.true in record {
+      result_value = λ R bytes e x.
           let p = stage_passed _ (context_errors s a.image.now) _ (omega arith) c.context_status-context.ensures (sym c.is_served.ensures ∙ c.if-not-is_served.false) in
-          stage_refused _ _ _ (c.client_status-judged.ensures.result_value R e) n ∙ sym p; by_index = λ bytes x z. absurd (false≢true (sym n ∙ z)) }
+          stage_refused _ _ _ (c.client_status-judged.ensures.result_value R e) n ∙ sym p;
+      by_index = λ bytes x z. absurd (false≢true (sym n ∙ z));
+    }
 
 pub returns-then-not-is_served-3 : goal.returns-then-not-is_served-3
 returns-then-not-is_served-3 c =
     let a = c.args in
     let s = session_of a.layout a.segments a.words.now a.domain in
-    let n = sym c.is_served-3.ensures ∙ c.if-not-is_served-3.true in record { result_value = λ R bytes e x.
+    let n = sym c.is_served-3.ensures ∙ c.if-not-is_served-3.true in record {
+      result_value = λ R bytes e x.
           let p = stage_passed _ (context_errors s a.image.now) _ (omega arith) c.context_status-context.ensures (sym c.is_served.ensures ∙ c.if-not-is_served.false) in
           let k = stage_passed _ (client_errors a.layout R a.client) _ (omega arith) (c.client_status-judged.ensures.result_value R e) (sym c.is_served-2.ensures ∙ c.if-not-is_served-2.false) in
-          stage_refused _ _ _ c.place_status-place.ensures n ∙ sym (p ∙ k); by_index = λ bytes x z. absurd (false≢true (sym n ∙ z)) }
+          stage_refused _ _ _ c.place_status-place.ensures n ∙ sym (p ∙ k);
+      by_index = λ bytes x z. absurd (false≢true (sym n ∙ z));
+    }
 
 pub span_bad-requires : goal.span_bad-requires
 span_bad-requires c =
@@ -45,22 +51,28 @@ span_bad-requires c =
 pub returns-then-span_bad : goal.returns-then-span_bad
 returns-then-span_bad c =
     let a = c.args in
-    let s = session_of a.layout a.segments a.words.now a.domain in record { result_value = λ R bytes e x.
+    let s = session_of a.layout a.segments a.words.now a.domain in record {
+      result_value = λ R bytes e x.
           let p = stage_passed _ (context_errors s a.image.now) _ (omega arith) c.context_status-context.ensures (sym c.is_served.ensures ∙ c.if-not-is_served.false) in
           let k = stage_passed _ (client_errors a.layout R a.client) _ (omega arith) (c.client_status-judged.ensures.result_value R e) (sym c.is_served-2.ensures ∙ c.if-not-is_served-2.false) in
           let q = stage_passed _ (main_errors a.layout a.span.main ++ block_errors a.layout a.span.block) _ (omega arith) c.place_status-place.ensures (sym c.is_served-3.ensures ∙ c.if-not-is_served-3.false) in
-          first_holds 8 _ _ (sym (c.span_bad.ensures a.client bytes x) ∙ c.if-span_bad.true) ∙ sym (p ∙ k ∙ q); by_index = λ bytes x z. absurd (false≢true z) }
+          first_holds 8 _ _ (sym (c.span_bad.ensures a.client bytes x) ∙ c.if-span_bad.true) ∙ sym (p ∙ k ∙ q);
+      by_index = λ bytes x z. absurd (false≢true z);
+    }
 
 pub returns : goal.returns
 returns c =
     let a = c.args in
-    let s = session_of a.layout a.segments a.words.now a.domain in 
-    record { result_value = λ R bytes e x.
+    let s = session_of a.layout a.segments a.words.now a.domain in
+    record {
+      result_value = λ R bytes e x.
           let p = stage_passed _ (context_errors s a.image.now) _ (omega arith) c.context_status-context.ensures (sym c.is_served.ensures ∙ c.if-not-is_served.false) in
           let k = stage_passed _ (client_errors a.layout R a.client) _ (omega arith) (c.client_status-judged.ensures.result_value R e) (sym c.is_served-2.ensures ∙ c.if-not-is_served-2.false) in
           let q = stage_passed _ (main_errors a.layout a.span.main ++ block_errors a.layout a.span.block) _ (omega arith) c.place_status-place.ensures (sym c.is_served-3.ensures ∙ c.if-not-is_served-3.false) in
-          first_fails 8 _ _ _ (sym (c.span_bad.ensures a.client bytes x) ∙ c.if-span_bad.false) first_of_none ∙ sym (p ∙ k ∙ q); by_index = λ bytes x z.
+          first_fails 8 _ _ _ (sym (c.span_bad.ensures a.client bytes x) ∙ c.if-span_bad.false) first_of_none ∙ sym (p ∙ k ∙ q);
+      by_index = λ bytes x z.
           let p = stage_passed _ (context_errors s a.image.now) _ (omega arith) c.context_status-context.ensures (sym c.is_served.ensures ∙ c.if-not-is_served.false) in
           let q = stage_passed _ (main_errors a.layout a.span.main ++ block_errors a.layout a.span.block) _ (omega arith) c.place_status-place.ensures (sym c.is_served-3.ensures ∙ c.if-not-is_served-3.false) in
           let j = c.client_status-judged.ensures.client_lt_count (sym c.is_served-2.ensures ∙ c.if-not-is_served-2.false) in
-          (sym (first_fails 8 0 _ _ (sym (c.span_bad.ensures a.client bytes x) ∙ c.if-span_bad.false) first_of_none ∙ sym (p ∙ q)), j.0, j.1) }
+          (sym (first_fails 8 0 _ _ (sym (c.span_bad.ensures a.client bytes x) ∙ c.if-span_bad.false) first_of_none ∙ sym (p ∙ q)), j.0, j.1);
+    }

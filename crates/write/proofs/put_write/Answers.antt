@@ -9,7 +9,6 @@ put_copy_on_write-next-requires c = record { writable = c.requires.writable; cop
 pub put_span-requires : goal.put_span-requires
 put_span-requires c =
     let room = fits_plain (domain_stores _ _ _ _) (fits_then c.requires.fits c.put_copy_on_write-next.ensures) in
-    
     record { in_bounds = c.requires.in_bounds; line_size_len = (c.requires.writable.0.lines, c.requires.writable.0.size); fits = room }
 
 pub returns : goal.returns

@@ -115,10 +115,14 @@ returns-then-not-is_served-2 c =
     let O = on_trace s a.image.now w plan.result place.result in
     let count = length_ops s a.image.now w plan.result place.result _ _ (c.copy_count.ensures.0 a.image.now) c.span_words.ensures in
     let n = sym c.is_served-2.ensures ∙ c.if-not-is_served-2.true in
-    let r = c.refused-then-not-is_served-2.ensures in record { gives = λ R e.
+    let r = c.refused-then-not-is_served-2.ensures in record {
+      gives = λ R e.
           let none = sym (c.early_status-early.ensures.result_value R a.bytes.now e refl) ∙ eqb-true _ 0 early in
           refused_late s a.image.now R w a.trace.now plan.result place.result none (plan.ensures.by_index a.words.now a.domain) place.ensures _ _
-          (c.late_status-late.ensures.result_value R O a.trace.now e count refl) n (r.0, r.1); dirty_segments_value = λ z. (r.2, r.3, r.4); main_lt_most = λ z. absurd (false≢true (sym n ∙ sym (ap (λ (x : Status). served (code_of x)) r.0) ∙ z)) }
+          (c.late_status-late.ensures.result_value R O a.trace.now e count refl) n (r.0, r.1);
+      dirty_segments_value = λ z. (r.2, r.3, r.4);
+      main_lt_most = λ z. absurd (false≢true (sym n ∙ sym (ap (λ (x : Status). served (code_of x)) r.0) ∙ z));
+    }
 
 pub put_write-requires : goal.put_write-requires
 put_write-requires c =
@@ -133,7 +137,6 @@ put_write-requires c =
     let O = on_trace s a.image.now w plan.result place.result in
     let count = length_ops s a.image.now w plan.result place.result _ _ (c.copy_count.ensures.0 a.image.now) c.span_words.ensures in
     let room = fits_whole (ops s a.image.now w plan.result place.result) a.trace.now (c.late_status-late.ensures.value O a.trace.now count refl (sym c.is_served-2.ensures ∙ c.if-not-is_served-2.false)) in
-    
     record { writable = (ok.segment, ok.word); copies_to = plan.ensures.copies_to; in_bounds = omega (arith, ok, ok.segment, place.ensures); fits = room }
 
 pub set_segment-requires : goal.set_segment-requires
@@ -154,7 +157,6 @@ written_word-requires c =
     let early = sym c.is_served.ensures ∙ c.if-not-is_served.false in
     let plain = c.early_status-early.ensures.by_index a.bytes.now refl early in
     let ok = writable s a.image.now w plain.0 in
-    
     record { block_lt_blocks = (ok.block, ok.segment.blocks, ok.word); le_len = (ok.some, ok.span) }
 
 pub used_after-requires : goal.used_after-requires
@@ -166,7 +168,6 @@ used_after-requires c =
     let plain = c.early_status-early.ensures.by_index a.bytes.now refl early in
     let ok = writable s a.image.now w plain.0 in
     let z = sym c.is_served-2.ensures ∙ c.if-not-is_served-2.false in
-    
     record { client_lt_most_clients = omega (arith, plain.1, plain.2); client_bound = λ copied. c.late_status-late.ensures.client_bound z (sym c.has_copy.ensures ∙ copied) }
 
 pub returns : goal.returns
@@ -182,11 +183,15 @@ returns c =
     let O = on_trace s a.image.now w plan.result place.result in
     let count = length_ops s a.image.now w plan.result place.result _ _ (c.copy_count.ensures.0 a.image.now) c.span_words.ensures in
     let z = sym c.is_served-2.ensures ∙ c.if-not-is_served-2.false in
-    let room = fits_whole (ops s a.image.now w plan.result place.result) a.trace.now (c.late_status-late.ensures.value O a.trace.now count refl z) in 
-    record { gives = λ R e.
+    let room = fits_whole (ops s a.image.now w plan.result place.result) a.trace.now (c.late_status-late.ensures.value O a.trace.now count refl z) in
+    record {
+      gives = λ R e.
           let none = sym (c.early_status-early.ensures.result_value R a.bytes.now e refl) ∙ eqb-true _ 0 early in
           let last = sym (c.late_status-late.ensures.result_value R O a.trace.now e count refl) ∙ eqb-true _ 0 z in
           served-write s a.image.now R w a.trace.now plan.result place.result none (plan.ensures.by_index a.words.now a.domain) place.ensures last _ _ _ room refl
           c.set_segment.ensures (c.written_word.ensures a.client a.bytes.now refl)
           (c.used_after.ensures R e ∙ ap (λ (x : Bool). cond x (suc (client_at R a.client).used) (client_at R a.client).used) c.has_copy.ensures)
-          (sym count) c.put_write.ensures; dirty_segments_value = λ n. absurd (true≢false n); main_lt_most = λ n. (omega (arith, ok.segment), plain.1, plain.2) }
+          (sym count) c.put_write.ensures;
+      dirty_segments_value = λ n. absurd (true≢false n);
+      main_lt_most = λ n. (omega (arith, ok.segment), plain.1, plain.2);
+    }
