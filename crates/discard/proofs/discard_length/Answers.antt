@@ -1,6 +1,4 @@
-use mathlib.Core.Path.{sym}
 use native.Mathlib.Omega.{arith}
-use borrow.Author.Rules.{rules}
 use Rattle.model.proofs.Laws.Counts.{dirty_ones}
 use Rattle.model.proofs.Laws.Counts.Discard.{count_restore}
 use Rattle.discard.proofs.discard_length.Goals as goal

@@ -2,8 +2,7 @@ use mathlib.Core.Path.{refl, sym, ap, ◌∙◌}
 use mathlib.Core.List.{◌++◌}
 use native.Mathlib.Omega.{arith}
 use lib.ListN.{length}
-use borrow.Author.Rules.{rules}
-use borrow.Author.Tests.{eqb-true, not-true, not-false}
+use borrow.Author.Tests.{eqb-true}
 use Rattle.model.specs.Container.{main_errors}
 use Rattle.model.specs.Session.{context_errors}
 use Rattle.model.specs.Ops.{Ops, for_domain, trace_errors}

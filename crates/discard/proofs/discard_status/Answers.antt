@@ -1,7 +1,5 @@
 use mathlib.Core.Path.{sym, ◌∙◌}
 use native.Mathlib.Omega.{arith}
-use borrow.Author.Rules.{rules}
-use borrow.Author.Tests.{not-true, not-false}
 use Rattle.model.specs.Container.{main_errors}
 use Rattle.model.specs.Session.{context_errors}
 use Rattle.model.proofs.Laws.Status.{stage_refused, stage_passed}

@@ -2,7 +2,6 @@ use Prim.Native.Nat.{ℕ, ◌+◌, ◌≤◌}
 use mathlib.Core.Path.{sym, ap, ◌∙◌, subst}
 use native.Mathlib.Omega.{arith}
 use lib.ListN.{length}
-use borrow.Author.Rules.{rules}
 use Rattle.model.specs.Layout.{segment_size}
 use Rattle.model.specs.Container.{active_line, seg_state, backup_to_main, Valid, checkpoint_located}
 use Rattle.model.proofs.Laws.Layout.{metadata_inside}
