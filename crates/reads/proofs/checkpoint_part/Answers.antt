@@ -1,8 +1,6 @@
 use Prim.Native.Nat.{ℕ}
 use mathlib.Core.Path.{refl, ◌∙◌, sym, ap, subst}
 use native.Mathlib.Omega.{arith}
-use borrow.Author.Tests.{not-true, not-false}
-use borrow.Author.Rules.{rules}
 use Rattle.model.specs.declared.Located.TheVariants.{Nowhere}
 use Rattle.model.specs.Container.{seg_state, backup_to_main, Valid, checkpoint_located}
 use Rattle.reads.proofs.ReadLaws.{read_judged, readable, located_block, checkpoint_refused, checkpoint-served, answered_none, answered_block}
@@ -28,8 +26,8 @@ checkpoint_located-located-requires c =
     let r = readable a.layout a.image.now a.main a.block (s ∙ c.if-not-is_served.false) in
     let e = c.active_at.ensures in
     record {
-        main_lt_mains = (r.main, r.sizes, omega arith, omega arith);
-        valid = subst (λ (n : ℕ). Valid a.layout (seg_state a.image.now n) (backup_to_main a.image.now)) (sym e.0) r.ok.valid;
+      main_lt_mains = (r.main, r.sizes, omega arith, omega arith);
+      valid = subst (λ (n : ℕ). Valid a.layout (seg_state a.image.now n) (backup_to_main a.image.now)) (sym e.0) r.ok.valid;
     }
 
 pub returns-in-Nowhere : goal.returns-in-Nowhere

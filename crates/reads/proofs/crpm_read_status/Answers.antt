@@ -1,5 +1,4 @@
 use mathlib.Core.Path.{◌∙◌, ap}
-use borrow.Author.Rules.{rules}
 use Rattle.model.specs.Reads.{read_status}
 use Rattle.model.specs.declared.Layout.{Layout}
 use Rattle.reads.proofs.crpm_read_status.Goals as goal

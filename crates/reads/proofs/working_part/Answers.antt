@@ -1,7 +1,5 @@
 use mathlib.Core.Path.{◌∙◌}
 use native.Mathlib.Omega.{arith}
-use borrow.Author.Tests.{not-true, not-false}
-use borrow.Author.Rules.{rules}
 use Rattle.reads.proofs.ReadLaws.{read_judged, readable, main_inside, working_refused, working_served, answered_none, answered_block}
 use Rattle.reads.proofs.working_part.Goals as goal
 

@@ -1,11 +1,8 @@
-use Prim.Native.Nat.{◌-◌, ◌*◌, ◌≤◌, ◌<◌}
+use Prim.Native.Nat.{◌-◌, ◌*◌, ◌≤◌}
 use mathlib.Core.Path.{◌≡◌}
-use native.Mathlib.Omega.{arith}
-use borrow.Author.Rules.{rules}
 use Rattle.model.specs.Layout.{segment_size}
 use Rattle.model.specs.Container.{active_line, checkpoint_bytes}
 use Rattle.model.specs.Same.{same_bytes}
-use Rattle.same.proofs.SameLaws.{segments_none, segments_more}
 use Rattle.same.proofs.same_bytes.Given as goal
 
 abbrev pub invariant-loop-i : goal.invariant-loop-i

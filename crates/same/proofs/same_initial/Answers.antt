@@ -1,9 +1,6 @@
-use Prim.Native.Nat.{◌-◌, ◌≤◌}
 use mathlib.Core.Path.{◌≡◌, refl}
 use native.Mathlib.Omega.{arith}
 use borrow.Author.Rules.{rules}
-use Rattle.model.specs.Container.{seg_state}
-use Rattle.model.specs.Same.{same_initial}
 use Rattle.same.proofs.SameLaws.{initial_none, initial_more}
 use Rattle.same.proofs.same_initial.Goals as goal
 

@@ -1,10 +1,7 @@
 use Prim.Native.Nat.{◌-◌, ◌≤◌}
-use mathlib.Core.Path.{◌≡◌, refl}
-use native.Mathlib.Omega.{arith}
-use borrow.Author.Rules.{rules}
+use mathlib.Core.Path.{◌≡◌}
 use Rattle.model.specs.Container.{seg_state}
 use Rattle.model.specs.Same.{same_initial}
-use Rattle.same.proofs.SameLaws.{initial_none, initial_more}
 use Rattle.same.proofs.same_initial.Given as goal
 
 abbrev pub invariant-loop-i : goal.invariant-loop-i

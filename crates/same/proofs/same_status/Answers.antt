@@ -1,7 +1,5 @@
 use mathlib.Core.Path.{sym, ◌∙◌}
 use native.Mathlib.Omega.{arith}
-use borrow.Author.Tests.{not-true, not-false}
-use borrow.Author.Rules.{rules}
 use Rattle.model.specs.Container.{container_errors}
 use Rattle.model.proofs.Laws.Status.{stage_refused, stage_passed}
 use Rattle.same.proofs.same_status.Goals as goal

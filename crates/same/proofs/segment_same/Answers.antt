@@ -1,5 +1,4 @@
 use native.Mathlib.Omega.{arith}
-use borrow.Author.Rules.{rules}
 use Rattle.same.proofs.SameLaws.{sizes_and_room, searched, found_at, inside_at, both_nowhere, not_one, none_nowhere}
 use Rattle.same.proofs.segment_same.Goals as goal
 
@@ -30,7 +29,7 @@ segments_equal-requires c =
     let p = c.requires in
     let a = c.args in
     let x = found_at a.layout a.a.now a.main c.in-At.is c.checkpoint_located-x.ensures c.active_at.ensures.0 in
-    let y = found_at a.layout a.b.now a.main c.in-At-y.is c.checkpoint_located-y.ensures c.active_at-2.ensures.0 in 
+    let y = found_at a.layout a.b.now a.main c.in-At-y.is c.checkpoint_located-y.ensures c.active_at-2.ensures.0 in
     record { blocks_le_most = (sizes_and_room a.layout a.a.now p.a_value).0.2.1; blocks_in_bounds = inside_at a.layout a.a.now a.main p.a_value p.main_lt_mains _ x; blocks_in_bounds_2 = inside_at a.layout a.b.now a.main p.b_value p.main_lt_mains _ y }
 
 pub returns-in-Nowhere : goal.returns-in-Nowhere

@@ -1,10 +1,8 @@
-use Prim.Native.Nat.{ℕ, ◌+◌, ◌-◌, ◌*◌, ◌≤◌}
+use Prim.Native.Nat.{ℕ, ◌+◌, ◌*◌}
 use mathlib.Core.Path.{◌≡◌, ap₂}
 use native.Mathlib.Omega.{arith}
 use lib.Dec.{eqb}
 use borrow.Author.Rules.{rules}
-use Rattle.model.specs.Range.{all_b}
-use Rattle.model.specs.Words.{byte_at}
 use Rattle.blocks.proofs.PartLaws.{length_part}
 use Rattle.same.proofs.SameLaws.{runs_none, runs_more, part_byte}
 use Rattle.same.proofs.segments_equal.Goals as goal
@@ -17,8 +15,8 @@ blocks_equal-ok-requires c =
     let l = c.loop-n in
     let g = c.args in
     record {
-        block_size_in_bounds = omega (arith, length_part g.a.now (g.x + 256 * l.n) (omega arith));
-        block_size_in_bounds_2 = omega (arith, length_part g.b.now (g.y + 256 * l.n) (omega arith));
+      block_size_in_bounds = omega (arith, length_part g.a.now (g.x + 256 * l.n) (omega arith));
+      block_size_in_bounds_2 = omega (arith, length_part g.b.now (g.y + 256 * l.n) (omega arith));
     }
 
 pub loop-n-preserved : goal.loop-n-preserved

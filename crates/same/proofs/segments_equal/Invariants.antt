@@ -1,12 +1,8 @@
-use Prim.Native.Nat.{ℕ, ◌+◌, ◌-◌, ◌*◌, ◌≤◌}
-use mathlib.Core.Path.{◌≡◌, ap₂}
-use native.Mathlib.Omega.{arith}
+use Prim.Native.Nat.{◌+◌, ◌-◌, ◌*◌, ◌≤◌}
+use mathlib.Core.Path.{◌≡◌}
 use lib.Dec.{eqb}
-use borrow.Author.Rules.{rules}
 use Rattle.model.specs.Range.{all_b}
 use Rattle.model.specs.Words.{byte_at}
-use Rattle.blocks.proofs.PartLaws.{length_part}
-use Rattle.same.proofs.SameLaws.{runs_none, runs_more, part_byte}
 use Rattle.same.proofs.segments_equal.Given as goal
 
 abbrev pub invariant-loop-n : goal.invariant-loop-n
