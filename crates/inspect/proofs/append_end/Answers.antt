@@ -1,5 +1,4 @@
 use native.Mathlib.Omega.{arith}
-use borrow.Author.Tests.{not-true, not-false}
 use Rattle.printer.proofs.AppendedLaws.{appended_as}
 use Rattle.inspect.proofs.Texts.{line_end-text, silent_text}
 use borrow.Author.Rules.{rules}
@@ -7,8 +6,8 @@ use Rattle.inspect.proofs.append_end.Goals as goal
 
 pub returns-then-not-silent : goal.returns-then-not-silent
 returns-then-not-silent c =
-    (rw (not-true c.args.silent c.if-not-silent.true) (appended_as line_end-text c.append_text.ensures), omega (arith, c.append_text.ensures.place))
+    record { appended = rw c.if-not-silent.true (appended_as line_end-text c.append_text.ensures); upper_bound = omega (arith, c.append_text.ensures.place) }
 
 pub returns : goal.returns
 returns c =
-    record { appended = rw (not-false c.args.silent c.if-not-silent.false) (appended_as silent_text c.append_text-2.ensures); upper_bound = omega (arith, c.append_text-2.ensures.place) }
+    record { appended = rw c.if-not-silent.false (appended_as silent_text c.append_text-2.ensures); upper_bound = omega (arith, c.append_text-2.ensures.place) }

@@ -12,7 +12,10 @@ use Rattle.inspect.proofs.append_epoch.Goals as goal
 pub returns-then-image-lt-WORD_LEN : goal.returns-then-image-lt-WORD_LEN
 returns-then-image-lt-WORD_LEN c =
     let a = c.args in
-    (appended_as (no_epoch_text ∙ ap (λ (v : List ℕ). text " epoch=" ++ v) (epoch_none a.image.now (omega arith))) c.append_text.ensures, omega (arith, c.append_text.ensures.place))
+    record {
+      appended = appended_as (no_epoch_text ∙ ap (λ (v : List ℕ). text " epoch=" ++ v) (epoch_none a.image.now (omega arith))) c.append_text.ensures;
+      upper_bound = omega (arith, c.append_text.ensures.place);
+    }
 
 pub returns : goal.returns
 returns c =

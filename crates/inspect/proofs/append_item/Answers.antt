@@ -1,5 +1,4 @@
 use native.Mathlib.Omega.{arith}
-use borrow.Author.Tests.{not-true, not-false}
 use Rattle.printer.proofs.AppendedLaws.{appended_none}
 use Rattle.inspect.proofs.Texts.{keyed_as, comma_text}
 use borrow.Author.Rules.{rules}
@@ -8,15 +7,12 @@ use Rattle.inspect.proofs.append_item.Goals as goal
 pub returns-then-not-wanted : goal.returns-then-not-wanted
 returns-then-not-wanted c =
     let a = c.args in
-    (rw (not-true a.wanted c.if-not-wanted.true) (appended_none a.out.now a.from), omega arith)
+    record { appended = rw c.if-not-wanted.true (appended_none a.out.now a.from); upper_bound = omega arith }
 
 pub returns-then-not-seen : goal.returns-then-not-seen
 returns-then-not-seen c =
-    let a = c.args in
-    (rw (not-false a.wanted c.if-not-wanted.false, not-true a.seen c.if-not-seen.true) c.append_decimal.ensures.appended, omega (arith, c.append_decimal.ensures.upper_bound))
+    record { appended = rw (c.if-not-wanted.false, c.if-not-seen.true) c.append_decimal.ensures.appended; upper_bound = omega (arith, c.append_decimal.ensures.upper_bound) }
 
 pub returns : goal.returns
 returns c =
-    let a = c.args in
-    
-    record { appended = rw (not-false a.wanted c.if-not-wanted.false, not-false a.seen c.if-not-seen.false) (keyed_as _ comma_text c.append_keyed.ensures.appended); upper_bound = omega (arith, c.append_keyed.ensures.upper_bound) }
+    record { appended = rw (c.if-not-wanted.false, c.if-not-seen.false) (keyed_as _ comma_text c.append_keyed.ensures.appended); upper_bound = omega (arith, c.append_keyed.ensures.upper_bound) }

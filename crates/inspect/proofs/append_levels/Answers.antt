@@ -27,9 +27,5 @@ loop-i-preserved c =
     let a = c.args in
     (omega arith, omega (arith, l.invariant.1, c.append_level-place.ensures.upper_bound), omega (arith, l.invariant.2, c.append_level-place.ensures.appended.size), levels_more a.layout a.image.now l.i l.invariant.3 c.append_level-place.ensures.appended)
 
--- NO GOAL same-length
--- same_length : tie.Need-same-length invariant-loop decreases-loop
--- same_length c = omega (arith, c.before.loop.invariant.2)
-
 pub returns : goal.returns
 returns c = let e : c.loop-i.i ≡ c.args.layout.mains = omega arith in rw e at c.loop-i.invariant.3

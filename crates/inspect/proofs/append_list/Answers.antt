@@ -35,17 +35,16 @@ loop-b-preserved c =
       listed_more (block_differs a.layout a.image.now a.main) l.b l.invariant.3 d l.invariant.4 c.append_item-place.ensures.appended,
     )
 
--- NO GOAL same-length
--- same_length : tie.Need-same-length invariant-loop decreases-loop
--- same_length c = omega (arith, c.before.before.loop.invariant.2)
-
 pub returns-then-seen : goal.returns-then-seen
 returns-then-seen c =
     let l = c.loop-b in
     let a = c.args in
     let e : l.b ≡ a.layout.blocks = omega arith in
     let p = block_differs a.layout a.image.now a.main in
-    (rw e at (list_some p l.b (sym l.invariant.3 ∙ c.if-seen.true) l.invariant.4), omega (arith, l.invariant.1))
+    record {
+      appended = rw e at (list_some p l.b (sym l.invariant.3 ∙ c.if-seen.true) l.invariant.4);
+      upper_bound = omega (arith, l.invariant.1);
+    }
 
 pub append_text-requires : goal.append_text-requires
 append_text-requires c =
@@ -58,5 +57,4 @@ returns c =
     let a = c.args in
     let e : l.b ≡ a.layout.blocks = omega arith in
     let p = block_differs a.layout a.image.now a.main in
-    
     record { appended = rw e at (list_none p l.b (sym l.invariant.3 ∙ c.if-seen.false) l.invariant.4 (appended_as dash-text c.append_text.ensures)); upper_bound = omega (arith, l.invariant.1, c.append_text.ensures.place) }

@@ -12,10 +12,13 @@ use Rattle.inspect.proofs.LineLaws.{listed_none, listed_more, any_more, list_som
 use borrow.Author.Rules.{rules}
 use Rattle.inspect.proofs.append_list.Given as goal
 
--- PARAMS ['image', 'layout', 'main', 'out₀', 'from', 'blocks', 'seen₀', 'place₀', 'b₀', 't11', 'out', 'seen', 'place', 'b'] VARS ['image', 'layout', 'main', 'out', 'from', 'blocks', 'seen', 'place', 'b'] [False, False, False, True, False, False, True, True, True]
 abbrev pub invariant-loop-b : goal.invariant-loop-b
-invariant-loop-b l = (b ≤ l.blocks) × (l.b ≤ l.from + item_room * b) × (length l.seen ≡ length l.initial.out) × (l.place ≡ any_b b (block_differs l.layout l.image l.main)) × Appended l.initial.out l.from (listed b (block_differs l.layout l.image l.main)) l.seen l.b
+invariant-loop-b l =
+    (l.b ≤ l.blocks)
+    × (l.place ≤ l.from + item_room * l.b)
+    × (length l.out ≡ length l.initial.out)
+    × (l.seen ≡ any_b l.b (block_differs l.layout l.image l.main))
+    × Appended l.initial.out l.from (listed l.b (block_differs l.layout l.image l.main)) l.out l.place
 
--- PARAMS ['image', 'layout', 'main', 'out₀', 'from', 'blocks', 'seen₀', 'place₀', 'b₀', 't11', 'out', 'seen', 'place', 'b'] VARS ['image', 'layout', 'main', 'out', 'from', 'blocks', 'seen', 'place', 'b'] [False, False, False, True, False, False, True, True, True]
 abbrev pub decreases-loop-b : goal.decreases-loop-b
-decreases-loop-b l = l.blocks - b
+decreases-loop-b l = l.blocks - l.b

@@ -10,12 +10,14 @@ pub returns-then-part-eq0 : goal.returns-then-part-eq0
 returns-then-part-eq0 c =
     let part = c.args.part in
     let none = eq-eqb part.size 0 (omega arith) in
-    (appended_then c.append_text-end.ensures (appended_as (rw none empty_text) c.append_text.ensures), omega (arith, c.append_text-end.ensures.place, c.append_text.ensures.place))
+    record {
+      appended = appended_then c.append_text-end.ensures (appended_as (rw none empty_text) c.append_text.ensures);
+      upper_bound = omega (arith, c.append_text-end.ensures.place, c.append_text.ensures.place);
+    }
 
 pub returns : goal.returns
 returns c =
     let k = c.append_address in
     let part = c.args.part in
     let some = ne_eqb part.size 0 (λ q. omega (arith, q)) in
-    
-    record { appended = appended_as (rw some refl) k.ensures.0; upper_bound = omega (arith, k.ensures.1) }
+    record { appended = appended_as (rw some refl) k.ensures.appended; upper_bound = omega (arith, k.ensures.upper_bound) }

@@ -13,7 +13,10 @@ pub returns-then-image-line : goal.returns-then-image-line
 returns-then-image-line c =
     let a = c.args in
     let l = c.active_line-line in
-    (appended_as (no_states_text ∙ ap (λ (v : List ℕ). text " states-at=" ++ v) (states_none a.image.now _ l.ensures.0 (omega arith))) c.append_text.ensures, omega (arith, c.append_text.ensures.place))
+    record {
+      appended = appended_as (no_states_text ∙ ap (λ (v : List ℕ). text " states-at=" ++ v) (states_none a.image.now _ l.ensures.0 (omega arith))) c.append_text.ensures;
+      upper_bound = omega (arith, c.append_text.ensures.place);
+    }
 
 pub returns : goal.returns
 returns c =

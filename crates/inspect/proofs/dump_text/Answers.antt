@@ -16,7 +16,7 @@ returns-then-not-is_served c =
     let a = c.args in
     let no = ap (λ (n : ℕ). served n) (sym c.read_status-status.ensures) ∙ sym c.is_served.ensures ∙ c.if-not-is_served.true in
     let t = appended_first (appended_as (dump_refused a.layout a.image.now no) c.append_first-first.ensures.appended) in
-    (c.read_status-status.ensures, t)
+    record { status_value = c.read_status-status.ensures; prefix_len = t.0; size_value = t.1 }
 
 pub append_levels-size-requires : goal.append_levels-size-requires
 append_levels-size-requires c =
@@ -28,4 +28,4 @@ returns c =
     let a = c.args in
     let yes = ap (λ (n : ℕ). served n) (sym c.read_status-status.ensures) ∙ sym c.is_served.ensures ∙ c.if-not-is_served.false in
     let t = appended_first (appended_as (dump_served a.layout a.image.now yes) (appended_then c.append_first-first.ensures.appended c.append_levels-size.ensures)) in
-    (c.read_status-status.ensures, t)
+    record { status_value = c.read_status-status.ensures; prefix_len = t.0; size_value = t.1 }

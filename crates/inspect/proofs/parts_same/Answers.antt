@@ -19,8 +19,7 @@ returns-then-b-eq0 c =
 pub blocks_equal-requires : goal.blocks_equal-requires
 blocks_equal-requires c =
     let p = c.requires in
-    
-    record { block_size_in_bounds = ⊎_elim (λ e. absurd (omega (arith, e))) (λ h. h) p.0; block_size_in_bounds_2 = ⊎_elim (λ e. absurd (omega (arith, e))) (λ h. h) p.1 }
+    record { block_size_in_bounds = ⊎_elim (λ e. absurd (omega (arith, e))) (λ h. h) p.fact; block_size_in_bounds_2 = ⊎_elim (λ e. absurd (omega (arith, e))) (λ h. h) p.fact_2 }
 
 pub returns : goal.returns
 unfolding same_bytes
