@@ -1,23 +1,22 @@
 -- Laws of the next states, eight at once in a word as the code has them, and of the line where they are stored.
-use Prim.Native.Nat.{ℕ, zero, suc, ◌+◌, ◌-◌, ◌*◌, ◌/◌, ◌%◌, ◌^◌, ◌≤◌, ◌<◌}
+use Prim.Native.Nat.{ℕ, zero, suc, ◌+◌, ◌*◌, ◌^◌, ◌<◌}
 use mathlib.Core.Path.{◌≡◌, refl, sym, ap, ap₂, ◌∙◌}
 use mathlib.Core.Bool.{Bool, cond, ◌&&◌}
 use mathlib.Core.List.{[], ◌∷◌, ◌++◌}
 use native.Mathlib.Omega.{arith}
 use native.Mathlib.Decide.{ℕ_discrete}
 use native.Mathlib.Nat.{add_assoc, zero-mul}
-use lib.Bits.{bit_and, bit_or, and_block, and_high, and_le_l, and_le_r, or_block, or_lt}
+use lib.Bits.{bit_or, or_block, or_lt}
 use lib.Dec.{eqb}
-use lib.Pow.{field, mod-mod-pow, pow-add, pow-lt, pow_pos, shr-shr}
-use borrow.Author.Tests.{eqb-true, ne_eqb}
-use Rattle.model.specs.Range.{all_b}
-use Rattle.model.specs.Words.{Image, byte_at, Bytes, little_endian, word_of, word_at}
+use lib.Pow.{pow_pos}
+use borrow.Author.Tests.{ne_eqb}
+use Rattle.model.specs.Words.{Image, byte_at, Bytes, word_of, word_at}
 use Rattle.model.specs.Layout.{word_size, line_words}
 use Rattle.model.specs.Container.{active_line, inactive_line, seg_state, by_state}
 use Rattle.model.specs.Session.{bit, is_dirty}
 use Rattle.model.specs.Ops.{clwb, stores}
 use Rattle.model.specs.Checkpoint.{next_state, next_states, states_ops}
-use Rattle.model.proofs.Laws.Range.{or_zero_lem, all_at}
+use Rattle.model.proofs.Laws.Range.{or_zero_lem}
 use Rattle.model.proofs.Laws.Words.{word_cong}
 use Rattle.words.proofs.ByteLaws.{by_bytes, word_from, bit_small}
 

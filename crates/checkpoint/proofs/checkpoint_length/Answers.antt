@@ -3,7 +3,6 @@ use mathlib.Core.Path.{◌≡◌, refl, sym, ap, ◌∙◌}
 use mathlib.Core.Bool.{Bool, true, false, cond}
 use native.Mathlib.Omega.{arith}
 use lib.Dec.{eqb}
-use borrow.Author.Rules.{rules}
 use Rattle.model.specs.Session.{adr}
 use Rattle.model.specs.Counts.{flushes, dirty_total}
 use Rattle.model.proofs.Laws.Counts.Checkpoint.{count_checkpoint}

@@ -1,7 +1,6 @@
 use mathlib.Core.Path.{refl, sym, ◌∙◌}
 use native.Mathlib.Omega.{arith}
-use borrow.Author.Rules.{rules}
-use borrow.Author.Tests.{eqb-true, not-true, not-false}
+use borrow.Author.Tests.{eqb-true}
 use Rattle.model.specs.Ops.{for_domain, trace_errors}
 use Rattle.model.specs.Checkpoint.{checkpoint_ops, checkpoint_status, checkpoint_outcome}
 use Rattle.model.proofs.Laws.Status.{stage_refused, stage_passed}

@@ -1,11 +1,10 @@
 use Rattle.checkpoint.proofs.StatusLaws.{long_enough, advancing, clients_refused, epoch_left}
 use Rattle.session.specs.Parts.{session_of}
 use Rattle.model.proofs.Laws.Status.{first_holds, first_fails, first_of_none, stage_refused}
-use borrow.Author.Tests.{eq-eqb, ne_eqb, not-true, not-false}
+use borrow.Author.Tests.{eq-eqb, ne_eqb}
 use native.Mathlib.Omega.{arith}
 use mathlib.Core.Path.{sym, ◌∙◌}
 use mathlib.Core.Bool.{true≢false}
-use borrow.Author.Rules.{rules}
 use Rattle.checkpoint.proofs.checkpoint_status.Goals as goal
 
 pub returns-then-not-is_served : goal.returns-then-not-is_served

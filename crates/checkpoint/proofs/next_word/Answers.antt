@@ -1,6 +1,5 @@
 use Prim.Native.Nat.{◌*◌}
 use mathlib.Core.Path.{◌∙◌}
-use borrow.Author.Rules.{rules}
 use Rattle.model.specs.Layout.{word_size}
 use Rattle.model.specs.Words.{Bytes}
 use Rattle.checkpoint.proofs.StateLaws.{overlaid_small, overlaid_word, next_word_lem}

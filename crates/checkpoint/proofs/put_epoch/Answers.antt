@@ -2,7 +2,6 @@ use Prim.Native.Nat.{ℕ, suc, ◌+◌}
 use mathlib.Core.Path.{◌≡◌, refl, ap}
 use mathlib.Core.List.{[], ◌∷◌}
 use native.Mathlib.Omega.{arith}
-use borrow.Author.Rules.{rules}
 use Rattle.model.specs.Layout.{epoch_at}
 use Rattle.model.specs.Container.{committed_epoch}
 use Rattle.model.specs.Ops.{for_domain, store}

@@ -4,16 +4,13 @@ use mathlib.Core.List.{List, []}
 use native.Mathlib.Omega.{arith}
 use lib.Bits.{and_le_r}
 use lib.Count.{count_trailing_zeros, trailing_le}
-use lib.ListN.{length, get_or}
 use borrow.Author.Rules.{rules}
 use Rattle.model.specs.declared.Layout.{Layout}
-use Rattle.model.specs.Range.{cat}
 use Rattle.model.specs.Layout.{block_size, block_lines, main_at}
 use Rattle.model.specs.Session.{bit}
-use Rattle.model.specs.Ops.{Ops, clwbs, each_dirty}
+use Rattle.model.specs.Ops.{clwbs, each_dirty}
 use Rattle.model.specs.Checkpoint.{flush_dirty}
-use Rattle.words.proofs.WalkLaws.{Walk, walk_start, walk_below, walk_turns}
-use Rattle.trace.specs.Emit.{Emitted}
+use Rattle.words.proofs.WalkLaws.{walk_start, walk_below, walk_turns}
 use Rattle.trace.proofs.EmitLaws.{emitted_none}
 use Rattle.trace.proofs.WalkLaws.{walk_ends, walk_fits, walk_emits}
 use Rattle.segments.proofs.DirtyLaws.{none_dirty}

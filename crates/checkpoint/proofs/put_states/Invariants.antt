@@ -1,16 +1,12 @@
-use Rattle.checkpoint.proofs.StateLaws.{states_written}
-use Rattle.trace.proofs.EmitLaws.{fits_as, fits_first, fits_then, fits_each, emitted_as, emitted_none, emitted_each, emitted_then, fits_plain, emitted_plain}
 use Rattle.trace.specs.Emit.{Emitted}
 use Rattle.model.specs.Checkpoint.{next_states}
-use Rattle.model.specs.Ops.{for_domain, stores}
+use Rattle.model.specs.Ops.{stores}
 use Rattle.model.specs.Container.{seg_state}
 use Rattle.model.specs.Layout.{word_size, line_words}
 use Rattle.model.specs.Words.{Image, word_of}
 use lib.ListN.{length}
-use native.Mathlib.Omega.{arith}
-use mathlib.Core.Path.{◌≡◌, refl, sym}
+use mathlib.Core.Path.{◌≡◌}
 use Prim.Native.Nat.{ℕ, ◌-◌, ◌*◌, ◌≤◌}
-use borrow.Author.Rules.{rules}
 use Rattle.checkpoint.proofs.put_states.Given as goal
 
 -- word k of the next states

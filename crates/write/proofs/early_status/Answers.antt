@@ -2,8 +2,7 @@ use mathlib.Core.Path.{sym, ◌∙◌}
 use mathlib.Core.Bool.{false≢true}
 use mathlib.Core.List.{◌++◌}
 use native.Mathlib.Omega.{arith}
-use borrow.Author.Tests.{leb-false, eqb-true, not-true, not-false}
-use borrow.Author.Rules.{rules}
+use borrow.Author.Tests.{leb-false, eqb-true}
 use Rattle.model.specs.Container.{main_errors, block_errors}
 use Rattle.model.specs.Session.{context_errors}
 use Rattle.model.specs.Clients.{client_errors}

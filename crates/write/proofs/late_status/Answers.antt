@@ -1,8 +1,7 @@
 use mathlib.Core.Path.{sym, ap, ◌∙◌}
 use mathlib.Core.Bool.{false≢true}
 use native.Mathlib.Omega.{arith}
-use borrow.Author.Tests.{eqb-true, not-true, not-false}
-use borrow.Author.Rules.{rules}
+use borrow.Author.Tests.{eqb-true}
 use Rattle.model.specs.Status.{first_error}
 use Rattle.model.specs.Container.{active_state, backup_to_main, free_backups}
 use Rattle.model.specs.Clients.{share_errors}

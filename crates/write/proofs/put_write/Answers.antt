@@ -1,4 +1,3 @@
-use borrow.Author.Rules.{rules}
 use Rattle.model.proofs.Laws.Domain.{domain_stores}
 use Rattle.trace.proofs.EmitLaws.{emitted_then, emitted_plain, fits_first, fits_then, fits_plain}
 use Rattle.write.proofs.put_write.Goals as goal

@@ -2,8 +2,7 @@ use Prim.Native.Nat.{suc, ◌+◌, ◌^◌, ◌≤◌}
 use mathlib.Core.Path.{refl, sym, ap, ◌∙◌}
 use mathlib.Core.Bool.{Bool, cond, true≢false, false≢true}
 use native.Mathlib.Omega.{arith}
-use borrow.Author.Tests.{not-true, not-false, eqb-true}
-use borrow.Author.Rules.{rules}
+use borrow.Author.Tests.{eqb-true}
 use Rattle.model.specs.declared.Status.{Status}
 use Rattle.model.specs.Status.{code_of, served}
 use Rattle.model.specs.Clients.{client_at}
