@@ -5,12 +5,12 @@ use mathlib.Core.Path.{◌≡◌, refl, sym, ap, ap₂, ◌∙◌}
 use mathlib.Core.Bool.{Bool, true, false, cond, ◌||◌}
 use mathlib.Core.List.{[], ◌∷◌, ◌++◌, map, append-nil}
 use native.Mathlib.Omega.{arith}
-use native.Mathlib.Decide.{dec_lt, dec_le, ℕ_discrete}
+use native.Mathlib.Decide.{dec_lt, ℕ_discrete}
 use native.Mathlib.Numerals.{add-one}
-use lib.Dec.{leb, ltb, eqb}
+use lib.Dec.{ltb, eqb}
 use lib.ListN.{length, set, length-set, length-replicate, get_or-replicate, get_or-eq_default}
 use lib.Seq.{get_or-set_same, get_or-set_other, set-get_or, set_out, take-length, drop-length}
-use borrow.Author.Tests.{lt-ltb, le-ltb, le-leb, lt-leb, eq-eqb, ne_eqb}
+use borrow.Author.Tests.{lt-ltb, le-ltb, le-leb, lt-leb}
 use Rattle.model.specs.declared.Layout.{Layout}
 use Rattle.model.specs.declared.Client.{Client}
 use Rattle.model.specs.Range.{any_b, sum_to}
@@ -126,14 +126,6 @@ module _ (l : Layout) (run : Run) (R : Clients) (e : run ≡ loaded R) where
         rw (le-ltb most_clients (length R) (omega arith), x) (le-ltb l.backups (reserved_total R) (omega arith))
 
 -- ---- refusals 14 and 15
-
--- what is counted down to nothing was not more
-pub counted_down : (n s : ℕ) → eqb (n - s) 0 ≡ leb n s
-counted_down n s =
-    elim (dec_le n s) [
-      | yes l ↦ eq-eqb (n - s) 0 (omega arith) ∙ sym (le-leb n s l)
-      | no l ↦ ne_eqb (n - s) 0 (λ e. l (omega arith)) ∙ sym (lt-leb n s (omega arith))
-    ]
 
 -- what the others have unused
 pub unused_others : (run : Run) (R : Clients) → run ≡ loaded R → run.count ≤ most_clients → (k : ℕ)

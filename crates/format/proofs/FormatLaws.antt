@@ -2,10 +2,9 @@
 use Prim.Native.Nat.{ℕ, ◌+◌, ◌*◌}
 use mathlib.Core.Path.{◌≡◌, refl}
 use mathlib.Core.Logic.{◌≢◌}
-use mathlib.Core.List.{◌++◌, append-nil}
+use mathlib.Core.List.{◌++◌}
 use native.Mathlib.Omega.{arith}
 use lib.ListN.{length, take, drop, replicate, replicate-append-replicate}
-use lib.Seq.{drop-length}
 use borrow.Author.Tests.{eqb-true, ne_eqb, not-false}
 use Rattle.model.specs.declared.Layout.{Layout}
 use Rattle.model.specs.Words.{Image, bytes_of, store_word}
@@ -16,9 +15,6 @@ use Rattle.model.specs.Format.{container, formatted, format_outcome}
 use Rattle.model.proofs.Laws.Status.{served_condition}
 
 -- ---- filling
-
-pub filled : (n v : ℕ) (d : Image) → n ≡ length d → replicate n v ++ drop n d ≡ replicate (length d) v
-filled n v d e = rw (e, drop-length d) (append-nil _)
 
 -- the steps of format: zeros, the three sizes, and P in the place of the 64 pair bytes
 pub steps_format : (l : Layout) (I₀ : Image) {I₁ I₂ I₃ I₄ P : Image} → length I₀ ≡ image_size l → I₁ ≡ replicate (length I₀) 0

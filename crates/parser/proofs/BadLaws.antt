@@ -1,24 +1,16 @@
 -- Laws of the first bad line, a line at a time.
-use Prim.Native.Nat.{ℕ, suc, ◌+◌, ◌≤◌}
+use Prim.Native.Nat.{ℕ, suc, ◌+◌}
 use mathlib.Core.Path.{◌≡◌, refl}
 use mathlib.Core.Logic.{◌≢◌}
-use mathlib.Core.Bool.{Bool, true, false, not, cond, ◌&&◌}
+use mathlib.Core.Bool.{Bool, true, false, cond}
 use mathlib.Core.List.{List, [], ◌∷◌}
 use native.Mathlib.Omega.{arith}
 use native.Mathlib.Numerals.{add-one}
 use lib.Dec.{eqb}
 use borrow.Author.Tests.{ne_eqb, eqb-true}
 use Rattle.text.specs.Text.{Line}
-use Rattle.lines.specs.Line.{named, good_line}
+use Rattle.lines.specs.Line.{good_line}
 use Rattle.parser.specs.Script.{key_for, following, first_bad}
-
-pub key_for-most : (k : ℕ) (l : Line) → k ≤ 7 → key_for k l ≤ 7
-key_for-most k l h = go (eqb k 1) (named 1 l)
-  where
-    go : (a b : Bool) → cond (a && not b) 2 k ≤ 7
-    go true true = h
-    go true false = omega arith
-    go false b = h
 
 -- the lines end
 pub bad_end : (k n : ℕ) (ls : List Line) → ls ≡ [] → k ≢ 3 → n + 1 ≡ first_bad k n ls

@@ -1,9 +1,9 @@
 -- Laws of places and sizes: how far a segment and an image reach, and what refusals 1 and 2 leave.
-use Prim.Native.Nat.{ℕ, suc, ◌+◌, ◌*◌, ◌≤◌, ◌<◌}
+use Prim.Native.Nat.{ℕ, ◌+◌, ◌*◌, ◌≤◌}
 use mathlib.Core.Path.{◌≡◌}
 use mathlib.Core.List.{◌++◌}
 use native.Mathlib.Omega.{arith}
-use native.Mathlib.Nat.{mul-le-mul, suc-mul}
+use native.Mathlib.Nat.{mul-le-mul}
 use lib.ListN.{length}
 use borrow.Author.Tests.{eqb-true, not-false}
 use Rattle.model.specs.declared.Layout.{Layout}
@@ -13,10 +13,6 @@ use Rattle.model.specs.Status.{Errors, first_error}
 use Rattle.model.specs.Container.{size_errors}
 use Rattle.model.proofs.Laws.Status.{served_parts, served_condition}
 use Rattle.model.proofs.Laws.Container.{sizes_ok_lem}
-
--- a segment ends, and an image ends, inside the largest image
-pub segment_bound : (k blocks : ℕ) → k < 128 → blocks ≤ 64 → 512 + 256 * (k * blocks) + 256 * blocks ≤ 2097664
-segment_bound k blocks h b = omega (arith, suc-mul k blocks, mul-le-mul {n₁ = suc k} {m₁ = blocks} {n₂ = 128} {m₂ = 64} h b)
 
 pub image_bound : (blocks segments : ℕ) → blocks ≤ 64 → segments ≤ 128 → 512 + 256 * blocks * segments ≤ 2097664
 image_bound blocks segments b h =

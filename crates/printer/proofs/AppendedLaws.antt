@@ -1,10 +1,10 @@
 -- Laws of texts appended to a buffer.
-use Prim.Native.Nat.{ℕ, ◌+◌, ◌≤◌}
+use Prim.Native.Nat.{ℕ}
 use mathlib.Core.Path.{◌≡◌, refl, sym, ap, ap₂, ◌∙◌}
 use mathlib.Core.List.{List, [], ◌++◌, append_assoc, append-nil}
 use native.Mathlib.Omega.{arith}
 use lib.ListN.{length, take, drop, length-append, length-take, take-append-drop}
-use lib.Seq.{paste, take-paste, take_all, length-paste, drop-drop, drop-paste}
+use lib.Seq.{drop-drop}
 use Rattle.io.specs.Counts.{IsPrefixLen}
 use Rattle.printer.specs.Decimal.{decimal, Appended}
 
@@ -37,12 +37,3 @@ pub appended_first : {a t b : List ℕ} {q : ℕ} → Appended a 0 t b q → IsP
 appended_first {a} {t} {b} {q} f =
     let size : q ≡ length (take q b) = f.place ∙ omega (arith, ap length f.holds) in
     ((omega (arith, size, length-take q b), size), (f.place ∙ omega arith, sym (take-append-drop q b) ∙ ap₂ ◌++◌ f.holds f.rest))
-
--- a text pasted behind the place p
-pub appended_paste : (a t b : List ℕ) (p : ℕ) → p + length t ≤ length a → b ≡ paste a p t (length t) → Appended a p t b (p + length t)
-appended_paste a t b p h e = record {
-  place = refl;
-  size = ap (λ (x : List ℕ). length x) e ∙ length-paste a p t (length t) h (omega arith);
-  holds = ap (λ (x : List ℕ). take (p + length t) x) e ∙ take-paste a p t (length t) (omega arith) (omega arith) ∙ ap (λ (x : List ℕ). take p a ++ x) (take_all (length t) t (omega arith));
-  rest = ap (λ (x : List ℕ). drop (p + length t) x) e ∙ drop-paste a p t (length t) (omega arith) (omega arith);
-}

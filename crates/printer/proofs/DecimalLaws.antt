@@ -5,10 +5,8 @@ use mathlib.Core.Bool.{Bool, cond}
 use mathlib.Core.List.{List, [], ◌∷◌, ◌++◌}
 use native.Mathlib.Omega.{arith}
 use native.Mathlib.Nat.{pow-suc, pow-le-pow_right}
-use native.Mathlib.Decide.{dec_lt, dec_le}
+use native.Mathlib.Decide.{dec_le}
 use borrow.Author.Tests.{lt-ltb, le-ltb}
-use lib.Dec.{ltb}
-use lib.ListN.{length, length-append}
 use Rattle.io.specs.Digits.{last_digits, hex_digit_ascii, IsDigitCount}
 use Rattle.printer.specs.Decimal.{number_size, decimal_in, decimal}
 
@@ -43,17 +41,3 @@ unfolding decimal
 digits_decimal n zero f h = absurd (omega (arith, f.0))
 digits_decimal n (suc r) f h =
     digits_in_lem 20 r n (omega (arith, fewest_most n (suc r) f h)) f.1 (λ z. let e : suc r - 1 ≡ r = omega arith in rw e at (f.2 (omega arith)))
-
--- no text of a number has more than twenty digits
-length-decimal_in : (k n : ℕ) → length (decimal_in k n) ≤ k
-unfolding decimal_in
-length-decimal_in zero n = omega arith
-length-decimal_in (suc k) n = go (length-decimal_in k (n / 10)) (dec_lt n 10)
-  where
-    go : length (decimal_in k (n / 10)) ≤ k → Dec (n < 10) → length (cond (ltb n 10) ((48 + n) ∷ []) (decimal_in k (n / 10) ++ (48 + n % 10) ∷ [])) ≤ suc k
-    go m (yes q) = rw (lt-ltb n 10 q) (omega arith)
-    go m (no q) = rw (le-ltb n 10 (omega arith)) (omega (arith, length-append (decimal_in k (n / 10)) ((48 + n % 10) ∷ [])))
-
-pub length-decimal : (n : ℕ) → length (decimal n) ≤ number_size
-unfolding decimal
-length-decimal n = length-decimal_in number_size n

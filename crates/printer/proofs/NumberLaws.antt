@@ -1,14 +1,11 @@
 -- Laws of numbers as text, in any base: the fewest digits of a number are its text, and it has no more than there is room for.
 use Prim.Native.Nat.{ℕ, zero, suc, ◌-◌, ◌*◌, ◌/◌, ◌%◌, ◌^◌, ◌≤◌, ◌<◌}
 use mathlib.Core.Path.{◌≡◌, ap, ◌∙◌}
-use mathlib.Core.Bool.{cond}
 use mathlib.Core.List.{List, [], ◌∷◌, ◌++◌}
 use native.Mathlib.Omega.{arith}
 use native.Mathlib.Nat.{one-mul, pow-suc, pow-zero, pow-le-pow_right, mod-eq_of_lt, div-lt_iff_lt-mul, le-div_iff_mul-le}
-use native.Mathlib.Decide.{dec_lt, dec_le}
+use native.Mathlib.Decide.{dec_le}
 use borrow.Author.Tests.{lt-ltb, le-ltb}
-use lib.Dec.{ltb}
-use lib.ListN.{length, length-append}
 use Rattle.io.specs.Digits.{last_digits, hex_digit_ascii, IsDigitCount}
 use Rattle.printer.specs.Numbers.{hex_size, digits_in, hexadecimal}
 
@@ -43,25 +40,8 @@ module _ (b : ℕ) (base : 1 < b) where
   fewest_digits k n (suc r) o f h =
       digits_in_lem k r n (omega (arith, fewest_most k n (suc r) o f h)) f.1 (λ z. let e : suc r - 1 ≡ r = omega arith in rw e at (f.2 (omega arith)))
 
--- no text of a number has more digits than asked for
-length-digits_in : (b k n : ℕ) → length (digits_in b k n) ≤ k
-unfolding digits_in
-length-digits_in b zero n = omega arith
-length-digits_in b (suc k) n = go (length-digits_in b k (n / b)) (dec_lt n b)
-  where
-    go : length (digits_in b k (n / b)) ≤ k → Dec (n < b) → length (cond (ltb n b) (hex_digit_ascii n ∷ []) (digits_in b k (n / b) ++ hex_digit_ascii (n % b) ∷ [])) ≤ suc k
-    go m (yes q) = rw (lt-ltb n b q) (omega arith)
-    go m (no q) = rw (le-ltb n b (omega arith)) (omega (arith, length-append (digits_in b k (n / b)) (hex_digit_ascii (n % b) ∷ [])))
-
 -- ---- hexadecimal numbers of 64 bits
-
-pub hexadecimal_fits : (n r : ℕ) → IsDigitCount 16 1 n r → n < 2 ^ 64 → r ≤ hex_size
-hexadecimal_fits n r f h = fewest_most 16 (omega arith) hex_size n r (omega arith) f (omega arith)
 
 pub digits_hexadecimal : (n r : ℕ) → IsDigitCount 16 1 n r → n < 2 ^ 64 → last_digits 16 r n ≡ hexadecimal n
 unfolding hexadecimal
 digits_hexadecimal n r f h = fewest_digits 16 (omega arith) hex_size n r (omega arith) f (omega arith)
-
-pub length-hexadecimal : (n : ℕ) → length (hexadecimal n) ≤ hex_size
-unfolding hexadecimal
-length-hexadecimal n = length-digits_in 16 hex_size n

@@ -7,7 +7,7 @@ use mathlib.Core.List.{List, [], ◌∷◌, ◌++◌}
 use native.Mathlib.Omega.{arith}
 use native.Mathlib.Decide.{dec_lt}
 use native.Mathlib.Nat.{zero-add}
-use native.Mathlib.Numerals.{add-one, add-two}
+use native.Mathlib.Numerals.{add-one}
 use lib.ListN.{length, set, drop, length-append}
 use lib.Seq.{sets, sets-eq, length-sets}
 use Rattle.model.specs.Range.{cat}
@@ -19,10 +19,6 @@ use Rattle.model.proofs.Laws.Counts.{count_append}
 use Rattle.trace.specs.Emit.{emit, Fits, Emitted}
 
 -- ---- the trace alone
-
--- three numbers, one after the other
-pub three_set : (t : Trace) (i k p w : ℕ) → set (set (set t i k) (i + 1) p) (i + 2) w ≡ sets t i (k ∷ p ∷ w ∷ [])
-three_set t i k p w = simp (add-one, add-two)
 
 emit_nil : (t : Trace) (n : ℕ) → emit t n [] ≡ t
 unfolding emit encode

@@ -108,10 +108,6 @@ present_of w = bit_and (bit_or (bit_and w each_low + each_low) w / 128) each_one
 abbrev present_byte : ℕ → ℕ
 present_byte b = bit_or (bit_and b 127 + 127) b / 128
 
--- the sum is a word
-pub no_carry : (w : ℕ) → bit_and w each_low + each_low < 2 ^ 64
-no_carry w = omega (arith, and_le_r w each_low)
-
 present_bytes : (f : ℕ → ℕ) → Small 8 f 0 → present_of (word_of f 0) ≡ word_of (λ k. present_byte (f k)) 0
 unfolding word_of
 present_bytes f h = rw (
