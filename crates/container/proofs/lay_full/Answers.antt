@@ -1,12 +1,9 @@
-use Rattle.std.proofs.Common.{◌≡◌, ℕ, ◌+◌, ◌-◌, ◌*◌, ◌%◌, ◌^◌, ap, ◌∙◌, arith, rules}
+use Rattle.std.proofs.Common.{◌≡◌, ℕ, ◌+◌, ◌-◌, ◌*◌, ◌%◌, ◌^◌, ap, ◌∙◌, arith}
 use lib.Bits.{bit_or}
-use Rattle.container.specs.Scan.{lay_pair, lay_bytes}
+use Rattle.container.specs.Scan.{lay_pair}
 use Rattle.container.proofs.PairLaws.{lay_more, lay_done, lay_low, low_first}
 use Rattle.container.proofs.lay_full.Invariants.{with-set}
 use Rattle.container.proofs.lay_full.Goals as goal
-
-pub loop-t-init : goal.loop-t-init
-loop-t-init c = (omega arith, search rules, ap (λ (n : ℕ). lay_bytes 8 (record { set = c.args.before.set; count = n }) c.args.word) (omega arith))
 
 pub loop-t-preserved : goal.loop-t-preserved
 loop-t-preserved c =

@@ -20,12 +20,6 @@ as_number false = refl
 pub loop-i-init : goal.loop-i-init
 loop-i-init c = (search rules, sum_none _, search rules)
 
-pub overflow_add-sum-in-loop-i : goal.overflow_add-sum-in-loop-i
-overflow_add-sum-in-loop-i c =
-    let g = c.args in
-    let b : Bool = eqb (get_or g.image.now (g.line + c.loop-i.i) 0) 2 in
-    omega (arith, as_number b, one-most b)
-
 pub loop-i-preserved : goal.loop-i-preserved
 loop-i-preserved c =
     let g = c.args in
