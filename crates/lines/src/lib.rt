@@ -161,6 +161,7 @@ fn good_value(k: u64, value: &[u8]) -> bool
 }
 
 // Whether a line is a good one for key k: the key, a good value, byte 10.
+#[tactic(auto, using(crate::proofs::LineLaws::line_unended))]
 pub fn good_line(k: u64, line: &[u8]) -> bool
     requires { k ≤ checkpoint_key }
     ensures { result ≡ good_line k line.now }

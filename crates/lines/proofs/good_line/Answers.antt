@@ -2,14 +2,11 @@ use Prim.Native.Nat.{◌-◌}
 use mathlib.Core.Path.{◌≡◌}
 use native.Mathlib.Omega.{arith}
 use lib.ListN.{length, get_or}
-use Rattle.lines.proofs.LineLaws.{line_empty, line_unended, line_unnamed, line_named}
+use Rattle.lines.proofs.LineLaws.{line_empty, line_unnamed, line_named}
 use Rattle.lines.proofs.good_line.Goals as goal
 
 pub returns-then-line-eq0 : goal.returns-then-line-eq0
 returns-then-line-eq0 c = line_empty _ _ c.if-line-eq0.true
-
-pub returns-then-last-ne-LINE_END : goal.returns-then-last-ne-LINE_END
-returns-then-last-ne-LINE_END c = line_unended _ c.args.line.now (omega (arith, c.if-last-ne-LINE_END.true))
 
 pub returns-then-not-is_named : goal.returns-then-not-is_named
 returns-then-not-is_named c = line_unnamed _ _ c.is_named.ensures c.if-not-is_named.true
@@ -17,6 +14,6 @@ returns-then-not-is_named c = line_unnamed _ _ c.is_named.ensures c.if-not-is_na
 pub returns : goal.returns
 returns c =
     let l = c.args.line.now in
-    let e : get_or l (length l - 1) 0 ≡ 10 = omega (arith, c.if-last-ne-LINE_END.false) in
+    let e : get_or l (length l - 1) 0 ≡ 10 = omega arith in
     line_named _ l _ e c.is_named.ensures c.if-not-is_named.false c.value_of.ensures
     c.good_value.ensures
