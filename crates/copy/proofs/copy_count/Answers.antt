@@ -2,7 +2,6 @@ use Prim.Native.Nat.{ℕ, ◌+◌, ◌*◌, ◌≤◌}
 use mathlib.Core.Path.{◌≡◌, refl, sym, ap, ◌∙◌}
 use native.Mathlib.Omega.{arith}
 use native.Mathlib.Nat.{mul-le-mul}
-use borrow.Author.Rules.{rules}
 use Rattle.model.specs.Counts.{copied_ops}
 use Rattle.model.proofs.Laws.Counts.{dirty_ones}
 use Rattle.model.proofs.Laws.Counts.Write.{copy_count, count_copy}
@@ -15,20 +14,6 @@ few ops blocks h k = mul-le-mul {n₂ = 36} {m₂ = 64} h k
 -- three counts, each as the code found it
 counts : {a b f x y z : ℕ} (k : ℕ) → a ≡ x → b ≡ y → f ≡ z → a * b + (k + f) ≡ x * y + (k + z)
 counts k p q r = rw (p, q, r)
-
-pub overflow_mul-result : goal.overflow_mul-result
-overflow_mul-result c = omega (arith, few _ _ c.copied_ops-block.ensures.1 c.dirty_count.ensures.1)
-
-pub overflow_add-result-in-OwnBackup : goal.overflow_add-result-in-OwnBackup
-overflow_add-result-in-OwnBackup c = omega (arith, few _ _ c.copied_ops-block.ensures.1 c.dirty_count.ensures.1)
-
-pub overflow_mul-result-in-NewBackup : goal.overflow_mul-result-in-NewBackup
-overflow_mul-result-in-NewBackup c =
-    omega (arith, few _ c.args.segment.layout.blocks c.copied_ops-block.ensures.1 (omega arith))
-
-pub overflow_add-result-in-NewBackup-3 : goal.overflow_add-result-in-NewBackup-3
-overflow_add-result-in-NewBackup-3 c =
-    omega (arith, few _ c.args.segment.layout.blocks c.copied_ops-block.ensures.1 (omega arith))
 
 pub returns-in-NoCopy : goal.returns-in-NoCopy
 returns-in-NoCopy c =

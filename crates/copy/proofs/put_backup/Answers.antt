@@ -1,52 +1,38 @@
 use Prim.Native.Nat.{◌<◌}
 use mathlib.Core.Path.{sym, ap, subst}
-use native.Mathlib.Omega.{arith}
-use borrow.Author.Rules.{rules}
 use Rattle.model.specs.Write.{backup_ops}
-use Rattle.trace.proofs.EmitLaws.{emitted_length, emitted_nil, emitted_as, emitted_then, fits_as, fits_first, fits_then}
+use Rattle.trace.proofs.EmitLaws.{emitted_nil, emitted_as, emitted_then, fits_as, fits_first, fits_then}
 use Rattle.copy.specs.Steps.{CopiesTo}
 use Rattle.copy.proofs.CopyLaws.{own_ops, new_ops_lem}
 use Rattle.copy.proofs.put_backup.Goals as goal
 
-pub backup_at-to-requires : goal.backup_at-to-requires
-backup_at-to-requires c =
-    let g = c.in-OwnBackup in
-    let h : g.j < c.args.segment.layout.backups = subst (CopiesTo c.args.segment.layout) g.is c.requires.copies_to in
-    omega arith
-
-pub put_dirty_copies-requires : goal.put_dirty_copies-requires
-put_dirty_copies-requires c =
+pub put_dirty_copies-requires-clause-fits : goal.put_dirty_copies-requires-clause-fits
+put_dirty_copies-requires-clause-fits c =
     let a = c.args in
     let g = c.in-OwnBackup in
     let from = c.main_at-from.ensures in
     let to = c.backup_at-to.ensures in
     let ops = own_ops a.segment.layout a.image.now a.segment.word a.segment.main _ _ g.j a.plan from.0 to.0 g.is in
-    record { blocks_le_most = (omega arith, c.requires.writable.1); blocks_in_bounds = omega arith; blocks_bound = omega arith; fits = fits_as (sym ops) c.requires.fits }
+    fits_as (sym ops) c.requires.fits
 
-pub backup_at-to-requires-in-NewBackup : goal.backup_at-to-requires-in-NewBackup
-backup_at-to-requires-in-NewBackup c =
-    let g = c.in-NewBackup in
-    let h : g.j < c.args.segment.layout.backups = subst (CopiesTo c.args.segment.layout) g.is c.requires.copies_to in
-    omega arith
-
-pub put_pair-next-requires : goal.put_pair-next-requires
-put_pair-next-requires c =
+pub put_pair-next-requires-clause-fits : goal.put_pair-next-requires-clause-fits
+put_pair-next-requires-clause-fits c =
     let a = c.args in
     let g = c.in-NewBackup in
     let h : g.j < a.segment.layout.backups = subst (CopiesTo a.segment.layout) g.is c.requires.copies_to in
     let from = c.main_at-from.ensures in
     let to = c.backup_at-to-in-NewBackup.ensures in
     let ops = new_ops_lem a.segment.layout a.image.now a.segment.word a.segment.main _ _ g.j a.plan from.0 to.0 g.is in
-    record { main_lt_most = omega arith; fits = fits_first _ (fits_as (sym ops) c.requires.fits) }
+    fits_first _ (fits_as (sym ops) c.requires.fits)
 
-pub put_segment_copy-requires : goal.put_segment_copy-requires
-put_segment_copy-requires c =
+pub put_segment_copy-requires-clause-fits : goal.put_segment_copy-requires-clause-fits
+put_segment_copy-requires-clause-fits c =
     let a = c.args in
     let g = c.in-NewBackup in
     let from = c.main_at-from.ensures in
     let to = c.backup_at-to-in-NewBackup.ensures in
     let ops = new_ops_lem a.segment.layout a.image.now a.segment.word a.segment.main _ _ g.j a.plan from.0 to.0 g.is in
-    record { layout_in_bounds = omega arith; layout_bound = omega arith; fits = fits_then (fits_as (sym ops) c.requires.fits) c.put_pair-next.ensures }
+    fits_then (fits_as (sym ops) c.requires.fits) c.put_pair-next.ensures
 
 pub returns-in-NoCopy : goal.returns-in-NoCopy
 unfolding backup_ops

@@ -1,7 +1,4 @@
 use mathlib.Core.Path.{refl, sym, ◌∙◌}
-use native.Mathlib.Omega.{arith}
-use borrow.Author.Tests.{not-true, not-false}
-use borrow.Author.Rules.{rules}
 use Rattle.model.specs.Write.{copy_on_write_ops}
 use Rattle.trace.proofs.EmitLaws.{emitted_as, emitted_then, emitted_unless, fits_as, fits_first, fits_then}
 use Rattle.copy.proofs.CopyLaws.{copy_ops_lem}
@@ -11,17 +8,17 @@ pub returns-then-not-has_copy : goal.returns-then-not-has_copy
 unfolding copy_on_write_ops
 returns-then-not-has_copy c = emitted_unless _ _ (sym c.has_copy.ensures ∙ c.if-not-has_copy.true) refl refl
 
-pub put_backup-next-requires : goal.put_backup-next-requires
-put_backup-next-requires c =
+pub put_backup-next-requires-clause-fits : goal.put_backup-next-requires-clause-fits
+put_backup-next-requires-clause-fits c =
     let a = c.args in
     let ops = copy_ops_lem a.segment.layout a.image.now a.segment.word a.segment.main a.plan (sym c.has_copy.ensures ∙ c.if-not-has_copy.false) in
-    record { writable = c.requires.writable; copies_to = c.requires.copies_to; fits = fits_first _ (fits_as (sym ops) c.requires.fits) }
+    fits_first _ (fits_as (sym ops) c.requires.fits)
 
-pub put_state-requires : goal.put_state-requires
-put_state-requires c =
+pub put_state-requires-clause-fits : goal.put_state-requires-clause-fits
+put_state-requires-clause-fits c =
     let a = c.args in
     let ops = copy_ops_lem a.segment.layout a.image.now a.segment.word a.segment.main a.plan (sym c.has_copy.ensures ∙ c.if-not-has_copy.false) in
-    record { main_lt_most = omega (arith, c.requires.writable.0); fits = fits_then (fits_as (sym ops) c.requires.fits) c.put_backup-next.ensures }
+    fits_then (fits_as (sym ops) c.requires.fits) c.put_backup-next.ensures
 
 pub returns : goal.returns
 returns c =

@@ -1,14 +1,12 @@
 use mathlib.Core.Path.{refl}
-use native.Mathlib.Omega.{arith}
-use borrow.Author.Rules.{rules}
 use Rattle.model.specs.Ops.{for_domain}
 use Rattle.model.specs.Write.{pair_ops}
 use Rattle.trace.proofs.EmitLaws.{fits_first, fits_then, fits_plain, emitted_then, emitted_plain}
 use Rattle.copy.proofs.put_pair.Goals as goal
 
-pub put_byte-next-requires : goal.put_byte-next-requires
+pub put_byte-next-requires-clause-fits : goal.put_byte-next-requires-clause-fits
 unfolding pair_ops for_domain
-put_byte-next-requires c = record { word_size_in_bounds = omega arith; fits = fits_plain refl (fits_first _ c.requires.fits) }
+put_byte-next-requires-clause-fits c = fits_plain refl (fits_first _ c.requires.fits)
 
 pub put_clwb-requires : goal.put_clwb-requires
 unfolding pair_ops for_domain

@@ -3,7 +3,6 @@ use mathlib.Core.Path.{◌≡◌, refl}
 use mathlib.Core.List.{[], ◌∷◌, ◌++◌}
 use native.Mathlib.Omega.{arith}
 use lib.ListN.{length}
-use borrow.Author.Rules.{rules}
 use Rattle.model.specs.Words.{Image}
 use Rattle.model.specs.Container.{active_line}
 use Rattle.model.specs.Session.{adr}
@@ -26,11 +25,11 @@ put_sfence-store-requires c =
     let a = c.args in
     record { room = omega (arith, count-state a.domain a.image.now a.main) }
 
-pub put_byte-clwb-requires : goal.put_byte-clwb-requires
+pub put_byte-clwb-requires-clause-fits : goal.put_byte-clwb-requires-clause-fits
 unfolding for_domain
-put_byte-clwb-requires c =
+put_byte-clwb-requires-clause-fits c =
     let a = c.args in
-    record { word_size_in_bounds = omega arith; fits = record { room = omega (arith, count-state a.domain a.image.now a.main, emitted_length c.put_sfence-store.ensures) } }
+    record { room = omega (arith, count-state a.domain a.image.now a.main, emitted_length c.put_sfence-store.ensures) }
 
 pub put_clwb-fence-requires : goal.put_clwb-fence-requires
 unfolding for_domain

@@ -1,6 +1,5 @@
 use mathlib.Core.Path.{◌∙◌, sym}
 use native.Mathlib.Omega.{arith}
-use borrow.Author.Rules.{rules}
 use Rattle.model.specs.Container.{backup_to_main}
 use Rattle.model.proofs.Laws.Container.{paired_at}
 use Rattle.metadata.proofs.FindLaws.{found_backup, found_missing}

@@ -1,4 +1,4 @@
-use Prim.Native.Nat.{ℕ, ◌-◌, ◌≤◌}
+use Prim.Native.Nat.{ℕ}
 use mathlib.Core.Path.{◌≡◌, ap, ◌∙◌}
 use native.Mathlib.Omega.{arith}
 use borrow.Author.Rules.{rules}
@@ -6,7 +6,6 @@ use Rattle.model.specs.declared.Layout.{Layout}
 use Rattle.model.specs.Words.{Image}
 use Rattle.model.specs.Container.{seg_state, backup_to_main, is_paired}
 use Rattle.model.specs.Open.{recovery_action}
-use Rattle.model.specs.Range.{sum_to}
 use Rattle.model.specs.Counts.{acts, treated}
 use Rattle.model.proofs.Laws.Range.{sum_none, sum_more}
 use Rattle.open.proofs.count_treated.Goals as goal
@@ -17,9 +16,6 @@ turn layout image line i = acts (recovery_action (seg_state image line i) (is_pa
 
 pub loop-i-init : goal.loop-i-init
 loop-i-init c = (search rules, sum_none _, search rules)
-
-pub segment_action-requires : goal.segment_action-requires
-segment_action-requires c = (omega arith, c.requires.0, c.requires.1)
 
 pub loop-i-preserved : goal.loop-i-preserved
 loop-i-preserved c =

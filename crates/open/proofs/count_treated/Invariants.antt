@@ -1,14 +1,9 @@
-use Prim.Native.Nat.{ℕ, ◌-◌, ◌≤◌}
-use mathlib.Core.Path.{◌≡◌, ap, ◌∙◌}
-use native.Mathlib.Omega.{arith}
-use borrow.Author.Rules.{rules}
-use Rattle.model.specs.declared.Layout.{Layout}
-use Rattle.model.specs.Words.{Image}
+use Prim.Native.Nat.{◌-◌, ◌≤◌}
+use mathlib.Core.Path.{◌≡◌}
 use Rattle.model.specs.Container.{seg_state, backup_to_main, is_paired}
 use Rattle.model.specs.Open.{recovery_action}
 use Rattle.model.specs.Range.{sum_to}
-use Rattle.model.specs.Counts.{acts, treated}
-use Rattle.model.proofs.Laws.Range.{sum_none, sum_more}
+use Rattle.model.specs.Counts.{acts}
 use Rattle.open.proofs.count_treated.Given as goal
 
 abbrev pub invariant-loop-i : goal.invariant-loop-i

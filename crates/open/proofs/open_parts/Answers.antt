@@ -2,8 +2,7 @@ use mathlib.Core.Bool.{not}
 use mathlib.Core.List.{[], ◌∷◌}
 use mathlib.Core.Path.{sym, ◌∙◌}
 use native.Mathlib.Omega.{arith}
-use borrow.Author.Tests.{eqb-true, not-true, not-false}
-use borrow.Author.Rules.{rules}
+use borrow.Author.Tests.{eqb-true}
 use Rattle.model.specs.Container.{active_line, header_ok}
 use Rattle.model.specs.Outcome.{lent}
 use Rattle.model.specs.Open.{recovery_ops, open_status, open_outcome}

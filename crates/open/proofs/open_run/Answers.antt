@@ -1,7 +1,6 @@
 use Prim.Native.Nat.{ℕ}
 use mathlib.Core.Path.{sym, ap, ◌∙◌}
 use mathlib.Core.Bool.{Bool, cond}
-use borrow.Author.Rules.{rules}
 use Rattle.model.specs.Clients.{cleared}
 use Rattle.clients.specs.Run.{cleared_from}
 use Rattle.clients.proofs.RunLaws.{run_count, cleared_all, cleared_none}

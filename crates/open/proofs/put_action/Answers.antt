@@ -1,24 +1,19 @@
 use mathlib.Core.Path.{sym, ap, ap₂, ◌∙◌}
 use Prim.Native.Nat.{ℕ, ◌+◌}
 use native.Mathlib.Omega.{arith}
-use borrow.Author.Rules.{rules}
 use Rattle.model.specs.Ops.{copy_segment, zero_segment}
 use Rattle.model.specs.Open.{action_ops}
 use Rattle.model.proofs.Laws.Layout.{segment_in_image}
-use Rattle.trace.proofs.EmitLaws.{fits_as, emitted_as, emitted_nil, emitted_length}
+use Rattle.trace.proofs.EmitLaws.{fits_as, emitted_as, emitted_nil}
 use Rattle.open.specs.Recovery.{takes_backup}
 use Rattle.open.proofs.put_action.Goals as goal
 
-pub put_segment_zero-requires : goal.put_segment_zero-requires
+pub put_segment_zero-requires-clause-fits : goal.put_segment_zero-requires-clause-fits
 unfolding action_ops
-put_segment_zero-requires c =
+put_segment_zero-requires-clause-fits c =
     let g = c.args in
     let r = ap (action_ops g.layout g.image.now g.i g.j) c.in-ZeroMain.is ∙ ap (zero_segment g.layout) (sym c.main_at.ensures.0) in
-    record { layout_bound = omega arith; fits = fits_as r c.requires.fits }
-
-pub backup_at-to-requires : goal.backup_at-to-requires
-backup_at-to-requires c =
-    omega (arith, c.requires.i_lt_mains.1 (ap takes_backup c.in-CopyToBackup.is))
+    fits_as r c.requires.fits
 
 pub put_segment_copy-requires : goal.put_segment_copy-requires
 unfolding action_ops
@@ -27,10 +22,6 @@ put_segment_copy-requires c =
     let r = ap (action_ops g.layout g.image.now g.i g.j) c.in-CopyToBackup.is
     ∙ ap₂ (λ (x y : ℕ). copy_segment g.layout g.image.now x y) (sym c.main_at-from.ensures.0) (sym c.backup_at-to.ensures.0) in
     record { layout_in_bounds = omega (arith, segment_in_image g.layout g.i (omega arith)); layout_bound = omega arith; fits = fits_as r c.requires.fits }
-
-pub backup_at-from-requires : goal.backup_at-from-requires
-backup_at-from-requires c =
-    omega (arith, c.requires.i_lt_mains.1 (ap takes_backup c.in-CopyToMain.is))
 
 pub put_segment_copy-requires-in-CopyToMain : goal.put_segment_copy-requires-in-CopyToMain
 unfolding action_ops

@@ -1,25 +1,19 @@
-use Prim.Native.Nat.{◌-◌, ◌≤◌}
-use mathlib.Core.Path.{◌≡◌, refl, ◌∙◌}
+use mathlib.Core.Path.{◌≡◌, refl}
 use mathlib.Core.List.{[], ◌∷◌}
 use native.Mathlib.Omega.{arith}
 use borrow.Author.Rules.{rules}
-use Rattle.model.specs.Range.{cat}
 use Rattle.model.specs.Ops.{sfence, for_domain}
 use Rattle.model.specs.Open.{recover_segment, recovery_ops}
-use Rattle.trace.specs.Emit.{Emitted}
-use Rattle.trace.proofs.EmitLaws.{fits_first, fits_then, fits_each, emitted_none, emitted_each, emitted_then, emitted_length, fits_plain, emitted_plain}
+use Rattle.trace.proofs.EmitLaws.{fits_first, fits_then, fits_each, emitted_none, emitted_each, emitted_then, fits_plain, emitted_plain}
 use Rattle.open.proofs.put_recovery.Goals as goal
 
 pub loop-i-init : goal.loop-i-init
 loop-i-init c = (search rules, emitted_none _)
 
-pub put_segment-next-requires : goal.put_segment-next-requires
+pub put_segment-next-requires-clause-fits : goal.put_segment-next-requires-clause-fits
 unfolding recovery_ops
-put_segment-next-requires c =
-    let g = c.args in record {
-      i_lt_mains = (omega arith, c.requires.valid_by.0, c.requires.valid_by.1);
-      fits = fits_each c.loop-i.i g.layout.mains (recover_segment g.layout g.image.now g.line) (omega arith) (fits_first (sfence ∷ []) c.requires.fits) c.loop-i.invariant.1;
-    }
+put_segment-next-requires-clause-fits c =
+    let g = c.args in fits_each c.loop-i.i g.layout.mains (recover_segment g.layout g.image.now g.line) (omega arith) (fits_first (sfence ∷ []) c.requires.fits) c.loop-i.invariant.1
 
 pub loop-i-preserved : goal.loop-i-preserved
 loop-i-preserved c =

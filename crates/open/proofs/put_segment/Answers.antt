@@ -1,9 +1,8 @@
 use mathlib.Core.Path.{sym}
 use native.Mathlib.Omega.{arith}
-use borrow.Author.Rules.{rules}
 use Rattle.model.specs.Container.{seg_state}
 use Rattle.model.proofs.Laws.Layout.{metadata_inside}
-use Rattle.trace.proofs.EmitLaws.{fits_as, emitted_as, emitted_length}
+use Rattle.trace.proofs.EmitLaws.{fits_as, emitted_as}
 use Rattle.open.proofs.ActionLaws.{takes_there, takes_own, own_ops}
 use Rattle.open.proofs.put_segment.Goals as goal
 

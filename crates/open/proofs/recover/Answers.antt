@@ -1,14 +1,12 @@
 use mathlib.Core.Path.{refl, sym, ◌∙◌}
 use native.Mathlib.Omega.{arith}
-use borrow.Author.Rules.{rules}
-use borrow.Author.Tests.{eqb-true, not-true, not-false}
+use borrow.Author.Tests.{eqb-true}
 use Rattle.model.specs.Session.{fresh_session, zero_session}
 use Rattle.model.specs.Ops.{for_domain}
 use Rattle.model.specs.Clients.{cleared}
 use Rattle.model.specs.Outcome.{lent}
 use Rattle.model.specs.Open.{recovery_ops}
 use Rattle.model.proofs.Laws.Layout.{metadata_inside}
-use Rattle.trace.proofs.EmitLaws.{emitted_length}
 use Rattle.trace.proofs.CallLaws.{fits_whole, gives_served}
 use Rattle.open.specs.Recovery.{recovery_outcome}
 use Rattle.open.proofs.RecoveryLaws.{recovers_by, recovery_invalid, recovery_no_domain, recovery_judged, recovery_left, refused_gives, served_gives}
@@ -44,9 +42,6 @@ returns-then-not-is_served-2 c = λ R y.
 pub recovery_length-ops-requires : goal.recovery_length-ops-requires
 recovery_length-ops-requires c =
     recovers_by c.args.layout c.args.image.now c.args.line _ c.requires.0 c.requires.1 c.requires.2 c.examine-found.ensures c.if-not-found.false
-
-pub trace_status-room-requires : goal.trace_status-room-requires
-trace_status-room-requires c = omega (arith, c.recovery_length-ops.ensures.1)
 
 pub returns-then-not-is_served-3 : goal.returns-then-not-is_served-3
 unfolding recovery_outcome

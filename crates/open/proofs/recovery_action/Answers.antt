@@ -1,6 +1,5 @@
 use mathlib.Core.Path.{sym, ap, ◌∙◌}
 use native.Mathlib.Omega.{arith}
-use borrow.Author.Rules.{rules}
 use Rattle.model.specs.Open.{recovery_action}
 use Rattle.open.proofs.ActionLaws.{paired_cell, unpaired_cell}
 use Rattle.open.proofs.recovery_action.Goals as goal

@@ -1,22 +1,9 @@
 use Prim.Native.Nat.{ℕ, ◌+◌, ◌*◌}
 use mathlib.Core.Path.{sym, ap₂, ◌∙◌}
 use native.Mathlib.Omega.{arith}
-use borrow.Author.Rules.{rules}
 use Rattle.model.proofs.Laws.Counts.{count_recovery}
-use Rattle.open.proofs.RecoveryLaws.{segment_bound, recovery_bound}
+use Rattle.open.proofs.RecoveryLaws.{recovery_bound}
 use Rattle.open.proofs.recovery_length.Goals as goal
-
-pub overflow_mul-result : goal.overflow_mul-result
-overflow_mul-result c =
-    omega (arith, segment_bound c.copied_ops.result c.args.layout.blocks c.copied_ops.ensures.1 (omega arith))
-
-pub overflow_mul-result-2 : goal.overflow_mul-result-2
-overflow_mul-result-2 c =
-    omega (arith, recovery_bound c.copied_ops.result c.args.layout.blocks c.copied_ops.ensures.1 (omega arith) c.count_treated.result (omega arith))
-
-pub overflow_add-result : goal.overflow_add-result
-overflow_add-result c =
-    omega (arith, recovery_bound c.copied_ops.result c.args.layout.blocks c.copied_ops.ensures.1 (omega arith) c.count_treated.result (omega arith))
 
 pub returns : goal.returns
 returns c =

@@ -1,5 +1,4 @@
 use mathlib.Core.Path.{ap, ◌∙◌}
-use borrow.Author.Rules.{rules}
 use Rattle.model.specs.declared.Layout.{Layout}
 use Rattle.model.specs.Session.{fresh_session, zero_session}
 use Rattle.open.proofs.refused.Goals as goal
