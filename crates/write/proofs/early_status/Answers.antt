@@ -8,7 +8,9 @@ use Rattle.model.specs.Session.{context_errors}
 use Rattle.model.specs.Clients.{client_errors}
 use Rattle.model.proofs.Laws.Status.{served_condition, first_holds, first_fails, first_of_none, stage_refused, stage_passed}
 use Rattle.model.proofs.Laws.Container.{container_then}
+use Rattle.model.specs.Write.{span_errors}
 use Rattle.session.specs.Parts.{session_of}
+use Rattle.span.specs.Steps.{args_of}
 use Rattle.write.proofs.early_status.Goals as goal
 
 pub returns-then-not-is_served : goal.returns-then-not-is_served
@@ -22,7 +24,7 @@ returns-then-not-is_served-2 c =
     let s = session_of a.layout a.segments a.words.now a.domain in
     let n = sym c.is_served-2.ensures ∙ c.if-not-is_served-2.true in record {
       result_value = λ R bytes e x.
-          let p = stage_passed _ (context_errors s a.image.now) _ (omega arith) c.context_status-context.ensures (sym c.is_served.ensures ∙ c.if-not-is_served.false) in
+          let p = stage_passed _ (context_errors s a.image.now) (client_errors a.layout R a.client ++ main_errors a.layout a.span.main ++ block_errors a.layout a.span.block ++ span_errors a.layout (args_of a.client a.span bytes)) (omega arith) c.context_status-context.ensures (sym c.is_served.ensures ∙ c.if-not-is_served.false) in
           stage_refused _ _ _ (c.client_status-judged.ensures.result_value R e) n ∙ sym p;
       by_index = λ bytes x z. absurd (false≢true (sym n ∙ z));
     }
@@ -33,8 +35,8 @@ returns-then-not-is_served-3 c =
     let s = session_of a.layout a.segments a.words.now a.domain in
     let n = sym c.is_served-3.ensures ∙ c.if-not-is_served-3.true in record {
       result_value = λ R bytes e x.
-          let p = stage_passed _ (context_errors s a.image.now) _ (omega arith) c.context_status-context.ensures (sym c.is_served.ensures ∙ c.if-not-is_served.false) in
-          let k = stage_passed _ (client_errors a.layout R a.client) _ (omega arith) (c.client_status-judged.ensures.result_value R e) (sym c.is_served-2.ensures ∙ c.if-not-is_served-2.false) in
+          let p = stage_passed _ (context_errors s a.image.now) (client_errors a.layout R a.client ++ main_errors a.layout a.span.main ++ block_errors a.layout a.span.block ++ span_errors a.layout (args_of a.client a.span bytes)) (omega arith) c.context_status-context.ensures (sym c.is_served.ensures ∙ c.if-not-is_served.false) in
+          let k = stage_passed _ (client_errors a.layout R a.client) (main_errors a.layout a.span.main ++ block_errors a.layout a.span.block ++ span_errors a.layout (args_of a.client a.span bytes)) (omega arith) (c.client_status-judged.ensures.result_value R e) (sym c.is_served-2.ensures ∙ c.if-not-is_served-2.false) in
           stage_refused _ _ _ c.place_status-place.ensures n ∙ sym (p ∙ k);
       by_index = λ bytes x z. absurd (false≢true (sym n ∙ z));
     }
@@ -52,9 +54,9 @@ returns-then-span_bad c =
     let a = c.args in
     let s = session_of a.layout a.segments a.words.now a.domain in record {
       result_value = λ R bytes e x.
-          let p = stage_passed _ (context_errors s a.image.now) _ (omega arith) c.context_status-context.ensures (sym c.is_served.ensures ∙ c.if-not-is_served.false) in
-          let k = stage_passed _ (client_errors a.layout R a.client) _ (omega arith) (c.client_status-judged.ensures.result_value R e) (sym c.is_served-2.ensures ∙ c.if-not-is_served-2.false) in
-          let q = stage_passed _ (main_errors a.layout a.span.main ++ block_errors a.layout a.span.block) _ (omega arith) c.place_status-place.ensures (sym c.is_served-3.ensures ∙ c.if-not-is_served-3.false) in
+          let p = stage_passed _ (context_errors s a.image.now) (client_errors a.layout R a.client ++ main_errors a.layout a.span.main ++ block_errors a.layout a.span.block ++ span_errors a.layout (args_of a.client a.span bytes)) (omega arith) c.context_status-context.ensures (sym c.is_served.ensures ∙ c.if-not-is_served.false) in
+          let k = stage_passed _ (client_errors a.layout R a.client) (main_errors a.layout a.span.main ++ block_errors a.layout a.span.block ++ span_errors a.layout (args_of a.client a.span bytes)) (omega arith) (c.client_status-judged.ensures.result_value R e) (sym c.is_served-2.ensures ∙ c.if-not-is_served-2.false) in
+          let q = stage_passed _ (main_errors a.layout a.span.main ++ block_errors a.layout a.span.block) (span_errors a.layout (args_of a.client a.span bytes)) (omega arith) c.place_status-place.ensures (sym c.is_served-3.ensures ∙ c.if-not-is_served-3.false) in
           first_holds 8 _ _ (sym (c.span_bad.ensures a.client bytes x) ∙ c.if-span_bad.true) ∙ sym (p ∙ k ∙ q);
       by_index = λ bytes x z. absurd (false≢true z);
     }
@@ -65,13 +67,13 @@ returns c =
     let s = session_of a.layout a.segments a.words.now a.domain in
     record {
       result_value = λ R bytes e x.
-          let p = stage_passed _ (context_errors s a.image.now) _ (omega arith) c.context_status-context.ensures (sym c.is_served.ensures ∙ c.if-not-is_served.false) in
-          let k = stage_passed _ (client_errors a.layout R a.client) _ (omega arith) (c.client_status-judged.ensures.result_value R e) (sym c.is_served-2.ensures ∙ c.if-not-is_served-2.false) in
-          let q = stage_passed _ (main_errors a.layout a.span.main ++ block_errors a.layout a.span.block) _ (omega arith) c.place_status-place.ensures (sym c.is_served-3.ensures ∙ c.if-not-is_served-3.false) in
+          let p = stage_passed _ (context_errors s a.image.now) (client_errors a.layout R a.client ++ main_errors a.layout a.span.main ++ block_errors a.layout a.span.block ++ span_errors a.layout (args_of a.client a.span bytes)) (omega arith) c.context_status-context.ensures (sym c.is_served.ensures ∙ c.if-not-is_served.false) in
+          let k = stage_passed _ (client_errors a.layout R a.client) (main_errors a.layout a.span.main ++ block_errors a.layout a.span.block ++ span_errors a.layout (args_of a.client a.span bytes)) (omega arith) (c.client_status-judged.ensures.result_value R e) (sym c.is_served-2.ensures ∙ c.if-not-is_served-2.false) in
+          let q = stage_passed _ (main_errors a.layout a.span.main ++ block_errors a.layout a.span.block) (span_errors a.layout (args_of a.client a.span bytes)) (omega arith) c.place_status-place.ensures (sym c.is_served-3.ensures ∙ c.if-not-is_served-3.false) in
           first_fails 8 _ _ _ (sym (c.span_bad.ensures a.client bytes x) ∙ c.if-span_bad.false) first_of_none ∙ sym (p ∙ k ∙ q);
       by_index = λ bytes x z.
-          let p = stage_passed _ (context_errors s a.image.now) _ (omega arith) c.context_status-context.ensures (sym c.is_served.ensures ∙ c.if-not-is_served.false) in
-          let q = stage_passed _ (main_errors a.layout a.span.main ++ block_errors a.layout a.span.block) _ (omega arith) c.place_status-place.ensures (sym c.is_served-3.ensures ∙ c.if-not-is_served-3.false) in
+          let p = stage_passed _ (context_errors s a.image.now) (main_errors a.layout a.span.main ++ block_errors a.layout a.span.block ++ span_errors a.layout (args_of a.client a.span bytes)) (omega arith) c.context_status-context.ensures (sym c.is_served.ensures ∙ c.if-not-is_served.false) in
+          let q = stage_passed _ (main_errors a.layout a.span.main ++ block_errors a.layout a.span.block) (span_errors a.layout (args_of a.client a.span bytes)) (omega arith) c.place_status-place.ensures (sym c.is_served-3.ensures ∙ c.if-not-is_served-3.false) in
           let j = c.client_status-judged.ensures.client_lt_count (sym c.is_served-2.ensures ∙ c.if-not-is_served-2.false) in
           (sym (first_fails 8 0 _ _ (sym (c.span_bad.ensures a.client bytes x) ∙ c.if-span_bad.false) first_of_none ∙ sym (p ∙ q)), j.0, j.1);
     }
