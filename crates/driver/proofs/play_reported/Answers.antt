@@ -1,7 +1,6 @@
 use mathlib.Core.Path.{sym}
 use native.Mathlib.Omega.{arith}
 use lib.Seq.{length-take-le}
-use borrow.Author.Rules.{rules}
 use Rattle.driver.proofs.play_reported.Goals as goal
 
 pub slice_bounds-crpm_replay-end : goal.slice_bounds-crpm_replay-end

@@ -1,6 +1,5 @@
 use mathlib.Core.Path.{◌∙◌}
 use native.Mathlib.Omega.{arith}
-use borrow.Author.Rules.{rules}
 use Rattle.model.specs.Checkpoint.{checkpoint_outcome}
 use Rattle.model.specs.History.{call_checkpoint}
 use Rattle.model.specs.Outcome.{lent}

@@ -1,6 +1,5 @@
 use mathlib.Core.List.{[]}
 use native.Mathlib.Omega.{arith}
-use borrow.Author.Rules.{rules}
 use Rattle.model.specs.Discard.{discard_outcome}
 use Rattle.model.specs.History.{call_discard}
 use Rattle.model.specs.Outcome.{lent}

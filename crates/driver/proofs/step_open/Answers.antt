@@ -1,6 +1,5 @@
 use mathlib.Core.Path.{◌∙◌}
 use native.Mathlib.Omega.{arith}
-use borrow.Author.Rules.{rules}
 use Rattle.model.specs.Layout.{layout_of}
 use Rattle.model.specs.Open.{open_outcome}
 use Rattle.model.specs.History.{call_open}

@@ -1,6 +1,5 @@
 use mathlib.Core.Path.{◌∙◌}
 use native.Mathlib.Omega.{arith}
-use borrow.Author.Rules.{rules}
 use lib.ListN.{set}
 use Rattle.model.specs.Write.{write_args_of, write_outcome}
 use Rattle.model.specs.History.{call_write}
