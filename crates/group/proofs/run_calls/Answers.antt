@@ -9,7 +9,6 @@ returns c =
     let a = c.args in
     let g = group_of_parts a.parts a.bytes.now in
     let e = c.run_write-written.ensures.call_ran in
-    let out = c.run_write-written.new.1.1.1.1.0 in
-    let last : CheckpointRan c.run_write-written.new.0 c.run_write-written.result a.parts.checkpoint out c.run_checkpoint.new.0 c.run_checkpoint.new.1.1.1.0 c.run_checkpoint.result = c.run_checkpoint.ensures.checkpoint_ran in
-    
+    let out = c.run_write-written.new.out in
+    let last : CheckpointRan c.run_write-written.new.image c.run_write-written.result a.parts.checkpoint out c.run_checkpoint.new.image c.run_checkpoint.new.out c.run_checkpoint.result = c.run_checkpoint.ensures.checkpoint_ran in
     record { calls_ran = calls_ran _ a.ran g _ _ _ c.run_write-written.result _ _ c.run_checkpoint.result e last; place_bound = omega arith }
