@@ -13,11 +13,11 @@ run_good-requires c = (sym c.verdict.ensures ∙ c.in-None.is, omega arith)
 
 pub returns-in-Is : goal.returns-in-Is
 returns-in-Is c =
-    let n = c.n-1.given in
-    let v = c.verdict in
+    let n = c.in-Is.n in
     let a = c.args in
-    let line : Appended a.out.now 0 (sheet_bytes ++ decimal n.0.0 ++ line_end_bytes) _ c.append_number.result = c.append_number.ensures.appended in
-    appended_first (appended_as (bad_text n.0.0 ∙ prints_bad a.input.now n.0.0 (sym v.ensures ∙ n.1)) line)
+    let line : Appended a.out.now 0 (sheet_bytes ++ decimal n ++ line_end_bytes) c.append_number.new.out c.append_number.result = c.append_number.ensures.appended in
+    let f = appended_first (appended_as (bad_text n ∙ prints_bad a.input.now n (sym c.verdict.ensures ∙ c.in-Is.is)) line) in
+    record { prefix_len = f.0; value = f.1 }
 
 pub returns-in-None : goal.returns-in-None
-returns-in-None c = appended_first c.run_good.ensures
+returns-in-None c = let f = appended_first c.run_good.ensures in record { prefix_len = f.0; value = f.1 }
