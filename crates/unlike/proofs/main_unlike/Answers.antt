@@ -11,4 +11,4 @@ returns-then-initial_unlike c =
 pub returns : goal.returns
 returns c =
     let a = c.args in
-    unlike_bytes a.layout a.a.now a.b.now a.main _ (sym c.initial_unlike.ensures ∙ c.if-initial_unlike.false) c.First-Block.ensures
+    unlike_bytes a.layout a.a.now a.b.now a.main _ (sym c.initial_unlike.ensures ∙ c.if-initial_unlike.false) c.first_block.ensures

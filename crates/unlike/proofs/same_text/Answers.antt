@@ -16,7 +16,8 @@ returns-then-not-is_served c =
     let no = ap (λ (n : ℕ). served n) (sym e) ∙ sym c.is_served.ensures ∙ c.if-not-is_served.true in
     let code = c.code.ensures ∙ e in
     let t = appended_as (ap (λ (n : ℕ). refused_text a.layout a.a.now n) code ∙ text_refused a.layout a.a.now a.b.now no) c.append_refused-refused.ensures in
-    (e, appended_first t)
+    let f = appended_first t in
+    record { status_value = e; prefix_len = f.0; size_value = f.1 }
 
 pub returns-then-compared : goal.returns-then-compared
 returns-then-compared c =
@@ -24,7 +25,8 @@ returns-then-compared c =
     let e = c.crpm_same_checkpoint-compared.ensures.status_value in
     let ok = ap (λ (n : ℕ). served n) (sym e) ∙ sym c.is_served.ensures ∙ c.if-not-is_served.false in
     let yes = sym c.crpm_same_checkpoint-compared.ensures.same_value ∙ c.if-compared.true in
-    (e, appended_first (appended_as (alike_text ∙ text_alike a.layout a.a.now a.b.now ok yes) c.append_text-alike.ensures))
+    let f = appended_first (appended_as (alike_text ∙ text_alike a.layout a.a.now a.b.now ok yes) c.append_text-alike.ensures) in
+    record { status_value = e; prefix_len = f.0; size_value = f.1 }
 
 pub returns : goal.returns
 returns c =
@@ -32,4 +34,5 @@ returns c =
     let e = c.crpm_same_checkpoint-compared.ensures.status_value in
     let ok = ap (λ (n : ℕ). served n) (sym e) ∙ sym c.is_served.ensures ∙ c.if-not-is_served.false in
     let no = sym c.crpm_same_checkpoint-compared.ensures.same_value ∙ c.if-compared.false in
-    (e, appended_first (appended_as (text_unlike a.layout a.a.now a.b.now ok no) c.append_unlike-size.ensures))
+    let f = appended_first (appended_as (text_unlike a.layout a.a.now a.b.now ok no) c.append_unlike-size.ensures) in
+    record { status_value = e; prefix_len = f.0; size_value = f.1 }
