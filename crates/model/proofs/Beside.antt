@@ -3,8 +3,8 @@
 use Prim.Native.Nat.{ℕ, ◌*◌, ◌≤◌}
 use mathlib.Core.Path.{◌≡◌, refl, sym, ap, ap₂, ◌∙◌, subst}
 use mathlib.Core.Logic.{◌≢◌, ◌⊎◌, inl, inr, ⊎_elim}
-use mathlib.Core.Bool.{Bool, true, false, cond}
-use mathlib.Core.List.{List, [], ◌∷◌, ◌++◌, append-nil}
+use mathlib.Core.Bool.{Bool, true, false}
+use mathlib.Core.List.{List, ◌++◌, append-nil}
 use native.Mathlib.Omega.{arith}
 use lib.ListN.{length}
 use borrow.Author.Tests.{eq-eqb, ne_eqb}
@@ -26,7 +26,7 @@ use Rattle.model.specs.Domains.{with_domain, args_with, Beside, done, serves, re
 use Rattle.model.proofs.Laws.Open.{zero_write, zero_discard, zero_checkpoint}
 use Rattle.model.proofs.Laws.Domain.{adr-served, adr_refused}
 use Rattle.model.proofs.Laws.Traces.{adr_traces}
-use Rattle.model.proofs.Argument.Stands.{Stands, image_of}
+use Rattle.model.proofs.Argument.Stands.{Stands}
 use Rattle.model.proofs.Argument.Openings.{open_served, opened_is, start_stands}
 use Rattle.model.proofs.CrashSafety.{argument}
 use Rattle.model.proofs.Domains.{AdrOnly, adr_called, adr-step, adr-start}

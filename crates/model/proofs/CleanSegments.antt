@@ -2,7 +2,7 @@
 -- them, so that flushes of them count for nothing.
 use Prim.Native.Nat.{ℕ, ◌+◌, ◌-◌, ◌*◌, ◌/◌, ◌≤◌, ◌<◌}
 use mathlib.Core.Path.{◌≡◌, refl, sym, ap, ◌∙◌, subst, subst₂}
-use mathlib.Core.Logic.{◌↔◌, ◌≢◌, ◌⊎◌, inl, inr, ⊎_elim}
+use mathlib.Core.Logic.{◌↔◌, ◌⊎◌, inl, inr, ⊎_elim}
 use mathlib.Core.Bool.{Bool, true, false, cond, true≢false}
 use mathlib.Core.List.{List, [], ◌∷◌, ◌++◌, append-nil, append_assoc}
 use native.Mathlib.Omega.{arith}
@@ -17,12 +17,12 @@ use Rattle.model.specs.Layout.{line_size, metadata_size, segment_size, main_at}
 use Rattle.model.specs.Session.{dirty_segment, fresh_session, zero_session, adr}
 use Rattle.model.specs.Status.{served}
 use Rattle.model.specs.Ops.{Ops, replay}
-use Rattle.model.specs.Outcome.{Lent, outcome_of}
+use Rattle.model.specs.Outcome.{Lent}
 use Rattle.model.specs.Open.{open_status}
-use Rattle.model.specs.Checkpoint.{checkpoint_ops, checkpoint_status, checkpoint_outcome}
+use Rattle.model.specs.Checkpoint.{checkpoint_ops}
 use Rattle.model.specs.Crash.{CrashImage}
 use Rattle.model.specs.Reference.{Page, CallArgs, open_args, write_args, discard_args, checkpoint_args}
-use Rattle.model.specs.History.{Call, Device, State, answers, outcome, called_ops, device_step, step, run, opened_image, start, AllPermitted, adr_ops, call_checkpoint, AllOwnDomain}
+use Rattle.model.specs.History.{Call, Device, State, outcome, called_ops, device_step, step, run, opened_image, start, AllPermitted, adr_ops, call_checkpoint, AllOwnDomain}
 use Rattle.model.specs.CrashSafety.{Recovers, Moment, between, during, EpochStored, Enough, CutOpenings, PermittedAt, played_at, adr_module}
 use Rattle.model.specs.CleanSegments.{CleanSegment, CleanSettled, lean_checkpoint_ops, in_clean, leave_out, CleanFlushesNeedless, lean_of, lean_ops, lean_played, LeanPermittedAt, lean_played_at, LeanMayShow, LeanSafety}
 use Rattle.model.proofs.Laws.CleanSegments.{leave_out_append, leave_out-replay, leave_out_part, leave_out_more, in_clean_lem, clean_found, lean_shorter, lean_fewer}
@@ -33,7 +33,7 @@ use Rattle.model.proofs.Argument.Persist.{each_take, replay_append}
 use Rattle.model.proofs.Argument.Settled.{Settled, Off, off_append}
 use Rattle.model.proofs.Argument.Phases.{epoch_phase, before_epoch, checkpoint_phases}
 use Rattle.model.proofs.Argument.Checkpoint.BeforeEpoch.{lines, before_off}
-use Rattle.model.proofs.Argument.Stands.{Stands, inv_at, whole_lines, called, called_all}
+use Rattle.model.proofs.Argument.Stands.{Stands, inv_at, whole_lines, called}
 use Rattle.model.proofs.Argument.Openings.{start_stands}
 use Rattle.model.proofs.CrashSafety.{argument, history_stands}
 

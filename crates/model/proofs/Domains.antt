@@ -1,13 +1,13 @@
 -- The two kinds of module are modules of which demand 3 speaks (`both_kinds`, specs/CrashSafety.antt), and what else specs/Domains.antt
 -- says: a module that holds every store is safe whichever kind its openings are given, and kind 1 shows one page.
 use Prim.Native.Nat.{ℕ, ◌*◌, ◌+◌, ◌<◌, ◌≤◌}
-use mathlib.Core.Path.{◌≡◌, refl, sym, ap, ap₂, ◌∙◌, subst, subst₂}
+use mathlib.Core.Path.{◌≡◌, refl, sym, ap, ap₂, ◌∙◌, subst}
 use mathlib.Core.Logic.{◌⊎◌, inl, inr, ⊎_elim, ◌≢◌}
 use mathlib.Core.Bool.{Bool, true, false, cond, true≢false}
 use mathlib.Core.List.{List, [], ◌∷◌, ◌++◌}
 use native.Mathlib.Omega.{arith}
 use lib.ListN.{length, take}
-use lib.Seq.{take-nil, take-length}
+use lib.Seq.{take-nil}
 use Rattle.model.proofs.Laws.Counts.Checkpoint.{window_is, epoch_played, epoch_stored_late}
 use native.Mathlib.Decide.{ℕ_discrete, dec_le, dec_lt}
 use Rattle.model.proofs.Laws.Outcome.{outcome_refused, outcome-served}
@@ -30,7 +30,7 @@ use Rattle.model.specs.Checkpoint.{checkpoint_status, checkpoint_outcome, checkp
 use Rattle.model.specs.Crash.{CrashImage, Held}
 use Rattle.model.specs.Reference.{CallArgs, open_args, write_args, discard_args, checkpoint_args, Page, model_step, Model}
 use Rattle.model.specs.History.{Call, Device, State, answers, outcome, domain_of, adr_ops, called_ops, adr_called_ops, device_step, step, run, start, AllPermitted, GivenDomain, OwnDomain, AllOwnDomain, call_checkpoint, Permitted}
-use Rattle.model.specs.CrashSafety.{Moment, between, during, PermittedAt, played_at, adr_played_at, WithinAdr, CrashSafetyFor, adr_module, eadr_module, BothKinds, Window, EpochStored, Recovers}
+use Rattle.model.specs.CrashSafety.{Moment, between, during, PermittedAt, played_at, adr_played_at, WithinAdr, adr_module, eadr_module, BothKinds, Window, EpochStored, Recovers}
 use Rattle.model.specs.Domains.{InDoubtAdr, EadrWindow, EadrShows, Shown}
 use Rattle.model.proofs.Laws.Domain.{domain_adr, domain_replay, part_holds, part_adr, ops_filtered, adr_refused, adr-served}
 use Rattle.model.proofs.Laws.Crash.Images.{newest}

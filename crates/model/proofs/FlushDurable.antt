@@ -1,13 +1,12 @@
 -- Every line written back and fenced (specs/FlushDurable.antt): every line is settled, and what is played afterwards is played on a
 -- durable image. So it is after a format, and when a program starts again.
-use Prim.Native.Nat.{ℕ, ◌-◌, ◌*◌, ◌/◌, ◌%◌, ◌≤◌, ◌<◌}
+use Prim.Native.Nat.{ℕ, ◌*◌, ◌/◌, ◌%◌, ◌<◌}
 use mathlib.Core.Path.{◌≡◌, refl, sym, ap, ◌∙◌, subst, subst₂}
 use mathlib.Core.Logic.{◌↔◌}
 use mathlib.Core.List.{List, [], ◌∷◌, ◌++◌}
 use native.Mathlib.Omega.{arith}
-use native.Mathlib.Decide.{dec_le}
-use lib.ListN.{length, take}
-use lib.Seq.{ext_get_or, take-length, take-append-le}
+use lib.ListN.{length}
+use lib.Seq.{ext_get_or}
 use Rattle.model.specs.Session.{adr}
 use Rattle.model.specs.Outcome.{Lent, lent}
 use Rattle.model.specs.declared.Layout.{Layout}
@@ -17,7 +16,7 @@ use Rattle.model.specs.Container.{active_line}
 use Rattle.model.specs.Ops.{Ops, sfence, replay, clwbs}
 use Rattle.model.specs.Format.{formatted}
 use Rattle.model.specs.Open.{recovery_ops, open_status, open_outcome}
-use Rattle.model.specs.Crash.{Stage, CrashImage}
+use Rattle.model.specs.Crash.{CrashImage}
 use Rattle.model.specs.Reference.{Page}
 use Rattle.model.specs.History.{Call, State, device_step, step, run, played_ops, opened_image, start}
 use Rattle.model.specs.CrashSafety.{Recovers, played_at, MayShow, none, again, adr_module}

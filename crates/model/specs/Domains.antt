@@ -19,7 +19,7 @@ use Rattle.model.specs.Counts.{treated, dirty_count}
 use Rattle.model.specs.Crash.{CrashImage, Held}
 use Rattle.model.specs.Reference.{Page, CallArgs, open_args, write_args, discard_args, checkpoint_args}
 use Rattle.model.specs.History.{Call, Device, State, call_checkpoint, answers, outcome, domain_of, rule_ops, step, run, start, AllPermitted}
-use Rattle.model.specs.CrashSafety.{Recovers, Moment, between, during, PermittedAt, played_at, Window, InEveryHistoryOf, Module, Enough, CutOpenings, CrashSafetyFor, eadr_module}
+use Rattle.model.specs.CrashSafety.{Recovers, Moment, between, during, PermittedAt, played_at, Window, InEveryHistoryOf, Enough, CutOpenings, CrashSafetyFor, eadr_module}
 
 -- ---- the traces of kind 0 for the same calls
 

@@ -5,7 +5,7 @@ use Rattle.model.specs.declared.Layout.{Layout}
 use Rattle.model.specs.declared.Session.{Session}
 use Rattle.model.specs.Words.{Image, byte_at}
 use Rattle.model.specs.Layout.{word_size, line_size, metadata_size, epoch_at, mains_at, header_end, states_at, pairs_end}
-use Rattle.model.specs.Container.{inactive_line, checkpoint_bytes}
+use Rattle.model.specs.Container.{inactive_line}
 use Rattle.model.specs.Outcome.{Lent}
 use Rattle.model.specs.Open.{open_outcome}
 use Rattle.model.specs.Write.{WriteArgs, write_outcome}

@@ -1,17 +1,16 @@
 -- Laws of what a trace has for a kind of module: one run after another, runs of stores, all of it for kind 0; the same image; the first
 -- part of a rule's operations that holds the first p of a trace (`first_part_lem`); and how many operations a trace has.
-use Prim.Native.Nat.{ℕ, zero, suc, ◌+◌, ◌*◌, ◌≤◌, ◌<◌}
-use mathlib.Core.Path.{◌≡◌, refl, sym, ap, ap₂, ◌∙◌, subst}
+use Prim.Native.Nat.{ℕ, zero, suc, ◌≤◌}
+use mathlib.Core.Path.{◌≡◌, refl, sym, ap, ◌∙◌}
 use mathlib.Core.Bool.{Bool, true, false, cond}
 use mathlib.Core.List.{[], ◌∷◌, ◌++◌}
 use native.Mathlib.Omega.{arith}
 use lib.Dec.{eqb}
 use lib.ListN.{length, take, length-append}
-use lib.Seq.{take-length}
 use Rattle.model.specs.Range.{cat}
 use Rattle.model.specs.Words.{Image}
-use Rattle.model.specs.Session.{adr, eadr}
-use Rattle.model.specs.Ops.{Op, store, clwb, sfence, Ops, writes, for_domain, first_part, apply, replay, stores, clwbs, put_block}
+use Rattle.model.specs.Session.{adr}
+use Rattle.model.specs.Ops.{Op, store, clwb, sfence, Ops, writes, for_domain, first_part, apply, replay, stores}
 use Rattle.model.specs.declared.Session.{Session}
 use Rattle.model.specs.Layout.{epoch_at}
 use Rattle.model.specs.Status.{served}

@@ -1,8 +1,8 @@
 -- The traces of kind 0 for the same calls (`adr_traces`), and how many operations a trace has for kind 1 (`eadr-counts`): specs/Domains.antt.
-use Prim.Native.Nat.{ℕ, ◌+◌, ◌*◌, ◌≤◌}
-use mathlib.Core.Path.{◌≡◌, refl, sym, ap, ap₂, ◌∙◌}
+use Prim.Native.Nat.{ℕ, ◌*◌, ◌≤◌}
+use mathlib.Core.Path.{◌≡◌, refl, ap, ap₂, ◌∙◌}
 use mathlib.Core.Bool.{Bool, true, false, not, cond, and-eq-true_iff}
-use mathlib.Core.List.{[], ◌∷◌, ◌++◌}
+use mathlib.Core.List.{[]}
 use native.Mathlib.Omega.{arith}
 use lib.ListN.{length}
 use borrow.Author.Tests.{eq-eqb, le-ltb, not-false}
@@ -10,7 +10,6 @@ use Rattle.model.specs.declared.Layout.{Layout}
 use Rattle.model.specs.declared.Session.{Session}
 use Rattle.model.specs.declared.Plan.{Plan}
 use Rattle.model.specs.Words.{Image}
-use Rattle.model.specs.Status.{Errors, first_error, served}
 use Rattle.model.specs.Session.{adr, eadr, dirty_segment, dirty_word, fresh_session, with_dirty, with_checkpoint, valid_session}
 use Rattle.model.specs.Ops.{Ops, Trace, for_domain, trace_short}
 use Rattle.model.specs.Outcome.{Lent, lent, outcome_of}

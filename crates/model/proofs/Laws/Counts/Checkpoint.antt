@@ -15,7 +15,7 @@ use Rattle.model.specs.Layout.{word_size, line_size, block_lines, line_words, ep
 use Rattle.model.specs.Container.{committed_epoch, active_state, inactive_line}
 use Rattle.model.specs.Session.{adr, is_dirty, dirty_word}
 use Rattle.model.specs.Ops.{Op, store, clwb, sfence, Ops, for_domain, apply, replay, stores, clwbs}
-use Rattle.model.specs.Outcome.{Lent, outcome_of}
+use Rattle.model.specs.Outcome.{Lent}
 use Rattle.model.specs.Checkpoint.{flush_dirty, next_states, states_ops, checkpoint_ops, checkpoint_status, checkpoint_outcome}
 use Rattle.model.specs.History.{call_checkpoint, Device, called_ops}
 use Rattle.model.specs.Counts.{flushes, dirty_total}

@@ -1,5 +1,5 @@
 -- How many operations a write has on the trace for a kind of module, by its plan.
-use Prim.Native.Nat.{ℕ, suc, ◌+◌, ◌*◌}
+use Prim.Native.Nat.{ℕ, ◌+◌, ◌*◌}
 use mathlib.Core.Path.{◌≡◌, refl, ap, ◌∙◌, ap₂}
 use mathlib.Core.Bool.{true}
 use mathlib.Core.List.{◌++◌, [], ◌∷◌}

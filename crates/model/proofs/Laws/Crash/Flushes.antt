@@ -14,9 +14,9 @@ use Rattle.model.specs.Session.{adr}
 use Rattle.model.specs.Range.{cat}
 use Rattle.model.specs.Words.{Image, byte_at}
 use Rattle.model.specs.Layout.{line_size}
-use Rattle.model.specs.Ops.{Op, store, clwb, sfence, Ops, replay, clwbs, writes, for_domain, first_part}
+use Rattle.model.specs.Ops.{store, clwb, sfence, Ops, replay, clwbs, writes, for_domain, first_part}
 use Rattle.model.specs.Crash.{Stage, CrashImage}
-use Rattle.model.specs.CrashExact.{Each, has_fence, floor_from, floor}
+use Rattle.model.specs.CrashExact.{Each, has_fence, floor_from}
 use Rattle.model.specs.Domains.{OnlyClwbs, FlushesWait, AnyFirstPart}
 use Rattle.model.proofs.Laws.Crash.Floor.{floor_durable, durable_floor, durable_all}
 use Rattle.model.proofs.Argument.Persist.{each_take, replay_clear}

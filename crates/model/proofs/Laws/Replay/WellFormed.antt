@@ -15,7 +15,7 @@ use Rattle.model.specs.declared.Plan.TheVariants.{NoCopy, OwnBackup, NewBackup, 
 use Rattle.model.specs.Range.{cat}
 use Rattle.model.specs.Words.{Image, word_of}
 use Rattle.model.specs.Layout.{word_size, line_size, block_size, metadata_size, block_words, block_lines, line_words, most, pairs_at, ss_backup, image_size, segment_size}
-use Rattle.model.specs.Container.{committed_epoch, active_state, active_line, inactive_line, seg_state, backup_to_main, is_paired, paired_backup, by_state, checkpoint_located}
+use Rattle.model.specs.Container.{committed_epoch, active_state, active_line, inactive_line, seg_state, backup_to_main, is_paired, paired_backup, by_state}
 use Rattle.model.specs.Session.{is_dirty, dirty_word, dirty_segment}
 use Rattle.model.specs.Ops.{clwb, sfence, stores, clwbs, put_block, persist_copy, persist_zero, copy_segment, zero_segment, store_byte}
 use Rattle.model.specs.Open.{recovery_action, action_ops, recover_segment, recovery_ops}

@@ -1,4 +1,4 @@
-use Rattle.std.proofs.Common.{rules, refl}
+use Rattle.std.proofs.Common.{refl}
 use Rattle.model.specs.Session.{fresh_session}
 use Rattle.model.proofs.Session.fresh.Goals as goal
 
