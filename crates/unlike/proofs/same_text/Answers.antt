@@ -15,9 +15,8 @@ returns-then-not-is_served c =
     let e = c.crpm_same_checkpoint-compared.ensures.status_value in
     let no = ap (λ (n : ℕ). served n) (sym e) ∙ sym c.is_served.ensures ∙ c.if-not-is_served.true in
     let code = c.code.ensures ∙ e in
-    let t = appended_as (ap (λ (n : ℕ). refused_text a.layout a.a.now n) code ∙ text_refused a.layout a.a.now a.b.now no) c.append_refused-refused.ensures in
-    let f = appended_first t in
-    record { status_value = e; prefix_len = f.0; size_value = f.1 }
+    let t = appended_first (appended_as (ap (λ (n : ℕ). refused_text a.layout a.a.now n) code ∙ text_refused a.layout a.a.now a.b.now no) c.append_refused-refused.ensures) in
+    record { status_value = e; prefix_len = t.0; size_value = t.1 }
 
 pub returns-then-compared : goal.returns-then-compared
 returns-then-compared c =
@@ -25,8 +24,8 @@ returns-then-compared c =
     let e = c.crpm_same_checkpoint-compared.ensures.status_value in
     let ok = ap (λ (n : ℕ). served n) (sym e) ∙ sym c.is_served.ensures ∙ c.if-not-is_served.false in
     let yes = sym c.crpm_same_checkpoint-compared.ensures.same_value ∙ c.if-compared.true in
-    let f = appended_first (appended_as (alike_text ∙ text_alike a.layout a.a.now a.b.now ok yes) c.append_text-alike.ensures) in
-    record { status_value = e; prefix_len = f.0; size_value = f.1 }
+    let t = appended_first (appended_as (alike_text ∙ text_alike a.layout a.a.now a.b.now ok yes) c.append_text-alike.ensures) in
+    record { status_value = e; prefix_len = t.0; size_value = t.1 }
 
 pub returns : goal.returns
 returns c =
@@ -34,5 +33,5 @@ returns c =
     let e = c.crpm_same_checkpoint-compared.ensures.status_value in
     let ok = ap (λ (n : ℕ). served n) (sym e) ∙ sym c.is_served.ensures ∙ c.if-not-is_served.false in
     let no = sym c.crpm_same_checkpoint-compared.ensures.same_value ∙ c.if-compared.false in
-    let f = appended_first (appended_as (text_unlike a.layout a.a.now a.b.now ok no) c.append_unlike-size.ensures) in
-    record { status_value = e; prefix_len = f.0; size_value = f.1 }
+    let t = appended_first (appended_as (text_unlike a.layout a.a.now a.b.now ok no) c.append_unlike-size.ensures) in
+    record { status_value = e; prefix_len = t.0; size_value = t.1 }
