@@ -7,7 +7,7 @@ use native.Mathlib.Omega.{arith}
 use lib.ListN.{length, take, drop, length-append, length-drop, length-take}
 use lib.Seq.{get_or-drop, take_all}
 use Rattle.model.specs.Range.{cat}
-use Rattle.text.specs.Text.{text, starts_with, Line, before, lines_of, number_of}
+use Rattle.text.specs.Text.{text, starts_with, Line, lines_of, number_of}
 use Rattle.text.specs.Read.{line_length}
 use Rattle.text.proofs.NameLaws.{starts_append}
 use Rattle.text.proofs.LineLaws.{first_length, first_then, next_rest, next_part}
