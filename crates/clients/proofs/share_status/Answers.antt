@@ -1,5 +1,6 @@
 use mathlib.Core.Path.{◌≡◌, refl, sym, ap, ◌∙◌}
 use mathlib.Core.Bool.{Bool, true, false, cond}
+use native.Mathlib.Omega.{arith}
 use lib.Dec.{leb}
 use Rattle.model.specs.Clients.{quota_reached, all_reserved}
 use Rattle.model.proofs.Laws.Status.{first_holds, first_fails, first_of_none}
@@ -17,19 +18,19 @@ returns-then-not-copying-clause-result_value c = λ R e. rw c.if-not-copying.tru
 pub returns-then-c-clause-result_value : goal.returns-then-c-clause-result_value
 returns-then-c-clause-result_value c = λ R e.
     let a = c.args in
-    let q : quota_reached R a.client ≡ true = at_limit_lem a.run R e a.client c.requires.0 c.if-c.true in
+    let q : quota_reached R a.client ≡ true = at_limit_lem a.run R e a.client c.requires.0 (omega arith) in
     first_holds 14 _ _ (asked a.copying _ true c.if-not-copying.false q)
 
 pub returns-then-all_reserved-clause-result_value : goal.returns-then-all_reserved-clause-result_value
 returns-then-all_reserved-clause-result_value c = λ R e.
     let a = c.args in
-    let q : quota_reached R a.client ≡ false = under_limit a.run R e a.client c.requires.0 c.if-c.false in
+    let q : quota_reached R a.client ≡ false = under_limit a.run R e a.client c.requires.0 (omega arith) in
     let s : all_reserved R a.client a.free ≡ true = ap (leb a.free) (sym (unused_others a.run R e c.requires.1 a.client)) ∙ sym c.all_reserved.ensures ∙ c.if-all_reserved.true in
     rw c.if-not-copying.false (first_fails 14 15 _ _ q (first_holds 15 _ _ s))
 
 pub returns-clause-result_value : goal.returns-clause-result_value
 returns-clause-result_value c = λ R e.
     let a = c.args in
-    let q : quota_reached R a.client ≡ false = under_limit a.run R e a.client c.requires.0 c.if-c.false in
+    let q : quota_reached R a.client ≡ false = under_limit a.run R e a.client c.requires.0 (omega arith) in
     let s : all_reserved R a.client a.free ≡ false = ap (leb a.free) (sym (unused_others a.run R e c.requires.1 a.client)) ∙ sym c.all_reserved.ensures ∙ c.if-all_reserved.false in
     rw c.if-not-copying.false (first_fails 14 0 _ _ q (first_fails 15 0 _ _ s first_of_none))
