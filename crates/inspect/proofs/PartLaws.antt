@@ -1,13 +1,13 @@
 -- Laws of the parts that the reads give: a block's bytes or none, and those of a part that is not there count as zeros.
 use Prim.Native.Nat.{ℕ, ◌+◌, ◌*◌, ◌≤◌, ◌<◌}
-use mathlib.Core.Path.{◌≡◌, refl, sym, ap, ap₂, ◌∙◌}
+use mathlib.Core.Path.{◌≡◌, refl, sym, ap, ◌∙◌}
 use mathlib.Core.Logic.{◌⊎◌, inl, inr, ◌≢◌}
 use mathlib.Core.Bool.{Bool, true, false}
 use mathlib.Core.List.{List, []}
 use native.Mathlib.Omega.{arith}
 use native.Mathlib.Decide.{ℕ_discrete}
 use lib.Dec.{eqb}
-use lib.ListN.{length, get_or, take, drop, length-take, length-drop, get_or-eq_default}
+use lib.ListN.{length, get_or, length-take, length-drop, get_or-eq_default}
 use borrow.Author.Tests.{eq-eqb, ne_eqb}
 use Rattle.model.specs.declared.Layout.{Layout}
 use Rattle.model.specs.declared.Located.{Located}
@@ -16,12 +16,12 @@ use Rattle.model.specs.Words.{Image}
 use Rattle.model.specs.Layout.{main_at}
 use Rattle.model.specs.Status.{served}
 use Rattle.model.specs.Container.{active_line, checkpoint_located}
-use Rattle.model.specs.Reads.{Part, part_of, read_status, no_part, block_part, located_part, working_part, checkpoint_part, working_block, checkpoint_block}
+use Rattle.model.specs.Reads.{Part, part_of, read_status, no_part, block_part, located_part, checkpoint_part, working_block, checkpoint_block}
 use Rattle.model.specs.Same.{same_bytes}
 use Rattle.model.proofs.Laws.Range.{all_from, all_ext}
 use Rattle.model.proofs.Laws.Container.{ContainerOk}
 use Rattle.model.proofs.Argument.Pages.{read_served}
-use Rattle.reads.proofs.ReadLaws.{Readable, readable, main_inside, located_block, working_refused, working_served, checkpoint_refused, checkpoint-served}
+use Rattle.reads.proofs.ReadLaws.{readable, main_inside, located_block, working_refused, working_served, checkpoint_refused, checkpoint-served}
 
 -- ---- zeros
 

@@ -2,7 +2,6 @@ use mathlib.Core.Path.{ap}
 use Prim.Native.Nat.{ℕ, ◌+◌, ◌*◌, ◌%◌}
 use native.Mathlib.Omega.{arith}
 use Rattle.model.specs.Layout.{state_line}
-use borrow.Author.Rules.{rules}
 use Rattle.inspect.proofs.active_line.Goals as goal
 
 pub returns : goal.returns

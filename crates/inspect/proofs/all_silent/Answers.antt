@@ -1,11 +1,3 @@
-use Prim.Native.Nat.{◌-◌, ◌≤◌}
-use mathlib.Core.Path.{◌≡◌}
-use mathlib.Core.List.{[]}
-use native.Mathlib.Omega.{arith}
-use Rattle.model.specs.Range.{all_b}
-use Rattle.model.specs.Layout.{block_size}
-use Rattle.model.specs.Reads.{checkpoint_block}
-use Rattle.model.specs.Same.{same_bytes}
 use Rattle.model.proofs.Laws.Range.{all_none, all_more}
 use borrow.Author.Rules.{rules}
 use Rattle.inspect.proofs.all_silent.Goals as goal
@@ -17,6 +9,3 @@ pub loop-b-preserved : goal.loop-b-preserved
 loop-b-preserved c =
     let l = c.loop-b in
     (search rules, all_more l.b _ l.invariant.1 c.block_is_silent-ok.ensures)
-
-pub returns : goal.returns
-returns c = let e : c.loop-b.b ≡ c.args.layout.blocks = omega arith in rw e at c.loop-b.invariant.1

@@ -1,13 +1,10 @@
 use Prim.Native.Nat.{◌-◌, ◌≤◌}
 use mathlib.Core.Path.{◌≡◌}
 use mathlib.Core.List.{[]}
-use native.Mathlib.Omega.{arith}
 use Rattle.model.specs.Range.{all_b}
 use Rattle.model.specs.Layout.{block_size}
 use Rattle.model.specs.Reads.{checkpoint_block}
 use Rattle.model.specs.Same.{same_bytes}
-use Rattle.model.proofs.Laws.Range.{all_none, all_more}
-use borrow.Author.Rules.{rules}
 use Rattle.inspect.proofs.all_silent.Given as goal
 
 abbrev pub invariant-loop-b : goal.invariant-loop-b

@@ -1,11 +1,4 @@
-use Prim.Native.Nat.{◌+◌, ◌-◌, ◌*◌, ◌≤◌}
-use mathlib.Core.Path.{◌≡◌}
 use native.Mathlib.Omega.{arith}
-use lib.ListN.{length}
-use Rattle.model.specs.Range.{cat}
-use Rattle.printer.specs.Decimal.{Appended}
-use Rattle.inspect.specs.DumpText.{level_text}
-use Rattle.inspect.specs.Room.{level_room}
 use Rattle.inspect.proofs.LineLaws.{ready, levels_none, levels_more}
 use borrow.Author.Rules.{rules}
 use Rattle.inspect.proofs.append_levels.Goals as goal
@@ -26,6 +19,3 @@ loop-i-preserved c =
     let l = c.loop-i in
     let a = c.args in
     (omega arith, omega (arith, l.invariant.1, c.append_level-place.ensures.upper_bound), omega (arith, l.invariant.2, c.append_level-place.ensures.appended.size), levels_more a.layout a.image.now l.i l.invariant.3 c.append_level-place.ensures.appended)
-
-pub returns : goal.returns
-returns c = let e : c.loop-i.i ≡ c.args.layout.mains = omega arith in rw e at c.loop-i.invariant.3

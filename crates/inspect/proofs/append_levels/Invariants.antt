@@ -1,13 +1,10 @@
 use Prim.Native.Nat.{◌+◌, ◌-◌, ◌*◌, ◌≤◌}
 use mathlib.Core.Path.{◌≡◌}
-use native.Mathlib.Omega.{arith}
 use lib.ListN.{length}
 use Rattle.model.specs.Range.{cat}
 use Rattle.printer.specs.Decimal.{Appended}
 use Rattle.inspect.specs.DumpText.{level_text}
 use Rattle.inspect.specs.Room.{level_room}
-use Rattle.inspect.proofs.LineLaws.{ready, levels_none, levels_more}
-use borrow.Author.Rules.{rules}
 use Rattle.inspect.proofs.append_levels.Given as goal
 
 abbrev pub invariant-loop-i : goal.invariant-loop-i

@@ -1,12 +1,8 @@
-use Prim.Native.Nat.{◌+◌, ◌-◌, ◌*◌, ◌≤◌}
 use mathlib.Core.Path.{◌≡◌, refl, sym, ◌∙◌}
 use native.Mathlib.Omega.{arith}
-use lib.ListN.{length}
 use Rattle.model.specs.Range.{any_b}
-use Rattle.printer.specs.Decimal.{Appended}
 use Rattle.printer.proofs.AppendedLaws.{appended_as}
-use Rattle.inspect.specs.DumpText.{block_differs, listed}
-use Rattle.inspect.specs.Room.{item_room}
+use Rattle.inspect.specs.DumpText.{block_differs}
 use Rattle.inspect.proofs.Texts.{dash-text}
 use Rattle.inspect.proofs.LineLaws.{listed_none, listed_more, any_more, list_some, list_none}
 use borrow.Author.Rules.{rules}
@@ -17,11 +13,6 @@ unfolding any_b
 loop-b-init c =
     let a = c.args in
     (search rules, omega arith, omega arith, refl, listed_none _ a.out.now a.from)
-
-pub append_item-place-requires : goal.append_item-place-requires
-append_item-place-requires c =
-    let l = c.loop-b.invariant in
-    omega (arith, l.1, l.2)
 
 pub loop-b-preserved : goal.loop-b-preserved
 loop-b-preserved c =
@@ -35,26 +26,18 @@ loop-b-preserved c =
       listed_more (block_differs a.layout a.image.now a.main) l.b l.invariant.3 d l.invariant.4 c.append_item-place.ensures.appended,
     )
 
-pub returns-then-seen : goal.returns-then-seen
-returns-then-seen c =
+pub returns-then-seen-clause-appended : goal.returns-then-seen-clause-appended
+returns-then-seen-clause-appended c =
     let l = c.loop-b in
     let a = c.args in
     let e : l.b ≡ a.layout.blocks = omega arith in
     let p = block_differs a.layout a.image.now a.main in
-    record {
-      appended = rw e at (list_some p l.b (sym l.invariant.3 ∙ c.if-seen.true) l.invariant.4);
-      upper_bound = omega (arith, l.invariant.1);
-    }
+    rw e at (list_some p l.b (sym l.invariant.3 ∙ c.if-seen.true) l.invariant.4)
 
-pub append_text-requires : goal.append_text-requires
-append_text-requires c =
-    let l = c.loop-b.invariant in
-    omega (arith, l.1, l.2)
-
-pub returns : goal.returns
-returns c =
+pub returns-clause-appended : goal.returns-clause-appended
+returns-clause-appended c =
     let l = c.loop-b in
     let a = c.args in
     let e : l.b ≡ a.layout.blocks = omega arith in
     let p = block_differs a.layout a.image.now a.main in
-    record { appended = rw e at (list_none p l.b (sym l.invariant.3 ∙ c.if-seen.false) l.invariant.4 (appended_as dash-text c.append_text.ensures)); upper_bound = omega (arith, l.invariant.1, c.append_text.ensures.place) }
+    rw e at (list_none p l.b (sym l.invariant.3 ∙ c.if-seen.false) l.invariant.4 (appended_as dash-text c.append_text.ensures))

@@ -1,15 +1,10 @@
 use Prim.Native.Nat.{◌+◌, ◌-◌, ◌*◌, ◌≤◌}
-use mathlib.Core.Path.{◌≡◌, refl, sym, ◌∙◌}
-use native.Mathlib.Omega.{arith}
+use mathlib.Core.Path.{◌≡◌}
 use lib.ListN.{length}
 use Rattle.model.specs.Range.{any_b}
 use Rattle.printer.specs.Decimal.{Appended}
-use Rattle.printer.proofs.AppendedLaws.{appended_as}
 use Rattle.inspect.specs.DumpText.{block_differs, listed}
 use Rattle.inspect.specs.Room.{item_room}
-use Rattle.inspect.proofs.Texts.{dash-text}
-use Rattle.inspect.proofs.LineLaws.{listed_none, listed_more, any_more, list_some, list_none}
-use borrow.Author.Rules.{rules}
 use Rattle.inspect.proofs.append_list.Given as goal
 
 abbrev pub invariant-loop-b : goal.invariant-loop-b

@@ -1,16 +1,14 @@
 use mathlib.Core.Path.{ap}
 use Prim.Native.Nat.{ℕ}
 use mathlib.Core.List.{List, ◌++◌}
-use native.Mathlib.Omega.{arith}
 use Rattle.text.specs.Text.{text}
 use Rattle.printer.proofs.AppendedLaws.{appended_then, appended_as}
 use Rattle.inspect.proofs.Texts.{keyed_as, saved_text, working_text}
 use Rattle.inspect.proofs.LineLaws.{part_known}
-use borrow.Author.Rules.{rules}
 use Rattle.inspect.proofs.append_parts.Goals as goal
 
-pub returns : goal.returns
-returns c =
-    record { appended = appended_then
-          (appended_as (ap (λ (v : List ℕ). text " saved=" ++ v) (part_known _ _ _ c.checkpoint_part-saved.ensures.start c.checkpoint_part-saved.ensures.size)) (keyed_as _ saved_text c.append_part-end.ensures.appended))
-          (appended_as (ap (λ (v : List ℕ). text " working=" ++ v) (part_known _ _ _ c.working_part-working.ensures.start c.working_part-working.ensures.size)) (keyed_as _ working_text c.append_part.ensures.appended)); upper_bound = omega (arith, c.append_part-end.ensures.upper_bound, c.append_part.ensures.upper_bound) }
+pub returns-clause-appended : goal.returns-clause-appended
+returns-clause-appended c =
+    appended_then
+    (appended_as (ap (λ (v : List ℕ). text " saved=" ++ v) (part_known _ _ _ c.checkpoint_part-saved.ensures.start c.checkpoint_part-saved.ensures.size)) (keyed_as _ saved_text c.append_part-end.ensures.appended))
+    (appended_as (ap (λ (v : List ℕ). text " working=" ++ v) (part_known _ _ _ c.working_part-working.ensures.start c.working_part-working.ensures.size)) (keyed_as _ working_text c.append_part.ensures.appended))

@@ -6,20 +6,16 @@ use Rattle.text.specs.Text.{text}
 use Rattle.printer.proofs.AppendedLaws.{appended_as}
 use Rattle.inspect.proofs.Texts.{keyed_as, states_text_lem, no_states_text}
 use Rattle.inspect.proofs.LineLaws.{states_none, states_some}
-use borrow.Author.Rules.{rules}
 use Rattle.inspect.proofs.append_states_at.Goals as goal
 
-pub returns-then-image-line : goal.returns-then-image-line
-returns-then-image-line c =
+pub returns-then-image-line-clause-appended : goal.returns-then-image-line-clause-appended
+returns-then-image-line-clause-appended c =
     let a = c.args in
     let l = c.active_line-line in
-    record {
-      appended = appended_as (no_states_text ∙ ap (λ (v : List ℕ). text " states-at=" ++ v) (states_none a.image.now _ l.ensures.0 (omega arith))) c.append_text.ensures;
-      upper_bound = omega (arith, c.append_text.ensures.place);
-    }
+    appended_as (no_states_text ∙ ap (λ (v : List ℕ). text " states-at=" ++ v) (states_none a.image.now _ l.ensures.0 (omega arith))) c.append_text.ensures
 
-pub returns : goal.returns
-returns c =
+pub returns-clause-appended : goal.returns-clause-appended
+returns-clause-appended c =
     let a = c.args in
-    let l = c.active_line-line in 
-    record { appended = appended_as (ap (λ (v : List ℕ). text " states-at=" ++ v) (states_some a.image.now _ l.ensures.0 (omega arith))) (keyed_as _ states_text_lem c.append_address.ensures.appended); upper_bound = omega (arith, c.append_address.ensures.upper_bound) }
+    let l = c.active_line-line in
+    appended_as (ap (λ (v : List ℕ). text " states-at=" ++ v) (states_some a.image.now _ l.ensures.0 (omega arith))) (keyed_as _ states_text_lem c.append_address.ensures.appended)

@@ -6,13 +6,17 @@ use Rattle.model.specs.Layout.{block_size}
 use Rattle.model.specs.Same.{same_bytes}
 use Rattle.inspect.specs.DumpText.{block_differs}
 use Rattle.inspect.proofs.PartLaws.{BlockOrNone, checkpoint_long, working_long}
-use borrow.Author.Rules.{rules}
 use Rattle.inspect.proofs.block_differs.Goals as goal
 
-pub parts_same-requires : goal.parts_same-requires
-parts_same-requires c =
-    let a = c.args in 
-    record { fact = subst BlockOrNone (sym c.crpm_read_checkpoint-saved.ensures.result_value) (checkpoint_long a.layout a.image.now a.main a.block); fact_2 = subst BlockOrNone (sym c.crpm_read_working-working.ensures.result_value) (working_long a.layout a.image.now a.main a.block) }
+pub parts_same-requires-clause-fact : goal.parts_same-requires-clause-fact
+parts_same-requires-clause-fact c =
+    let a = c.args in
+    subst BlockOrNone (sym c.crpm_read_checkpoint-saved.ensures.result_value) (checkpoint_long a.layout a.image.now a.main a.block)
+
+pub parts_same-requires-clause-fact_2 : goal.parts_same-requires-clause-fact_2
+parts_same-requires-clause-fact_2 c =
+    let a = c.args in
+    subst BlockOrNone (sym c.crpm_read_working-working.ensures.result_value) (working_long a.layout a.image.now a.main a.block)
 
 pub returns : goal.returns
 unfolding block_differs

@@ -1,7 +1,6 @@
 use mathlib.Core.Path.{◌∙◌}
 use native.Mathlib.Omega.{arith}
 use Rattle.inspect.proofs.LineLaws.{silent_empty, silent_set}
-use borrow.Author.Rules.{rules}
 use Rattle.inspect.proofs.is_silent.Goals as goal
 
 pub returns-then-saved-eq0 : goal.returns-then-saved-eq0

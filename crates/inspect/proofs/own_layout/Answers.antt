@@ -1,5 +1,4 @@
 use mathlib.Core.Path.{◌∙◌}
-use borrow.Author.Rules.{rules}
 use Rattle.inspect.specs.DumpText.{own_layout}
 use Rattle.inspect.proofs.own_layout.Goals as goal
 

@@ -1,8 +1,5 @@
 use Prim.Native.Nat.{◌-◌}
-use mathlib.Core.Path.{refl, ◌∙◌}
-use native.Mathlib.Omega.{arith}
-use borrow.Author.Rules.{rules}
-use Rattle.inspect.proofs.WordLaws.{Gathered, gathered_more, gathered_word}
+use Rattle.inspect.proofs.WordLaws.{Gathered}
 use Rattle.inspect.proofs.word_or_zero.Given as goal
 
 abbrev pub invariant-loop-k : goal.invariant-loop-k
