@@ -1,7 +1,7 @@
 -- Laws of what tells two images apart, and of the comparison's text.
 use Prim.Native.Nat.{ℕ, ◌≤◌, ◌<◌}
-use mathlib.Core.Path.{◌≡◌, sym, ◌∙◌}
-use mathlib.Core.Bool.{Bool, true, false, not, ◌||◌}
+use mathlib.Core.Path.{◌≡◌, sym}
+use mathlib.Core.Bool.{true, false, not}
 use mathlib.Core.List.{◌++◌}
 use lib.Dec.{ltb, eqb}
 use borrow.Author.Tests.{lt-ltb, le-ltb, eq-eqb, ne_eqb}
@@ -13,8 +13,8 @@ use Rattle.model.specs.Same.{same_outcome}
 use Rattle.model.proofs.Laws.Range.{any_first}
 use Rattle.text.specs.Text.{text}
 use Rattle.printer.specs.Decimal.{decimal}
-use Rattle.inspect.specs.DumpText.{dump_status, keyed}
-use Rattle.unlike.specs.SameText.{block_unlike, initial_unlike, main_unlike, first_main, first_block, first_byte, place_text, unlike_text, refused_text, same_text}
+use Rattle.inspect.specs.DumpText.{keyed}
+use Rattle.unlike.specs.SameText.{block_unlike, initial_unlike, main_unlike, first_block, first_byte, place_text, unlike_text, refused_text, same_text}
 
 -- two bytes
 pub differ : (a b : ℕ) → (a ≡ b → ⊥) → not (eqb a b) ≡ true

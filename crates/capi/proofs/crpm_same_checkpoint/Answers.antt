@@ -1,7 +1,6 @@
 use mathlib.Core.Path.{ap, ◌∙◌}
 use mathlib.Core.Bool.{Bool, cond}
 use Rattle.capi.proofs.CallLaws.{truth_word}
-use borrow.Author.Rules.{rules}
 use Rattle.capi.proofs.crpm_same_checkpoint.Goals as goal
 
 pub returns : goal.returns

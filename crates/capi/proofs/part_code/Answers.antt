@@ -1,5 +1,4 @@
 use mathlib.Core.Path.{sym, ◌∙◌}
-use borrow.Author.Rules.{rules}
 use Rattle.capi.proofs.part_code.Goals as goal
 
 pub returns-then-size-ne0 : goal.returns-then-size-ne0

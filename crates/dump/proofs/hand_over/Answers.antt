@@ -1,6 +1,5 @@
 use native.Mathlib.Omega.{arith}
 use Rattle.dump.proofs.FittedLaws.{fitted_short, fitted_long}
-use borrow.Author.Rules.{rules}
 use Rattle.dump.proofs.hand_over.Goals as goal
 
 pub returns-then-out-text : goal.returns-then-out-text

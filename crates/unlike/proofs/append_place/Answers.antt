@@ -4,7 +4,6 @@ use Rattle.printer.proofs.AppendedLaws.{appended_then, appended_as, number_text}
 use Rattle.inspect.proofs.Texts.{keyed_as}
 use Rattle.unlike.proofs.Texts.{frame_text, at_text, line_end-text, no_place_text}
 use Rattle.unlike.proofs.TextLaws.{place_none, place_some}
-use borrow.Author.Rules.{rules}
 use Rattle.unlike.proofs.append_place.Goals as goal
 
 pub returns-then-layout-block : goal.returns-then-layout-block

@@ -7,7 +7,6 @@ use Rattle.printer.proofs.AppendedLaws.{appended_then, appended_as}
 use Rattle.inspect.proofs.Texts.{keyed_as}
 use Rattle.unlike.specs.SameText.{refused_text}
 use Rattle.unlike.proofs.Texts.{refusal_text, first_text_lem, second_text}
-use borrow.Author.Rules.{rules}
 use Rattle.unlike.proofs.append_refused.Goals as goal
 
 pub returns-then-is_served : goal.returns-then-is_served

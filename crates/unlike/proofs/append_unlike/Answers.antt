@@ -7,7 +7,6 @@ use Rattle.printer.proofs.AppendedLaws.{appended_then, appended_as}
 use Rattle.inspect.proofs.Texts.{keyed_as}
 use Rattle.unlike.specs.SameText.{place_text, unlike_text}
 use Rattle.unlike.proofs.Texts.{level_text_lem}
-use borrow.Author.Rules.{rules}
 use Rattle.unlike.proofs.append_unlike.Goals as goal
 
 pub returns : goal.returns

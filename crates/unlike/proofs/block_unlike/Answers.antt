@@ -6,12 +6,11 @@ use Rattle.model.specs.Layout.{block_size}
 use Rattle.model.specs.Same.{same_bytes}
 use Rattle.inspect.proofs.PartLaws.{BlockOrNone, checkpoint_long}
 use Rattle.unlike.specs.SameText.{block_unlike}
-use borrow.Author.Rules.{rules}
 use Rattle.unlike.proofs.block_unlike.Goals as goal
 
 pub parts_same-requires : goal.parts_same-requires
 parts_same-requires c =
-    let a = c.args in 
+    let a = c.args in
     record { fact = subst BlockOrNone (sym c.crpm_read_checkpoint-x.ensures.result_value) (checkpoint_long a.layout a.a.now a.main a.block); fact_2 = subst BlockOrNone (sym c.crpm_read_checkpoint-y.ensures.result_value) (checkpoint_long a.layout a.b.now a.main a.block) }
 
 pub returns : goal.returns

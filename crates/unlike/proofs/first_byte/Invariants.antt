@@ -1,14 +1,8 @@
 use Prim.Native.Nat.{ℕ, ◌-◌, ◌≤◌, ◌<◌}
 use mathlib.Core.Bool.{not, false}
-use mathlib.Core.Path.{◌≡◌, sym, ◌∙◌}
-use native.Mathlib.Omega.{arith}
+use mathlib.Core.Path.{◌≡◌}
 use lib.Dec.{eqb}
 use lib.ListN.{get_or}
-use borrow.Author.Count.{below_none, below_more}
-use Rattle.model.proofs.Laws.Range.{first_none, first_found}
-use Rattle.unlike.specs.SameText.{first_byte}
-use Rattle.unlike.proofs.TextLaws.{differ, agree}
-use borrow.Author.Rules.{rules}
 use Rattle.unlike.proofs.first_byte.Given as goal
 
 abbrev pub invariant-loop-k : goal.invariant-loop-k

@@ -2,7 +2,6 @@ use mathlib.Core.Path.{ap₂, ◌∙◌}
 use Prim.Native.Nat.{ℕ}
 use mathlib.Core.List.{List}
 use Rattle.unlike.specs.SameText.{first_byte}
-use borrow.Author.Rules.{rules}
 use Rattle.unlike.proofs.first_byte_of.Goals as goal
 
 pub returns : goal.returns

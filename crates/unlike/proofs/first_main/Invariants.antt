@@ -1,11 +1,7 @@
 use Prim.Native.Nat.{ℕ, ◌-◌, ◌≤◌, ◌<◌}
 use mathlib.Core.Bool.{false}
-use mathlib.Core.Path.{◌≡◌, sym, ◌∙◌}
-use native.Mathlib.Omega.{arith}
-use borrow.Author.Count.{below_none, below_more}
-use Rattle.model.proofs.Laws.Range.{first_none, first_found}
-use Rattle.unlike.specs.SameText.{main_unlike, first_main}
-use borrow.Author.Rules.{rules}
+use mathlib.Core.Path.{◌≡◌}
+use Rattle.unlike.specs.SameText.{main_unlike}
 use Rattle.unlike.proofs.first_main.Given as goal
 
 abbrev pub invariant-loop-i : goal.invariant-loop-i

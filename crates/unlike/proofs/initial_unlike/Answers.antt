@@ -3,7 +3,6 @@ use Prim.Native.Nat.{ℕ}
 use mathlib.Core.Bool.{not, beq}
 use lib.Dec.{eqb}
 use Rattle.unlike.specs.SameText.{initial_unlike}
-use borrow.Author.Rules.{rules}
 use Rattle.unlike.proofs.initial_unlike.Goals as goal
 
 pub returns : goal.returns

@@ -1,6 +1,5 @@
 use mathlib.Core.Path.{sym, ◌∙◌}
 use Rattle.unlike.proofs.TextLaws.{unlike_initial, unlike_bytes}
-use borrow.Author.Rules.{rules}
 use Rattle.unlike.proofs.main_unlike.Goals as goal
 
 pub returns-then-initial_unlike : goal.returns-then-initial_unlike

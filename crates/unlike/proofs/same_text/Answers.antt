@@ -1,12 +1,10 @@
 use mathlib.Core.Path.{sym, ap, ◌∙◌}
 use Prim.Native.Nat.{ℕ}
-use borrow.Author.Tests.{not-true, not-false}
 use Rattle.model.specs.Status.{served}
 use Rattle.printer.proofs.AppendedLaws.{appended_as, appended_first}
 use Rattle.unlike.specs.SameText.{refused_text}
 use Rattle.unlike.proofs.Texts.{alike_text}
 use Rattle.unlike.proofs.TextLaws.{text_refused, text_alike, text_unlike}
-use borrow.Author.Rules.{rules}
 use Rattle.unlike.proofs.same_text.Goals as goal
 
 pub returns-then-not-is_served : goal.returns-then-not-is_served
