@@ -8,10 +8,15 @@ use Rattle.inspect.proofs.PartLaws.{BlockOrNone, checkpoint_long}
 use Rattle.unlike.specs.SameText.{block_unlike}
 use Rattle.unlike.proofs.block_unlike.Goals as goal
 
-pub parts_same-requires : goal.parts_same-requires
-parts_same-requires c =
+pub parts_same-requires-clause-fact : goal.parts_same-requires-clause-fact
+parts_same-requires-clause-fact c =
     let a = c.args in
-    record { fact = subst BlockOrNone (sym c.crpm_read_checkpoint-x.ensures.result_value) (checkpoint_long a.layout a.a.now a.main a.block); fact_2 = subst BlockOrNone (sym c.crpm_read_checkpoint-y.ensures.result_value) (checkpoint_long a.layout a.b.now a.main a.block) }
+    subst BlockOrNone (sym c.crpm_read_checkpoint-x.ensures.result_value) (checkpoint_long a.layout a.a.now a.main a.block)
+
+pub parts_same-requires-clause-fact_2 : goal.parts_same-requires-clause-fact_2
+parts_same-requires-clause-fact_2 c =
+    let a = c.args in
+    subst BlockOrNone (sym c.crpm_read_checkpoint-y.ensures.result_value) (checkpoint_long a.layout a.b.now a.main a.block)
 
 pub returns : goal.returns
 unfolding block_unlike

@@ -1,14 +1,9 @@
 use mathlib.Core.Path.{◌≡◌, sym, ◌∙◌}
 use native.Mathlib.Omega.{arith}
-use borrow.Author.Count.{below_none, below_more}
 use Rattle.model.proofs.Laws.Range.{first_none, first_found}
 use Rattle.unlike.specs.SameText.{first_byte}
-use Rattle.unlike.proofs.TextLaws.{differ, agree}
-use borrow.Author.Rules.{rules}
+use Rattle.unlike.proofs.TextLaws.{differ}
 use Rattle.unlike.proofs.first_byte.Goals as goal
-
-pub loop-k-init : goal.loop-k-init
-loop-k-init c = (search rules, below_none _)
 
 pub returns-then-byte_or_zero : goal.returns-then-byte_or_zero
 unfolding first_byte
@@ -18,13 +13,6 @@ returns-then-byte_or_zero c =
     let x = c.byte_or_zero.ensures in
     let y = c.byte_or_zero-in-loop-k.ensures in
     sym (first_found _ _ l.k t l.invariant.1 (differ _ _ (λ e. c.if-byte_or_zero.true (x ∙ e ∙ sym y))))
-
-pub loop-k-preserved : goal.loop-k-preserved
-loop-k-preserved c =
-    let l = c.loop-k in
-    let x = c.byte_or_zero.ensures in
-    let y = c.byte_or_zero-in-loop-k.ensures in
-    (omega arith, below_more _ _ l.invariant.1 (agree _ _ (sym x ∙ c.if-byte_or_zero.false ∙ y)))
 
 pub returns : goal.returns
 unfolding first_byte

@@ -1,13 +1,8 @@
 use mathlib.Core.Path.{◌≡◌, sym, ◌∙◌}
 use native.Mathlib.Omega.{arith}
-use borrow.Author.Count.{below_none, below_more}
 use Rattle.model.proofs.Laws.Range.{first_none, first_found}
 use Rattle.unlike.specs.SameText.{first_main}
-use borrow.Author.Rules.{rules}
 use Rattle.unlike.proofs.first_main.Goals as goal
-
-pub loop-i-init : goal.loop-i-init
-loop-i-init c = (search rules, below_none _)
 
 pub returns-then-main_unlike : goal.returns-then-main_unlike
 unfolding first_main
@@ -15,11 +10,6 @@ returns-then-main_unlike c =
     let l = c.loop-i in
     let t = c.loop-i-test.true in
     sym (first_found _ _ l.i t l.invariant.1 (sym c.main_unlike.ensures ∙ c.if-main_unlike.true))
-
-pub loop-i-preserved : goal.loop-i-preserved
-loop-i-preserved c =
-    let l = c.loop-i in
-    (omega arith, below_more _ _ l.invariant.1 (sym c.main_unlike.ensures ∙ c.if-main_unlike.false))
 
 pub returns : goal.returns
 unfolding first_main
