@@ -17,19 +17,6 @@ returns-then-not-is_served c = λ R x.
     let r = sym c.is_served.ensures ∙ c.if-not-is_served.true in
     refused_parts s g.image.now R g.trace.now c.checkpoint_status-status.result (stage_refused _ _ _ (c.checkpoint_status-status.ensures.result_value R x) r) r
 
-pub marked_segments-marked-requires : goal.marked_segments-marked-requires
-marked_segments-marked-requires c =
-    let ok = c.checkpoint_status-status.ensures.advancing (sym c.is_served.ensures ∙ c.if-not-is_served.false) in
-    (ok.mains, ok.enough)
-
-pub checkpoint_length-ops-requires : goal.checkpoint_length-ops-requires
-checkpoint_length-ops-requires c =
-    let ok = c.checkpoint_status-status.ensures.advancing (sym c.is_served.ensures ∙ c.if-not-is_served.false) in
-    record { mains_le_most = (ok.mains, ok.enough); by_index = ok.within; marked_value = c.marked_segments-marked.ensures }
-
-pub trace_status-room-requires : goal.trace_status-room-requires
-trace_status-room-requires c = omega (arith, c.checkpoint_length-ops.ensures.1)
-
 pub returns-then-not-is_served-2 : goal.returns-then-not-is_served-2
 unfolding checkpoint_status
 returns-then-not-is_served-2 c = λ R x.
@@ -41,15 +28,14 @@ returns-then-not-is_served-2 c = λ R x.
     let e = c.trace_status-room.ensures O g.trace.now (sym (c.checkpoint_length-ops.ensures.0 g.segments g.image.now)) refl in
     refused_parts s g.image.now R g.trace.now c.trace_status-room.result (e ∙ sym (stage_passed _ _ (trace_errors O g.trace.now) (omega arith) (c.checkpoint_status-status.ensures.result_value R x) z)) r
 
-pub put_checkpoint-requires : goal.put_checkpoint-requires
-put_checkpoint-requires c =
+pub put_checkpoint-requires-clause-fits : goal.put_checkpoint-requires-clause-fits
+put_checkpoint-requires-clause-fits c =
     let g = c.args in
     let s = session_of g.layout g.segments g.words.now g.domain in
     let O = for_domain g.domain (checkpoint_ops s g.image.now) in
     let e = c.trace_status-room.ensures O g.trace.now (sym (c.checkpoint_length-ops.ensures.0 g.segments g.image.now)) refl in
     let p = sym (eqb-true _ 0 (sym c.is_served-2.ensures ∙ c.if-not-is_served-2.false)) ∙ e in
-    let ok = c.checkpoint_status-status.ensures.advancing (sym c.is_served.ensures ∙ c.if-not-is_served.false) in
-    record { advancing = (ok, c.marked_segments-marked.ensures); fits = fits_whole (checkpoint_ops s g.image.now) g.trace.now p }
+    fits_whole (checkpoint_ops s g.image.now) g.trace.now p
 
 pub returns : goal.returns
 unfolding checkpoint_outcome checkpoint_status

@@ -4,33 +4,33 @@ use Rattle.model.proofs.Laws.Status.{first_holds, first_fails, first_of_none, st
 use borrow.Author.Tests.{eq-eqb, ne_eqb}
 use native.Mathlib.Omega.{arith}
 use mathlib.Core.Path.{sym, ◌∙◌}
-use mathlib.Core.Bool.{true≢false}
 use Rattle.checkpoint.proofs.checkpoint_status.Goals as goal
 
-pub returns-then-not-is_served : goal.returns-then-not-is_served
-returns-then-not-is_served c =
+pub returns-then-not-is_served-clause-result_value : goal.returns-then-not-is_served-clause-result_value
+returns-then-not-is_served-clause-result_value c =
     let r = sym c.is_served.ensures ∙ c.if-not-is_served.true in
-    record { result_value = (λ R x. stage_refused _ _ _ c.context_status-context.ensures r); advancing = (λ z. absurd (true≢false (sym z ∙ r))) }
+    λ R x. stage_refused _ _ _ c.context_status-context.ensures r
 
-pub returns-then-not-is_served-2 : goal.returns-then-not-is_served-2
-returns-then-not-is_served-2 c =
+pub returns-then-not-is_served-2-clause-result_value : goal.returns-then-not-is_served-2-clause-result_value
+returns-then-not-is_served-2-clause-result_value c =
     let g = c.args in
     let s = session_of g.layout g.segments g.words.now g.domain in
     let y = sym c.is_served.ensures ∙ c.if-not-is_served.false in
     let r = sym c.is_served-2.ensures ∙ c.if-not-is_served-2.true in
-    record { result_value = (λ R x. clients_refused s g.image.now R _ _ c.context_status-context.ensures y x r); advancing = (λ z. absurd (true≢false (sym z ∙ r))) }
+    λ R x. clients_refused s g.image.now R _ _ c.context_status-context.ensures y x r
 
 pub word_at-requires : goal.word_at-requires
 word_at-requires c =
     let g = c.args in
     omega (arith, long_enough (session_of g.layout g.segments g.words.now g.domain) g.image.now _ c.context_status-context.ensures (sym c.is_served.ensures ∙ c.if-not-is_served.false))
 
-pub returns-then-word_at-eq-LAST_EPOCH : goal.returns-then-word_at-eq-LAST_EPOCH
-returns-then-word_at-eq-LAST_EPOCH c =
+pub returns-then-word_at-eq-LAST_EPOCH-clause-result_value : goal.returns-then-word_at-eq-LAST_EPOCH-clause-result_value
+returns-then-word_at-eq-LAST_EPOCH-clause-result_value c =
     let g = c.args in
     let s = session_of g.layout g.segments g.words.now g.domain in
     let y = sym c.is_served.ensures ∙ c.if-not-is_served.false in
-    let z = sym c.is_served-2.ensures ∙ c.if-not-is_served-2.false in record { result_value = λ R x. first_holds 10 _ _ (eq-eqb _ _ (sym c.word_at.ensures ∙ c.if-word_at-eq-LAST_EPOCH.true)) ∙ sym (epoch_left s g.image.now R _ _ c.context_status-context.ensures y x z); advancing = λ h. absurd (true≢false (sym h)) }
+    let z = sym c.is_served-2.ensures ∙ c.if-not-is_served-2.false in
+    λ R x. first_holds 10 _ _ (eq-eqb _ _ (sym c.word_at.ensures ∙ c.if-word_at-eq-LAST_EPOCH.true)) ∙ sym (epoch_left s g.image.now R _ _ c.context_status-context.ensures y x z)
 
 pub returns : goal.returns
 returns c =

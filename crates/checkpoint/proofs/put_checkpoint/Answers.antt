@@ -2,12 +2,12 @@ use Rattle.trace.proofs.EmitLaws.{fits_first, fits_then, emitted_then, fits_plai
 use Rattle.model.specs.Ops.{for_domain}
 use Rattle.model.specs.Checkpoint.{checkpoint_ops}
 use mathlib.Core.Path.{refl}
-use borrow.Author.Rules.{rules}
 use Rattle.checkpoint.proofs.put_checkpoint.Goals as goal
 
-pub put_flushes-flushed-requires : goal.put_flushes-flushed-requires
+pub put_flushes-flushed-requires-clause-fits : goal.put_flushes-flushed-requires-clause-fits
 unfolding checkpoint_ops for_domain
-put_flushes-flushed-requires c = record { mains_le_most = (c.requires.advancing.0.mains, c.requires.advancing.0.blocks, c.requires.advancing.0.enough); by_index = c.requires.advancing.0.within; marked_value = c.requires.advancing.1; fits = fits_first _ (fits_first _ (fits_first _ c.requires.fits)) }
+put_flushes-flushed-requires-clause-fits c =
+    fits_first _ (fits_first _ (fits_first _ c.requires.fits))
 
 pub put_sfence-fenced-requires : goal.put_sfence-fenced-requires
 unfolding checkpoint_ops for_domain
@@ -15,11 +15,11 @@ put_sfence-fenced-requires c =
     let h = c.requires.fits in
     fits_plain refl (fits_first _ (fits_then (fits_first _ (fits_first _ h)) c.put_flushes-flushed.ensures))
 
-pub put_states-stored-requires : goal.put_states-stored-requires
+pub put_states-stored-requires-clause-fits : goal.put_states-stored-requires-clause-fits
 unfolding checkpoint_ops for_domain
-put_states-stored-requires c =
+put_states-stored-requires-clause-fits c =
     let h = c.requires.fits in
-    record { metadata_size_in_bounds = search rules; fits = fits_then (fits_then (fits_first _ (fits_first _ h)) c.put_flushes-flushed.ensures) (emitted_plain _ refl c.put_sfence-fenced.ensures) }
+    fits_then (fits_then (fits_first _ (fits_first _ h)) c.put_flushes-flushed.ensures) (emitted_plain _ refl c.put_sfence-fenced.ensures)
 
 pub put_sfence-held-requires : goal.put_sfence-held-requires
 unfolding checkpoint_ops for_domain
@@ -28,11 +28,11 @@ put_sfence-held-requires c =
     let w = emitted_then c.put_flushes-flushed.ensures (emitted_then (emitted_plain _ refl c.put_sfence-fenced.ensures) c.put_states-stored.ensures) in
     fits_plain refl (fits_first _ (fits_then (fits_first _ h) w))
 
-pub put_epoch-raised-requires : goal.put_epoch-raised-requires
+pub put_epoch-raised-requires-clause-fits : goal.put_epoch-raised-requires-clause-fits
 unfolding checkpoint_ops for_domain
-put_epoch-raised-requires c =
+put_epoch-raised-requires-clause-fits c =
     let w = emitted_then c.put_flushes-flushed.ensures (emitted_then (emitted_plain _ refl c.put_sfence-fenced.ensures) c.put_states-stored.ensures) in
-    record { word_size_in_bounds = (search rules, c.requires.advancing.0.raises); fits = fits_then (fits_then (fits_first _ c.requires.fits) w) (emitted_plain _ refl c.put_sfence-held.ensures) }
+    fits_then (fits_then (fits_first _ c.requires.fits) w) (emitted_plain _ refl c.put_sfence-held.ensures)
 
 pub put_sfence-requires : goal.put_sfence-requires
 unfolding checkpoint_ops for_domain

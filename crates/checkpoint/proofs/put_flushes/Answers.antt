@@ -1,9 +1,8 @@
-use Prim.Native.Nat.{ℕ, ◌+◌, ◌-◌, ◌*◌, ◌<◌}
+use Prim.Native.Nat.{ℕ, ◌+◌, ◌*◌, ◌<◌}
 use mathlib.Core.Path.{◌≡◌, ap, ◌∙◌}
 use mathlib.Core.List.{List, []}
 use native.Mathlib.Omega.{arith}
-use lib.Bits.{and_le_r}
-use lib.Count.{count_trailing_zeros, trailing_le}
+use lib.Count.{count_trailing_zeros}
 use borrow.Author.Rules.{rules}
 use Rattle.model.specs.declared.Layout.{Layout}
 use Rattle.model.specs.Layout.{block_size, block_lines, main_at}
@@ -30,28 +29,20 @@ loop-rest-init c =
     let small = marked_small c.args.words.now c.args.layout.mains in
     (search rules, (0, (walk_start (rw c.requires.marked_value small) (search rules), emitted_none _)))
 
-pub overflow_cast-i : goal.overflow_cast-i
-overflow_cast-i c = omega (arith, trailing_le 64 c.loop-rest.rest)
+pub put_dirty_clwbs-next-requires-clause-blocks_le_most : goal.put_dirty_clwbs-next-requires-clause-blocks_le_most
+put_dirty_clwbs-next-requires-clause-blocks_le_most c =
+    let l = c.loop-rest in
+    let w = l.invariant.1.1 in
+    let below = walk_below w.0 (omega arith) in
+    (omega arith, c.requires.by_index (count_trailing_zeros 64 l.rest) below)
 
-pub main_at-at-requires : goal.main_at-at-requires
-main_at-at-requires c = omega (arith, walk_below c.loop-rest.invariant.1.1.0 (omega arith))
-
-pub offset_bounds-words-i : goal.offset_bounds-words-i
-offset_bounds-words-i c = omega (arith, trailing_le 64 c.loop-rest.rest)
-
-pub bounds-words-i : goal.bounds-words-i
-bounds-words-i c = omega (arith, walk_below c.loop-rest.invariant.1.1.0 (omega arith))
-
-pub put_dirty_clwbs-next-requires : goal.put_dirty_clwbs-next-requires
+pub put_dirty_clwbs-next-requires-clause-fits : goal.put_dirty_clwbs-next-requires-clause-fits
 unfolding flush_dirty
-put_dirty_clwbs-next-requires c =
+put_dirty_clwbs-next-requires-clause-fits c =
     let l = c.loop-rest in
     let g = c.args in
     let w = l.invariant.1.1 in
-    let below = walk_below w.0 (omega arith) in record { blocks_le_most = (omega arith, c.requires.by_index (count_trailing_zeros 64 l.rest) below); blocks_bound = omega (arith, c.main_at-at.ensures); fits = rw c.main_at-at.ensures.0 (walk_fits (flushed g.layout g.words.now) (none g.layout g.words.now g.marked c.requires.marked_value) w.0 (omega arith) w.1 c.requires.fits) }
-
-pub loop-rest-smaller : goal.loop-rest-smaller
-loop-rest-smaller c = let m = c.loop-rest.rest in omega (arith, and_le_r m (m - 1))
+    rw c.main_at-at.ensures.0 (walk_fits (flushed g.layout g.words.now) (none g.layout g.words.now g.marked c.requires.marked_value) w.0 (omega arith) w.1 c.requires.fits)
 
 pub loop-rest-preserved : goal.loop-rest-preserved
 loop-rest-preserved c =

@@ -31,9 +31,6 @@ discarded_blocks-word-requires c =
     let d = discardable s g.image.now g.main (sym c.discard_status-status.ensures ∙ eqb-true _ 0 z) in
     omega (arith, d.main, d.sizes, c.requires)
 
-pub trace_status-room-requires : goal.trace_status-room-requires
-trace_status-room-requires c = omega (arith, c.discard_length-ops.ensures.1)
-
 pub returns-then-not-is_served-2 : goal.returns-then-not-is_served-2
 unfolding discard_status
 returns-then-not-is_served-2 c = λ R.

@@ -1,7 +1,6 @@
 use Prim.Native.Nat.{ℕ}
 use mathlib.Core.Path.{sym, ap, ◌∙◌}
 use mathlib.Core.Bool.{Bool, cond}
-use native.Mathlib.Omega.{arith}
 use lib.ListN.{set}
 use Rattle.model.specs.declared.Answer.{Answer}
 use Rattle.model.specs.Status.{code_of}
@@ -25,35 +24,4 @@ returns-then-not-is_served c =
       g.3,
       ap (λ (n : ℕ). set R n c.unchanged.result.record) (u.1 ∙ run_count a.run R e) ∙ put_past R c.unchanged.result.record
           ∙ ap (λ (b : Bool). cond b (set R a.client (with_used p.result.used (client_at R a.client))) R) (sym z) ∙ g.4,
-    )
-
-pub offset_bounds-next-main : goal.offset_bounds-next-main
-offset_bounds-next-main c =
-    let r = c.write_parts-written in
-    omega (arith, (r.ensures.main_lt_most (sym c.is_served.ensures ∙ c.if-not-is_served.false)).0)
-
-pub bounds-next-main : goal.bounds-next-main
-bounds-next-main c =
-    let r = c.write_parts-written in
-    (r.ensures.main_lt_most (sym c.is_served.ensures ∙ c.if-not-is_served.false)).0
-
-pub record_of-requires : goal.record_of-requires
-record_of-requires c =
-    let r = c.write_parts-written in
-    let w = r.ensures.main_lt_most (sym c.is_served.ensures ∙ c.if-not-is_served.false) in
-    omega (arith, w.1, w.2)
-
-pub returns : goal.returns
-returns c =
-    let a = c.args in
-    let p = c.write_parts-written in
-    let z = sym c.is_served.ensures ∙ c.if-not-is_served.false in
-    let k = c.answer_of-2.ensures in
-    λ R e.
-    let g = p.ensures.gives R e in (
-      ap code_of k.0 ∙ g.0,
-      k.1 ∙ ap (λ (b : Bool). cond b (written_session a.session a.main p.result) a.session) (sym z) ∙ g.1,
-      k.2 ∙ g.2,
-      g.3,
-      ap (set R a.client) (c.record_of.ensures R e) ∙ ap (λ (b : Bool). cond b (set R a.client (with_used p.result.used (client_at R a.client))) R) (sym z) ∙ g.4,
     )

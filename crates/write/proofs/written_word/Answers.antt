@@ -1,15 +1,8 @@
 use Prim.Native.Nat.{ℕ, ◌*◌, ◌^◌}
 use mathlib.Core.Path.{sym, ap, ◌∙◌}
 use native.Mathlib.Nat.{zero-mul, div-eq_of_lt}
-use native.Mathlib.Omega.{arith}
 use Rattle.model.specs.Session.{set_bits}
 use Rattle.write.proofs.written_word.Goals as goal
-
-pub span_blocks-count-requires : goal.span_blocks-count-requires
-span_blocks-count-requires c = omega arith
-
-pub set_blocks-requires : goal.set_blocks-requires
-set_blocks-requires c = omega (arith, c.span_blocks-count.ensures)
 
 pub returns-then-has_copy : goal.returns-then-has_copy
 returns-then-has_copy c client bytes x =
@@ -19,10 +12,3 @@ returns-then-has_copy c client bytes x =
     let n = c.span_blocks-count in
     rw (x, sym c.has_copy.ensures ∙ c.if-has_copy.true)
     (c.set_blocks.ensures ∙ ap (λ (m : ℕ). set_bits m a.span.block n.result) cleared ∙ ap (set_bits 0 a.span.block) n.ensures)
-
-pub set_blocks-requires-2 : goal.set_blocks-requires-2
-set_blocks-requires-2 c = omega (arith, c.span_blocks-count.ensures)
-
-pub returns : goal.returns
-returns c client bytes x =
-    rw (x, sym c.has_copy.ensures ∙ c.if-has_copy.false) (rw c.span_blocks-count.ensures at c.set_blocks-2.ensures)
