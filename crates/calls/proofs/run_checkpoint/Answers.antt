@@ -3,8 +3,6 @@ use mathlib.Core.Bool.{true, false}
 use mathlib.Core.List.{[]}
 use native.Mathlib.Omega.{arith}
 use lib.ListN.{get_or}
-use borrow.Author.Tests.{not-true, not-false}
-use borrow.Author.Rules.{rules}
 use Rattle.model.specs.Reference.{checkpoint_args}
 use Rattle.printer.proofs.AppendedLaws.{appended_as}
 use Rattle.calls.specs.declared.Ran.{Ran}
@@ -18,8 +16,8 @@ returns-then-not-wanted c =
     let a = c.args in
     let unwanted : a.wanted ≡ false = c.if-not-wanted.true in
     record {
-        checkpoint_ran = checkpoint_none _ a.ran _ _ _ _ _ unwanted refl (refl, refl) (appended_as no_save_text c.append_text-end.ensures);
-        place_bound = omega arith;
+      checkpoint_ran = checkpoint_none _ a.ran _ _ _ _ _ unwanted refl (refl, refl) (appended_as no_save_text c.append_text-end.ensures);
+      place_bound = omega arith;
     }
 
 pub returns : goal.returns

@@ -2,7 +2,6 @@ use mathlib.Core.Path.{refl}
 use native.Mathlib.Omega.{arith}
 use mathlib.Core.List.{[]}
 use lib.ListN.{get_or}
-use borrow.Author.Rules.{rules}
 use Rattle.calls.specs.declared.Ran.{Ran}
 use Rattle.calls.specs.Printed.{blank, write_of}
 use Rattle.calls.specs.Ran.{group_of_parts}

@@ -1,5 +1,4 @@
 use mathlib.Core.Path.{refl}
-use borrow.Author.Rules.{rules}
 use Rattle.model.specs.Outcome.{lent}
 use Rattle.carried.specs.Carried.{discards}
 use Rattle.carried.proofs.exported_discard.Goals as goal

@@ -1,4 +1,3 @@
-use borrow.Author.Rules.{rules}
 use Rattle.model.specs.Layout.{layout_of}
 use Rattle.model.specs.Outcome.{lent}
 use Rattle.clients.specs.Words.{clients_in}

@@ -1,5 +1,4 @@
 use mathlib.Core.Path.{refl}
-use borrow.Author.Rules.{rules}
 use Rattle.model.specs.Write.{write_args_of}
 use Rattle.model.specs.Outcome.{lent}
 use Rattle.clients.specs.Words.{clients_in}
