@@ -1,5 +1,4 @@
 use native.Mathlib.Omega.{arith}
-use borrow.Author.Rules.{rules}
 use Rattle.calls.specs.Ran.{group_of_parts, CheckpointRan}
 use Rattle.group.proofs.GroupLaws.{calls_ran}
 use Rattle.group.proofs.run_calls.Goals as goal

@@ -1,13 +1,9 @@
-use Prim.Native.Nat.{◌+◌, ◌-◌, ◌*◌, ◌≤◌}
 use mathlib.Core.Path.{◌≡◌, refl}
 use native.Mathlib.Omega.{arith}
 use lib.ListN.{length}
-use borrow.Author.Rules.{rules}
 use Rattle.parser.proofs.GroupLaws.{groups_end}
-use Rattle.calls.specs.Ran.{call_size}
-use Rattle.group.specs.GroupRan.{group_size}
-use Rattle.script.specs.SheetRan.{group_least, GoodFrom, groups_from}
-use Rattle.script.proofs.Story.{Story, story_none, story_more, story_end}
+use Rattle.script.specs.SheetRan.{groups_from}
+use Rattle.script.proofs.Story.{story_none, story_more, story_end}
 use Rattle.script.proofs.run_groups.Goals as goal
 
 pub loop-progress-init : goal.loop-progress-init
@@ -17,8 +13,8 @@ pub run_next-progress-requires : goal.run_next-progress-requires
 run_next-progress-requires c =
     let b = c.loop-progress in
     record {
-        input_len_bound = (c.requires.input_len_bound.0, c.loop-progress-test.true, b.invariant.0, b.invariant.2);
-        word_size_in_bounds = omega arith;
+      input_len_bound = (c.requires.input_len_bound.0, c.loop-progress-test.true, b.invariant.0, b.invariant.2);
+      word_size_in_bounds = omega arith;
     }
 
 pub loop-progress-smaller : goal.loop-progress-smaller

@@ -1,13 +1,10 @@
 use Prim.Native.Nat.{◌+◌, ◌-◌, ◌*◌, ◌≤◌}
-use mathlib.Core.Path.{◌≡◌, refl}
-use native.Mathlib.Omega.{arith}
+use mathlib.Core.Path.{◌≡◌}
 use lib.ListN.{length}
-use borrow.Author.Rules.{rules}
-use Rattle.parser.proofs.GroupLaws.{groups_end}
 use Rattle.calls.specs.Ran.{call_size}
 use Rattle.group.specs.GroupRan.{group_size}
 use Rattle.script.specs.SheetRan.{group_least, GoodFrom, groups_from}
-use Rattle.script.proofs.Story.{Story, story_none, story_more, story_end}
+use Rattle.script.proofs.Story.{Story}
 use Rattle.script.proofs.run_groups.Given as goal
 
 abbrev pub invariant-loop-progress : goal.invariant-loop-progress

@@ -1,5 +1,4 @@
 use native.Mathlib.Omega.{arith}
-use borrow.Author.Rules.{rules}
 use Rattle.script.specs.SheetRan.{groups_from}
 use Rattle.script.proofs.Story.{script_ran}
 use Rattle.script.proofs.HeaderLaws.{image_least}
