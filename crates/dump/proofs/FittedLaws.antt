@@ -2,8 +2,7 @@
 use Prim.Native.Nat.{ℕ, ◌≤◌, ◌<◌}
 use mathlib.Core.Path.{◌≡◌, ap, ◌∙◌}
 use mathlib.Core.List.{List, ◌++◌}
-use lib.ListN.{length, take, drop}
-use lib.Seq.{take-append_seam}
+use lib.ListN.{length, drop}
 use borrow.Author.Tests.{le-leb, lt-leb}
 use Rattle.printer.specs.Decimal.{Appended}
 use Rattle.printer.proofs.AppendedLaws.{appended_first}
@@ -17,7 +16,3 @@ fitted_short t out h = rw (lt-leb (length t) (length out) h)
 pub fitted_long : (t a b : List ℕ) (r : ℕ) → length t ≤ length a → Appended a 0 t b r → b ≡ fitted t a
 unfolding fitted
 fitted_long t a b r h f = rw (le-leb (length t) (length a) h) ((appended_first f).1.1 ∙ ap (λ (n : ℕ). t ++ drop n a) (appended_first f).1.0)
-
--- the text at the start of a longer one, cut off where it ends
-pub cut_off : (t x y : List ℕ) (n : ℕ) → n ≡ length t → x ≡ t ++ y → take n x ≡ t
-cut_off t x y n e q = rw (e, q) (take-append_seam t y)

@@ -40,14 +40,10 @@ pub none_is_zero : (n : ℕ) (a : List ℕ) → length a ≡ 0 → true ≡ same
 unfolding same_bytes
 none_is_zero n a e = sym (all_from n _ (λ k l. eq-eqb _ _ (past a k e)))
 
--- a part that is not there on the left, and on the right
+-- a part that is not there on the left
 pub none_left : (n : ℕ) (a b : List ℕ) → length a ≡ 0 → same_bytes n b [] ≡ same_bytes n a b
 unfolding same_bytes
 none_left n a b e = all_ext n _ _ (λ k l. eqb_turned (get_or b k 0) 0 ∙ ap (λ (x : ℕ). eqb x (get_or b k 0)) (sym (past a k e)))
-
-pub none_right : (n : ℕ) (a b : List ℕ) → length b ≡ 0 → same_bytes n a [] ≡ same_bytes n a b
-unfolding same_bytes
-none_right n a b e = all_ext n _ _ (λ k l. ap (λ (x : ℕ). eqb (get_or a k 0) x) (sym (past b k e)))
 
 -- ---- the reads
 

@@ -4,7 +4,7 @@ use mathlib.Core.Path.{◌≡◌, sym}
 use mathlib.Core.Bool.{true, false, not}
 use mathlib.Core.List.{◌++◌}
 use lib.Dec.{ltb, eqb}
-use borrow.Author.Tests.{lt-ltb, le-ltb, eq-eqb, ne_eqb}
+use borrow.Author.Tests.{lt-ltb, le-ltb, ne_eqb}
 use Rattle.model.specs.declared.Layout.{Layout}
 use Rattle.model.specs.Words.{Image}
 use Rattle.model.specs.Status.{served}
@@ -19,9 +19,6 @@ use Rattle.unlike.specs.SameText.{block_unlike, initial_unlike, main_unlike, fir
 -- two bytes
 pub differ : (a b : ℕ) → (a ≡ b → ⊥) → not (eqb a b) ≡ true
 differ a b n = rw (ne_eqb a b n)
-
-pub agree : (a b : ℕ) → a ≡ b → not (eqb a b) ≡ false
-agree a b e = rw (eq-eqb a b e)
 
 module _ (l : Layout) (I J : Image) where
   -- a main segment, by the order in which the code looks
