@@ -1,7 +1,7 @@
 -- What the contracts of this crate cite.
 pub mod Run
 pub mod Words
--- Proof machinery of walks by hand, for this crate and those above; no contract cites it.
+-- Theorems of the program logic on lending, for proofs by hand; no contract cites them.
 pub mod PlainCall
 pub mod LentShared
 pub mod Local

@@ -1,6 +1,6 @@
 // The records of clients (SPECIFICATION 5.7), which opening, write and checkpoint are lent together: taken as a value, judged
-// (refusals 13 to 15), and changed where they are lent. The functions over a slice of records are thin, since each is proved by a walk;
-// the same is here for records that stand in words, as the C interface and programs of this repository lend them.
+// (refusals 13 to 15), and changed where they are lent. The functions over a slice of records are thin; the same
+// is here for records that stand in words, as the C interface and programs of this repository lend them.
 
 #![tactic(auto)]
 
