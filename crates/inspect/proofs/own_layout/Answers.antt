@@ -1,4 +1,3 @@
-use mathlib.Core.Path.{◌∙◌}
 use Rattle.inspect.specs.DumpText.{own_layout}
 use Rattle.inspect.proofs.own_layout.Goals as goal
 
@@ -8,4 +7,4 @@ returns c =
     let z = c.word_or_zero-3.ensures in
     let y = c.word_or_zero-2.ensures in
     let x = c.word_or_zero.ensures in
-    c.new.ensures ∙ rw (x, y, z)
+    rw (x, y, z) at c.new.ensures
