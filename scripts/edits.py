@@ -5,7 +5,7 @@ import re
 # What a first error says where a fact no longer holds: two sides that differ, numbers at which a goal fails, a comparison
 # that is false, a clause of the right program that the check finds alone and no longer finds.
 SHOWS = ("the two types differ", "the two types first differ", "differ only", "the two sides first differ", "the goal fails",
-         "the part fails", "does not hold", "the facts known there allow values", "it is not proved that")
+         "the part fails", "does not hold", "does not follow from what it read", "the facts known there allow values", "it is not proved that")
 # The same of two short types, which antt prints whole, in one line. rt cuts a long line.
 BOTH = re.compile("expected type `[^`?]+`, but this has type `[^`?]+(?:`|$)")
 # And what says nothing of a fact, whatever else stands there.
