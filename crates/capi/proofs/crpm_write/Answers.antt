@@ -1,5 +1,4 @@
 use mathlib.Core.Path.{◌≡◌, refl, sym, ap, ◌∙◌}
-use native.Mathlib.Omega.{arith}
 use lib.ListN.{length, set}
 use borrow.Author.Rules.{rules}
 use Rattle.model.specs.Write.{write_args_of}
@@ -8,26 +7,6 @@ use Rattle.interface.specs.Interface.{session_words}
 use Rattle.interface.proofs.WordsLaws.{lent_session}
 use Rattle.capi.proofs.CallLaws.{write_stored, write_kept}
 use Rattle.capi.proofs.crpm_write.Goals as goal
-
-pub overflow_add-session : goal.overflow_add-session
-overflow_add-session c =
-    let r = c.write_parts-written in
-    omega (arith, (r.ensures.main_lt_most (sym c.is_served.ensures ∙ c.if-is_served.true)).0)
-
-pub offset_bounds-session-main : goal.offset_bounds-session-main
-offset_bounds-session-main c =
-    let r = c.write_parts-written in
-    omega (arith, (r.ensures.main_lt_most (sym c.is_served.ensures ∙ c.if-is_served.true)).0)
-
-pub bounds-session-main : goal.bounds-session-main
-bounds-session-main c =
-    let r = c.write_parts-written in
-    omega (arith, (r.ensures.main_lt_most (sym c.is_served.ensures ∙ c.if-is_served.true)).0)
-
-pub record_of-record-requires : goal.record_of-record-requires
-record_of-record-requires c =
-    let w = c.write_parts-written.ensures.main_lt_most (sym c.is_served.ensures ∙ c.if-is_served.true) in
-    omega (arith, w.1, w.2)
 
 pub returns-then-is_served : goal.returns-then-is_served
 returns-then-is_served c =

@@ -10,10 +10,6 @@ use Rattle.group.proofs.Texts.{epoch_bytes, step-text, space_text, epoch_text_le
 use Rattle.group.proofs.GroupLaws.{group_ran}
 use Rattle.group.proofs.run_group.Goals as goal
 
-pub append_number-place-requires : goal.append_number-place-requires
-append_number-place-requires c =
-    omega (arith, c.append_number-start.ensures.appended.size, c.append_number-start.ensures.upper_bound, c.run_calls-called.ensures.place_bound, c.requires.1)
-
 pub returns : goal.returns
 returns c =
     let a = c.args in

@@ -1,5 +1,4 @@
-use mathlib.Core.Path.{◌≡◌, refl}
-use native.Mathlib.Omega.{arith}
+use mathlib.Core.Path.{refl}
 use borrow.Author.Rules.{rules}
 use Rattle.same.proofs.SameLaws.{initial_none, initial_more}
 use Rattle.same.proofs.same_initial.Goals as goal
@@ -9,6 +8,3 @@ loop-i-init c = (search rules, initial_none _ _)
 
 pub loop-i-preserved : goal.loop-i-preserved
 loop-i-preserved c = (search rules, initial_more _ _ _ c.loop-i.invariant.1 refl)
-
-pub returns : goal.returns
-returns c = let e : c.loop-i.i ≡ c.args.mains = omega arith in rw e at c.loop-i.invariant.1

@@ -1,24 +1,10 @@
-use mathlib.Core.Path.{◌≡◌, refl}
+use mathlib.Core.Path.{◌≡◌}
 use native.Mathlib.Omega.{arith}
 use lib.ListN.{length}
 use Rattle.parser.proofs.GroupLaws.{groups_end}
 use Rattle.script.specs.SheetRan.{groups_from}
-use Rattle.script.proofs.Story.{story_none, story_more, story_end}
+use Rattle.script.proofs.Story.{story_more, story_end}
 use Rattle.script.proofs.run_groups.Goals as goal
-
-pub loop-progress-init : goal.loop-progress-init
-loop-progress-init c = (c.requires.input_len_bound.1, omega arith, omega arith, omega arith, refl, refl, story_none _ c.args.ran _ _)
-
-pub run_next-progress-requires : goal.run_next-progress-requires
-run_next-progress-requires c =
-    let b = c.loop-progress in
-    record {
-      input_len_bound = (c.requires.input_len_bound.0, c.loop-progress-test.true, b.invariant.0, b.invariant.2);
-      word_size_in_bounds = omega arith;
-    }
-
-pub loop-progress-smaller : goal.loop-progress-smaller
-loop-progress-smaller c = let x = c.run_next-progress.ensures in omega (arith, x.far, x.good.0)
 
 pub loop-progress-preserved : goal.loop-progress-preserved
 loop-progress-preserved c =

@@ -1,8 +1,7 @@
 use Prim.Native.Nat.{◌+◌}
-use mathlib.Core.Path.{refl, sym}
+use mathlib.Core.Path.{refl}
 use native.Mathlib.Omega.{arith}
 use native.Mathlib.Numerals.{add-one}
-use lib.Seq.{length-take-le}
 use Rattle.script.proofs.NextLaws.{digits_fit, next_ran}
 use Rattle.script.proofs.run_next.Goals as goal
 
@@ -10,13 +9,6 @@ pub decode_bytes-count-requires : goal.decode_bytes-count-requires
 decode_bytes-count-requires c =
     let d = digits_fit c.args.input.now c.args.progress.«at» c.requires.input_len_bound.1 c.requires.input_len_bound.2 c.group_at-read.result c.group_at-read.ensures in
     record { digits_len_bound = omega (arith, d.0); digits_value = d.1 }
-
-pub slice_bounds-run_group-end : goal.slice_bounds-run_group-end
-slice_bounds-run_group-end c =
-    sym (length-take-le _ _ (omega (arith, c.decode_bytes-count.ensures.inside, c.decode_bytes-count.ensures.long)))
-
-pub overflow_add-n : goal.overflow_add-n
-overflow_add-n c = omega (arith, c.requires.input_len_bound)
 
 pub returns : goal.returns
 returns c =
