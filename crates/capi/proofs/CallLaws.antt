@@ -1,5 +1,5 @@
 -- Laws of the exported calls: an answer of the library, handed over, is what the call returns (crate interface,
--- specs/Interface.antt); a read that finds a part is served; a truth value as a word.
+-- specs/Interface.antt); a read that finds a part is served.
 use Prim.Native.Nat.{ℕ, ◌+◌, ◌<◌}
 use mathlib.Core.Path.{◌≡◌, refl, sym, ap, ◌∙◌, subst}
 use mathlib.Core.Logic.{◌≢◌}
@@ -7,7 +7,6 @@ use mathlib.Core.Bool.{Bool, true, false, cond}
 use native.Mathlib.Omega.{arith}
 use lib.Dec.{eqb}
 use lib.ListN.{length, set}
-use mir.Val.{bool_byte}
 use borrow.Author.Tests.{eqb-true}
 use Rattle.model.specs.declared.Layout.{Layout}
 use Rattle.model.specs.declared.Session.{Session}
@@ -115,9 +114,3 @@ module _ (l : Layout) (I : Image) (i b : ℕ) (part : code.Part) where
   pub checkpoint-served : Answered I (checkpoint_part l I i b) part → part.size ≢ 0 → read_status l I i b ≡ 0
   unfolding checkpoint_part
   checkpoint-served f h = found_served (read_status l I i b) _ (λ e. h (f.size ∙ e))
-
--- ---- the comparison
-
-pub truth_word : (b : Bool) → bool_byte b ≡ cond b 1 0
-truth_word true = refl
-truth_word false = refl

@@ -1,11 +1,10 @@
 -- What a served read may go by, and that the block it finds lies inside the image.
-use Prim.Native.Nat.{ℕ, ◌+◌, ◌-◌, ◌*◌, ◌≤◌, ◌<◌}
+use Prim.Native.Nat.{ℕ, ◌+◌, ◌*◌, ◌≤◌, ◌<◌}
 use mathlib.Core.Path.{◌≡◌, sym, ap, ◌∙◌, subst}
 use mathlib.Core.Bool.{Bool, true, false}
 use mathlib.Core.List.{◌++◌}
 use native.Mathlib.Omega.{arith}
-use native.Mathlib.Nat.{add-sub_cancel_left}
-use lib.ListN.{length, take, drop}
+use lib.ListN.{length}
 use borrow.Author.Tests.{leb-false, eqb-true}
 use Rattle.model.specs.declared.Layout.{Layout}
 use Rattle.model.specs.declared.Located.{Located}
@@ -99,7 +98,3 @@ answered_none I p r h e = answered_by e (record { start = h.0; size = h.1; insid
 pub answered_block : (I : Image) (p : model.Part) (r : Part) (a c b : ℕ) → (r.start ≡ a + 256 * b) × (r.size ≡ 256) → a ≡ c → p ≡ block_part c b
     → c + 256 * b + 256 ≤ length I → Answered I p r
 answered_block I p r a c b h q e l = answered_by e (record { start = omega arith; size = h.1; inside = omega arith })
-
--- the bytes of the part
-pub part_bytes : (I : Image) (p : model.Part) (r : Part) → Answered I p r → take (r.start + r.size - r.start) (drop r.start I) ≡ part_of I p
-part_bytes I p r f = rw (add-sub_cancel_left, f.start, f.size)

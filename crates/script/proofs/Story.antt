@@ -1,12 +1,12 @@
 -- The story of a loop over groups: what they printed so far, and what the groups that are left print, is what all print.
 use Prim.Native.Nat.{ℕ, suc}
-use mathlib.Core.Path.{◌≡◌, refl, sym, ap, ◌∙◌}
+use mathlib.Core.Path.{◌≡◌, sym, ap, ◌∙◌}
 use mathlib.Core.List.{List, [], ◌∷◌, ◌++◌, append_assoc, append-nil}
 use Rattle.model.specs.declared.Layout.{Layout}
 use Rattle.model.specs.Words.{Image}
 use Rattle.parser.specs.Script.{good, Group}
 use Rattle.printer.specs.Decimal.{Appended}
-use Rattle.printer.proofs.AppendedLaws.{appended_none, appended_then, appended_as}
+use Rattle.printer.proofs.AppendedLaws.{appended_then, appended_as}
 use Rattle.calls.specs.declared.Ran.{Ran}
 use Rattle.calls.specs.Printed.{Board, after_group, group_text, groups_text, opened_board, script_text}
 use Rattle.calls.specs.Ran.{BoardAt, Opened}
@@ -22,9 +22,6 @@ Story I a gs out I' r n gs' out' =
     × ((k : Board) × BoardAt k I' r × (groups_text b 1 gs ≡ done ++ groups_text k n gs'))
 
 module _ (I : Image) (a : Ran) (gs : List Group) (out : List ℕ) where
-  pub story_none : Story I a gs out I a 1 gs out
-  story_none b «is» = ([], appended_none out a.place, (b, «is», refl))
-
   module _ (I' : Image) (r : Ran) (n : ℕ) (gs' : List Group) (out' : List ℕ) (story : Story I a gs out I' r n gs' out') where
     -- one group more
     pub story_more : (g : Group) (hs : List Group) (I'' : Image) (out'' : List ℕ) (q : Ran) → gs' ≡ g ∷ hs → GroupRan I' r n g out' I'' out'' q

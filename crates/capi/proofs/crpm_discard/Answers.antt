@@ -10,5 +10,5 @@ pub returns : goal.returns
 returns c = λ R.
     let a = c.args in
     let e : length a.session.now ≡ session_words = search rules in
-    discard_returned_lem a.image.now a.session.now e _ (lent_session a.session.now c.layout_in-layout.result e c.layout_in-layout.ensures) R a.trace.now _ _ _ a.main
+    discard_returned_lem a.image.now a.session.now e _ (lent_session a.session.now c.layout_in-layout.result e c.layout_in-layout.ensures) R a.trace.now c.discard_parts-done.new.trace c.code.result c.discard_parts-done.result.ops a.main
     c.discard_parts-done.result c.code.ensures refl (c.discard_parts-done.ensures R)
