@@ -29,13 +29,6 @@ loop-rest-init c =
     let small = marked_small c.args.words.now c.args.layout.mains in
     (search rules, (0, (walk_start (rw c.requires.marked_value small) (search rules), emitted_none _)))
 
-pub put_dirty_clwbs-next-requires-clause-blocks_le_most : goal.put_dirty_clwbs-next-requires-clause-blocks_le_most
-put_dirty_clwbs-next-requires-clause-blocks_le_most c =
-    let l = c.loop-rest in
-    let w = l.invariant.1.1 in
-    let below = walk_below w.0 (omega arith) in
-    (omega arith, c.requires.by_index (count_trailing_zeros 64 l.rest) below)
-
 pub put_dirty_clwbs-next-requires-clause-fits : goal.put_dirty_clwbs-next-requires-clause-fits
 unfolding flush_dirty
 put_dirty_clwbs-next-requires-clause-fits c =
@@ -43,6 +36,13 @@ put_dirty_clwbs-next-requires-clause-fits c =
     let g = c.args in
     let w = l.invariant.1.1 in
     rw c.main_at-at.ensures.0 (walk_fits (flushed g.layout g.words.now) (none g.layout g.words.now g.marked c.requires.marked_value) w.0 (omega arith) w.1 c.requires.fits)
+
+pub put_dirty_clwbs-next-requires-clause-blocks_le_most : goal.put_dirty_clwbs-next-requires-clause-blocks_le_most
+put_dirty_clwbs-next-requires-clause-blocks_le_most c =
+    let l = c.loop-rest in
+    let w = l.invariant.1.1 in
+    let below = walk_below w.0 (omega arith) in
+    (omega arith, c.requires.by_index (count_trailing_zeros 64 l.rest) below)
 
 pub loop-rest-preserved : goal.loop-rest-preserved
 loop-rest-preserved c =

@@ -25,18 +25,18 @@ put_dirty_zeros-requires-clause-fits c =
     let ops = zero_ops g.layout g.image.now g.word g.main _ _ c.main_at-to.ensures.0 e in
     fits_as (sym ops) c.requires.fits
 
-pub put_dirty_copies-requires-clause-blocks_in_bounds : goal.put_dirty_copies-requires-clause-blocks_in_bounds
-put_dirty_copies-requires-clause-blocks_in_bounds c =
-    let g = c.args in
-    let e = sym c.in-At.is ∙ c.checkpoint_located-located.ensures ∙ ap (λ (n : ℕ). checkpoint_located g.layout g.image.now n g.main) c.active_at-active.ensures.0 in
-    subst (Inside g.layout g.image.now) (sym e) (located_inside g.layout g.image.now (active_line g.image.now) g.main c.requires.valid c.requires.main_lt_mains.0 c.requires.main_lt_mains.2)
-
 pub put_dirty_copies-requires-clause-fits : goal.put_dirty_copies-requires-clause-fits
 put_dirty_copies-requires-clause-fits c =
     let g = c.args in
     let e = sym c.in-At.is ∙ c.checkpoint_located-located.ensures ∙ ap (λ (n : ℕ). checkpoint_located g.layout g.image.now n g.main) c.active_at-active.ensures.0 in
     let ops = copy_ops_lem g.layout g.image.now g.word g.main _ _ c.main_at-to.ensures.0 c.in-At.from e in
     fits_as (sym ops) c.requires.fits
+
+pub put_dirty_copies-requires-clause-blocks_in_bounds : goal.put_dirty_copies-requires-clause-blocks_in_bounds
+put_dirty_copies-requires-clause-blocks_in_bounds c =
+    let g = c.args in
+    let e = sym c.in-At.is ∙ c.checkpoint_located-located.ensures ∙ ap (λ (n : ℕ). checkpoint_located g.layout g.image.now n g.main) c.active_at-active.ensures.0 in
+    subst (Inside g.layout g.image.now) (sym e) (located_inside g.layout g.image.now (active_line g.image.now) g.main c.requires.valid c.requires.main_lt_mains.0 c.requires.main_lt_mains.2)
 
 pub returns-in-Nowhere : goal.returns-in-Nowhere
 returns-in-Nowhere c =
