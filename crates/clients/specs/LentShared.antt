@@ -3,6 +3,7 @@
 --     LentShared           what the holder keeps while the slice is lent: the lender's part at ν, and its own borrow at κ, open, with both halves of its ghost variable
 --     lends_shared         own (the `&κ mut [T]` ((b, o), γ, ys)) ∗ [κ]_q ∗ ts  ⊢ ⇛ own (the `&ν [T]` ((b, o), ys)) ∗ LentShared ∗ ts        T is shared by its law (`Shares`), with tokens ts, which come back
 --     lends_shared_free    own (the `&κ mut [T]` ((b, o), γ, ys)) ∗ [κ]_q  ⊢ ⇛ own (the `&ν [T]` ((b, o), ys)) ∗ LentShared        with no token, where the elements are lent so (`Lent`), as where T is Copy
+--     lends_shared_copied  the same of every T that is Copy, with no further premise
 --     shared_back          [†ν] ∗ LentShared  ⊢ ⇛ (own (the `&κ mut [T]` ((b, o), γ, ys)) ∗ [κ]_q)
 -- Assumes `Logic`.
 use Rattle.std.specs.Prelude.{refl, ℕ, List, [], ◌∷◌, length}
@@ -23,6 +24,7 @@ use denote.Shadow.{pure_l, pure_i}
 use denote.Memory.{shares}
 use denote.Shares.{Shares}
 use denote.Lends.{Lent, Lent-map}
+use denote.Copied.{Copied, each_lends}
 use denote.Slice.{slice_val, MutSlice, ShrSlice, heres, Room, shr_slice_at, mut_slice_at, coded_holeys, elements_shared}
 use denote.Lend.{Held, lends_shr_slice}
 use denote.Index.{row, opens_slice, closes_slice}
@@ -73,6 +75,11 @@ module _ (R : RattleType) (κ ν : Lft) (q : Share) (γ : GName) (b o : ℕ) (ys
         -- [the new slice; the lender's part at ν; the open borrow at κ; obs γ; auth γ]
         at_once ! $ frame ! $
         move ! (2 ∷ 3 ∷ []) $ fjoin ! $ move ! (2 ∷ 0 ∷ []) $ fjoin ! $ move ! (1 ∷ 0 ∷ []) $ fjoin ! $ done !)
+
+    pub lends_shared_copied : Copied 𝓛 R
+        → ent 𝓤 (sep 𝓤 (sem 𝓛 ((MutSlice ℓ κ R).own_val (at_name γ) vals)) (A.lft κ q))
+        (H.⇛ (sep 𝓤 (sem 𝓛 ((ShrSlice ℓ' ν R).own_val at_place vals)) (sem 𝓛 LentShared)))
+    lends_shared_copied c = lends_shared_free (each_lends 𝓛 R c full_share ys b o)
 
     pub shared_back : Room R (length ys) → ent 𝓤 (sep 𝓤 (A.dead ν) (sem 𝓛 LentShared)) (H.⇛ (sep 𝓤 (sem 𝓛 ((MutSlice ℓ κ R).own_val (at_name γ) vals)) (A.lft κ q)))
     shared_back room =
