@@ -15,7 +15,7 @@ use Rattle.model.specs.Session.{is_dirty, dirty_segment}
 use Rattle.model.specs.Write.{needs_copy, copy_plan}
 use Rattle.model.proofs.Laws.NewBackup.{any_free_new}
 use Rattle.session.specs.Parts.{session_of}
-use Rattle.metadata.specs.declared.Found.TheVariants.{Missing, Backup}
+use Rattle.std.specs.Prelude.{None, Some}
 use Rattle.metadata.specs.Find.{found_below}
 use Rattle.metadata.proofs.FindLaws.{is_paired_lem, found_backup, found_missing}
 use Rattle.copy.specs.Steps.{CopiesTo}
@@ -43,28 +43,28 @@ module _ (l : Layout) (segments : ℕ) (I : Image) (i : ℕ) where
 
     module _ (h : (dirty || not (eqb (byte_at I (line + i)) 1)) ≡ false) where
       -- else it goes to its own backup segment, or to the new one, or none is free
-      pub own_backup_lem : (j : ℕ) → Backup j ≡ found_below l.backups (paired_backup l (backup_to_main I) i) → PlanIs (OwnBackup j)
+      pub own_backup_lem : (j : ℕ) → Some j ≡ found_below l.backups (paired_backup l (backup_to_main I) i) → PlanIs (OwnBackup j)
       unfolding copy_plan
       own_backup_lem j p =
           let q = found_backup l.backups (paired_backup l (backup_to_main I) i) j p in
           let x : is_paired l (backup_to_main I) i ≡ true = is_paired_lem l (backup_to_main I) i ∙ lt-ltb _ _ q.1 in
           (λ words k. rw (copy_test line dirty e d words k, h, x) (ap OwnBackup q.0), omega (arith, q))
 
-      module _ (v : Valid l (active_state I) (backup_to_main I)) (p : Missing ≡ found_below l.backups (paired_backup l (backup_to_main I) i)) where
+      module _ (v : Valid l (active_state I) (backup_to_main I)) (p : None ≡ found_below l.backups (paired_backup l (backup_to_main I) i)) where
         unpaired : is_paired l (backup_to_main I) i ≡ false
         unpaired = is_paired_lem l (backup_to_main I) i ∙ le-ltb _ _ (found_missing l.backups (paired_backup l (backup_to_main I) i) p)
 
         some_free_lem : any_free l (active_state I) (backup_to_main I) ≡ ltb (new_backup l (active_state I) (backup_to_main I)) l.backups
         some_free_lem = any_free_new l (active_state I) (backup_to_main I) v
 
-        pub new_backup_lem : (j : ℕ) → Backup j ≡ found_below l.backups (new_backup l (active_state I) (backup_to_main I)) → PlanIs (NewBackup j)
+        pub new_backup_lem : (j : ℕ) → Some j ≡ found_below l.backups (new_backup l (active_state I) (backup_to_main I)) → PlanIs (NewBackup j)
         unfolding copy_plan
         new_backup_lem j c =
             let q = found_backup l.backups (new_backup l (active_state I) (backup_to_main I)) j c in
             let x : any_free l (active_state I) (backup_to_main I) ≡ true = some_free_lem ∙ lt-ltb _ _ q.1 in
             (λ words k. rw (copy_test line dirty e d words k, h, unpaired, x) (ap NewBackup q.0), omega (arith, q))
 
-        pub none_free_lem : Missing ≡ found_below l.backups (new_backup l (active_state I) (backup_to_main I)) → PlanIs NoneFree
+        pub none_free_lem : None ≡ found_below l.backups (new_backup l (active_state I) (backup_to_main I)) → PlanIs NoneFree
         unfolding copy_plan
         none_free_lem c =
             let x : any_free l (active_state I) (backup_to_main I) ≡ false = some_free_lem ∙ le-ltb _ _ (found_missing l.backups _ c) in

@@ -8,8 +8,7 @@ use lib.ListN.{length}
 use lib.Pow.{pow_pos}
 use borrow.Author.Tests.{leb-false, not-false}
 use Rattle.model.specs.declared.Layout.{Layout}
-use Rattle.model.specs.declared.Located.{Located}
-use Rattle.model.specs.declared.Located.TheVariants.{Nowhere, At}
+use Rattle.std.specs.Prelude.{Option, None, Some}
 use Rattle.model.specs.declared.Session.{Session}
 use Rattle.model.specs.declared.Status.{Status}
 use Rattle.model.specs.Words.{Image, word_at}
@@ -72,12 +71,12 @@ module _ (s : Session) (I : Image) (i word : ℕ) (e : word ≡ cond (is_dirty s
       go false = unfold restore_dirty in (none_dirty s.layout.blocks _)
 
 -- from and to the places that the code found: zeros, or from where the checkpoint stands
-module _ (l : Layout) (I : Image) (word i to : ℕ) (x : Located) (place : to ≡ main_at l i) where
-  pub zero_ops : Nowhere ≡ x → each_dirty word l.blocks (λ b. put_block false (to + block_size * b) (λ _. 0)) ≡ restore_dirty l I word i x
+module _ (l : Layout) (I : Image) (word i to : ℕ) (x : Option ℕ) (place : to ≡ main_at l i) where
+  pub zero_ops : None ≡ x → each_dirty word l.blocks (λ b. put_block false (to + block_size * b) (λ _. 0)) ≡ restore_dirty l I word i x
   unfolding restore_dirty
   zero_ops e = rw (place, ← e)
 
-  pub copy_ops_lem : (p : ℕ) → At p ≡ x
+  pub copy_ops_lem : (p : ℕ) → Some p ≡ x
       → each_dirty word l.blocks (λ b. put_block false (to + block_size * b) (λ k. word_at I (p + block_size * b + word_size * k))) ≡ restore_dirty l I word i x
   unfolding restore_dirty
   copy_ops_lem p e = rw (place, ← e)

@@ -6,7 +6,7 @@
 
 ghost use Rattle.std.specs.Prelude.{◌≡◌, cond, ◌++◌, ℕ, ◌^◌, ◌≤◌, ◌<◌, length, get_or};
 ghost use Rattle.model.specs.declared.Layout.{Layout};
-ghost use Rattle.model.specs.declared.Located.{Located};
+ghost use Rattle.std.specs.Prelude.{Option};
 ghost use Rattle.model.specs.Words.{Image};
 ghost use Rattle.model.specs.Layout.{most, SizesOk, image_size};
 ghost use Rattle.model.specs.Status.{code_of, first_error};
@@ -59,7 +59,7 @@ fn discarded_blocks(segments: u64, words: &[u64], main: u64) -> u64
 
 // How many operations that is, wherever the checkpoint stands and whatever the kind of module: none of them is a write-back.
 fn discard_length(word: u64) -> u64
-    ensures { ((d : ℕ) (l : Layout) (I : Image) (i : ℕ) (from : Located) → word < 2 ^ l.blocks → result ≡ length (for_domain d (restore_dirty l I word i from))) × (result ≤ 2 ^ 33) }
+    ensures { ((d : ℕ) (l : Layout) (I : Image) (i : ℕ) (from : Option ℕ) → word < 2 ^ l.blocks → result ≡ length (for_domain d (restore_dirty l I word i from))) × (result ≤ 2 ^ 33) }
 {
     Layout::BLOCK_WORDS * session::dirty_count(word)
 }
@@ -84,8 +84,8 @@ fn put_discard(
     let active = metadata::active_at(image);
     let located = metadata::checkpoint_located(image, layout, active, main);
     match located {
-        Located::Nowhere => segments::put_dirty_zeros(blocks, word, to, domain, trace, 0),
-        Located::At(from) => {
+        (Option ℕ)::None => segments::put_dirty_zeros(blocks, word, to, domain, trace, 0),
+        (Option ℕ)::Some(from) => {
             segments::put_dirty_copies(
                 image,
                 blocks,

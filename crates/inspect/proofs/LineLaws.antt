@@ -19,8 +19,7 @@ use Rattle.model.specs.Reads.{Part, checkpoint_part, checkpoint_block}
 use Rattle.model.specs.Same.{same_bytes}
 use Rattle.model.proofs.Laws.Range.{or_none}
 use Rattle.reads.proofs.ReadLaws.{readable}
-use Rattle.metadata.specs.declared.Found.{Found}
-use Rattle.metadata.specs.declared.Found.TheVariants.{Missing, Backup}
+use Rattle.std.specs.Prelude.{Option, None, Some}
 use Rattle.metadata.specs.Find.{found_below}
 use Rattle.text.specs.Text.{text}
 use Rattle.printer.specs.Decimal.{decimal, Appended}
@@ -48,27 +47,27 @@ states_some I p q h = rw (le-leb (active_line I + line_size) (length I) (rw q at
 
 -- ---- the line of a main segment
 
-abbrev found : Found → ℕ
-found Missing = 0
-found (Backup j) = suc j
+abbrev found : Option ℕ → ℕ
+found None = 0
+found (Some j) = suc j
 
 module _ (l : Layout) (I : Image) (i : ℕ) where
   abbrev paired : ℕ
   paired = paired_backup l (backup_to_main I) i
 
-  pub backup_none : Missing ≡ found_below l.backups paired → dash ≡ backup_text l I i
+  pub backup_none : None ≡ found_below l.backups paired → dash ≡ backup_text l I i
   unfolding backup_text found_below
   backup_none = go (ltb paired l.backups)
     where
-      go : (t : Bool) → Missing ≡ cond t (Backup paired) Missing → dash ≡ cond t (decimal paired) dash
+      go : (t : Bool) → None ≡ cond t (Some paired) None → dash ≡ cond t (decimal paired) dash
       go true e = absurd (suc-ne-zero _ (sym (ap found e)))
       go false e = refl
 
-  pub backup_some : (j : ℕ) → Backup j ≡ found_below l.backups paired → decimal j ≡ backup_text l I i
+  pub backup_some : (j : ℕ) → Some j ≡ found_below l.backups paired → decimal j ≡ backup_text l I i
   unfolding backup_text found_below
   backup_some j = go (ltb paired l.backups)
     where
-      go : (t : Bool) → Backup j ≡ cond t (Backup paired) Missing → decimal j ≡ cond t (decimal paired) dash
+      go : (t : Bool) → Some j ≡ cond t (Some paired) None → decimal j ≡ cond t (decimal paired) dash
       go true e = ap decimal (suc_inj (ap found e))
       go false e = absurd (suc-ne-zero _ (ap found e))
 

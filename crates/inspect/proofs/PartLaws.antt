@@ -10,8 +10,7 @@ use lib.Dec.{eqb}
 use lib.ListN.{length, get_or, length-take, length-drop, get_or-eq_default}
 use borrow.Author.Tests.{eq-eqb, ne_eqb}
 use Rattle.model.specs.declared.Layout.{Layout}
-use Rattle.model.specs.declared.Located.{Located}
-use Rattle.model.specs.declared.Located.TheVariants.{Nowhere, At}
+use Rattle.std.specs.Prelude.{Option, None, Some}
 use Rattle.model.specs.Words.{Image}
 use Rattle.model.specs.Layout.{main_at}
 use Rattle.model.specs.Status.{served}
@@ -67,17 +66,17 @@ module _ (l : Layout) (I : Image) (i b : ℕ) where
       go false e = inl (none_part I _ (working_refused l I i b e))
 
   -- the part of a checkpoint that stands there
-  located_long : (x : Located) → x ≡ checkpoint_located l I (active_line I) i → served (read_status l I i b) ≡ true
+  located_long : (x : Option ℕ) → x ≡ checkpoint_located l I (active_line I) i → served (read_status l I i b) ≡ true
       → ((checkpoint_part l I i b).size ≡ (located_part x 0).size) × (length (checkpoint_block l I i b) ≡ (located_part x 0).size)
-  located_long Nowhere q e = let p = checkpoint-served l I i b Nowhere e q in (rw p refl, none_part I _ p)
-  located_long (At x) q e = let p = checkpoint-served l I i b (At x) e q in (rw p refl, block_part_lem I _ x b p (located_block l I i b (readable l I i b e) x q))
+  located_long None q e = let p = checkpoint-served l I i b None e q in (rw p refl, none_part I _ p)
+  located_long (Some x) q e = let p = checkpoint-served l I i b (Some x) e q in (rw p refl, block_part_lem I _ x b p (located_block l I i b (readable l I i b e) x q))
 
   pub checkpoint_long : BlockOrNone (checkpoint_block l I i b)
   checkpoint_long = go (served (read_status l I i b)) refl
     where
-      found : (x : Located) → x ≡ checkpoint_located l I (active_line I) i → served (read_status l I i b) ≡ true → BlockOrNone (checkpoint_block l I i b)
-      found Nowhere q e = inl (located_long Nowhere q e).1
-      found (At p) q e = inr (omega (arith, (located_long (At p) q e).1))
+      found : (x : Option ℕ) → x ≡ checkpoint_located l I (active_line I) i → served (read_status l I i b) ≡ true → BlockOrNone (checkpoint_block l I i b)
+      found None q e = inl (located_long None q e).1
+      found (Some p) q e = inr (omega (arith, (located_long (Some p) q e).1))
 
       go : (s : Bool) → served (read_status l I i b) ≡ s → BlockOrNone (checkpoint_block l I i b)
       go true e = found (checkpoint_located l I (active_line I) i) refl e
@@ -98,6 +97,6 @@ module _ (l : Layout) (I : Image) (ok : ContainerOk l I) (i : ℕ) (hi : i < l.m
   pub size_whole : size ≢ 0 → size ≡ 256
   size_whole n = go (checkpoint_located l I (active_line I) i) refl
     where
-      go : (x : Located) → x ≡ checkpoint_located l I (active_line I) i → size ≡ 256
-      go Nowhere q = absurd (n (located_long l I i 0 Nowhere q (given 0 (omega (arith, ok.sizes.2)))).0)
-      go (At p) q = (located_long l I i 0 (At p) q (given 0 (omega (arith, ok.sizes.2)))).0
+      go : (x : Option ℕ) → x ≡ checkpoint_located l I (active_line I) i → size ≡ 256
+      go None q = absurd (n (located_long l I i 0 None q (given 0 (omega (arith, ok.sizes.2)))).0)
+      go (Some p) q = (located_long l I i 0 (Some p) q (given 0 (omega (arith, ok.sizes.2)))).0

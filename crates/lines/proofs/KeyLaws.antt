@@ -5,7 +5,7 @@ use mathlib.Core.Bool.{Bool}
 use mathlib.Core.List.{List}
 use native.Mathlib.Omega.{arith}
 use lib.ListN.{length}
-use Rattle.text.specs.declared.Number.{Number}
+use Rattle.std.specs.Prelude.{Option}
 use Rattle.text.specs.Text.{starts_with, Line, number_of}
 use Rattle.lines.specs.Line.{most_size, most_number, within, is_size, is_number, is_bytes, key, named}
 
@@ -27,7 +27,7 @@ pub good_bytes : (k : ℕ) (v : List ℕ) {r : Bool} → k ≡ 6 → r ≡ is_by
 unfolding key
 good_bytes k v e h = rw e h
 
-pub good_flag : (k : ℕ) (v : List ℕ) {n : Number} {r : Bool} → k ≡ 7 → n ≡ number_of v → r ≡ within 0 1 n → r ≡ (key k).takes v
+pub good_flag : (k : ℕ) (v : List ℕ) {n : Option ℕ} {r : Bool} → k ≡ 7 → n ≡ number_of v → r ≡ within 0 1 n → r ≡ (key k).takes v
 unfolding key
 good_flag k v e q h = h ∙ rw (e, q)
 
@@ -46,10 +46,10 @@ number_takes (suc zero) v h = refl
 number_takes (suc (suc zero)) v h = refl
 number_takes (suc (suc (suc j))) v h = let z : ⊥ = omega arith in absurd z
 
-pub good_size : (k : ℕ) (v : List ℕ) {n : Number} {r : Bool} → k ≤ 2 → n ≡ number_of v → r ≡ within 1 most_size n → r ≡ (key k).takes v
+pub good_size : (k : ℕ) (v : List ℕ) {n : Option ℕ} {r : Bool} → k ≤ 2 → n ≡ number_of v → r ≡ within 1 most_size n → r ≡ (key k).takes v
 good_size k v h q e = e ∙ rw q (size_takes k v h)
 
-pub good_number : (k : ℕ) (v : List ℕ) {n : Number} {r : Bool} → 2 < k → k ≤ 5 → n ≡ number_of v → r ≡ within 0 most_number n → r ≡ (key k).takes v
+pub good_number : (k : ℕ) (v : List ℕ) {n : Option ℕ} {r : Bool} → 2 < k → k ≤ 5 → n ≡ number_of v → r ≡ within 0 most_number n → r ≡ (key k).takes v
 good_number k v l h q e =
     let s : 3 + (k - 3) ≡ k = omega arith in
     e ∙ rw q (number_takes (k - 3) v (omega arith)) ∙ ap (λ (i : ℕ). (key i).takes v) s

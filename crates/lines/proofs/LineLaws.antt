@@ -11,8 +11,7 @@ use lib.ListN.{length, get_or, drop, length-drop, length-take}
 use borrow.Author.Tests.{ne_eqb, leb-true, eqb-true}
 use Rattle.model.specs.Range.{cat}
 use Rattle.model.proofs.Laws.Range.{and_left, and_right}
-use Rattle.text.specs.declared.Number.{Number}
-use Rattle.text.specs.declared.Number.TheVariants.{None, Is}
+use Rattle.std.specs.Prelude.{Option, None, Some}
 use Rattle.text.specs.Text.{text, starts_with, Line, number_of}
 use Rattle.text.proofs.NameLaws.{starts_long, starts_at}
 use Rattle.lines.specs.Line.{most_size, within, is_size, key, named, value_of, good_line, or_zero}
@@ -72,9 +71,9 @@ module _ (k : ℕ) (l : Line) (g : good_line k l ≡ true) where
       ]
 
 -- a size is from 1 to 4
-pub size_bounds : (n : Number) → within 1 most_size n ≡ true → (1 ≤ or_zero n) × (or_zero n ≤ most_size)
+pub size_bounds : (n : Option ℕ) → within 1 most_size n ≡ true → (1 ≤ or_zero n) × (or_zero n ≤ most_size)
 size_bounds None h = absurd (true≢false (sym h))
-size_bounds (Is n) h = (leb-true 1 n (and_left (leb 1 n) (leb n 4) h), leb-true n 4 (and_right (leb 1 n) (leb n 4) h))
+size_bounds (Some n) h = (leb-true 1 n (and_left (leb 1 n) (leb n 4) h), leb-true n 4 (and_right (leb 1 n) (leb n 4) h))
 
 -- a size has at most three digits, so that the line of one is short
 size_short : (v : List ℕ) → is_size v ≡ true → length v ≤ 3

@@ -2,8 +2,7 @@
 -- line is good. Assumes nothing.
 use Rattle.std.specs.Prelude.{ℕ, ◌-◌, Bool, false, ◌&&◌, List, [], ◌∷◌, leb, eqb, length, get_or, take, drop}
 use Rattle.text.specs.Text.{text, starts_with, Line, line_end, number_of, hex_pairs}
-use Rattle.text.specs.declared.Number.{Number}
-use Rattle.text.specs.declared.Number.TheVariants.{None, Is}
+use Rattle.std.specs.Prelude.{Option, None, Some}
 
 -- the most hexadecimal digits of a value: two for each byte of the largest main segment of a sheet
 abbrev pub most_digits : ℕ
@@ -19,9 +18,9 @@ abbrev pub most_number : ℕ
 most_number = 999
 
 -- whether there is a number from `least` to `most`
-abbrev pub within : ℕ → ℕ → Number → Bool
+abbrev pub within : ℕ → ℕ → Option ℕ → Bool
 within least most None = false
-within least most (Is n) = leb least n && leb n most
+within least most (Some n) = leb least n && leb n most
 
 -- what may stand behind a key: a size from 1 to 4, a number, an even count of hexadecimal digits, 0 or 1
 abbrev pub is_size : List ℕ → Bool
@@ -98,9 +97,9 @@ unfoldable pub good_line : ℕ → Line → Bool
 good_line k l = named k l && eqb (get_or l (length l - 1) 0) line_end && (key k).takes (value_of k l)
 
 -- a number, or 0 for none; the number that stands for key k in a line, which a good line has
-abbrev pub or_zero : Number → ℕ
+abbrev pub or_zero : Option ℕ → ℕ
 or_zero None = 0
-or_zero (Is n) = n
+or_zero (Some n) = n
 
 abbrev pub number_in : ℕ → Line → ℕ
 number_in k l = or_zero (number_of (value_of k l))

@@ -16,8 +16,7 @@ use Rattle.model.proofs.Laws.Range.{any_first, first_some, first_none, first_fou
 use Rattle.model.proofs.Laws.Words.{word_moved}
 use Rattle.model.proofs.Laws.Container.{unpaired_none}
 use Rattle.model.proofs.Laws.NewBackup.{new_alone, new_unused}
-use Rattle.metadata.specs.declared.Found.{Found}
-use Rattle.metadata.specs.declared.Found.TheVariants.{Missing, Backup}
+use Rattle.std.specs.Prelude.{Option, None, Some}
 use Rattle.metadata.specs.Find.{found_below}
 
 -- a main segment is paired exactly if the search for its backup segment finds one
@@ -27,24 +26,24 @@ is_paired_lem l pr i = any_first l.backups (λ (j : ℕ). eqb (pr j) i)
 
 -- ---- what a search answers
 
-number : Found → ℕ
-number Missing = 0
-number (Backup j) = j
+number : Option ℕ → ℕ
+number None = 0
+number (Some j) = j
 
-is_backup : Found → Bool
-is_backup Missing = false
-is_backup (Backup j) = true
+is_backup : Option ℕ → Bool
+is_backup None = false
+is_backup (Some j) = true
 
 module _ (n k : ℕ) where
-  pub found_at : (j : ℕ) → j < n → k ≡ j → Backup j ≡ found_below n k
+  pub found_at : (j : ℕ) → j < n → k ≡ j → Some j ≡ found_below n k
   unfolding found_below
   found_at j h e = rw (e, lt-ltb j n h)
 
-  pub found_none : n ≤ k → Missing ≡ found_below n k
+  pub found_none : n ≤ k → None ≡ found_below n k
   unfolding found_below
   found_none h = rw (le-ltb k n h)
 
-  pub found_backup : (j : ℕ) → Backup j ≡ found_below n k → (j ≡ k) × (k < n)
+  pub found_backup : (j : ℕ) → Some j ≡ found_below n k → (j ≡ k) × (k < n)
   unfolding number is_backup
   found_backup j h = go (dec_lt k n)
     where
@@ -52,7 +51,7 @@ module _ (n k : ℕ) where
       go (yes b) = (ap number (h ∙ sym (found_at k b refl)), b)
       go (no b) = absurd (true≢false (ap is_backup (h ∙ sym (found_none (omega arith)))))
 
-  pub found_missing : Missing ≡ found_below n k → n ≤ k
+  pub found_missing : None ≡ found_below n k → n ≤ k
   unfolding is_backup
   found_missing h = go (dec_lt k n)
     where

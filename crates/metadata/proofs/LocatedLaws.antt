@@ -4,8 +4,7 @@ use mathlib.Core.Path.{◌≡◌, refl, subst}
 use native.Mathlib.Omega.{arith}
 use lib.ListN.{length}
 use Rattle.model.specs.declared.Layout.{Layout}
-use Rattle.model.specs.declared.Located.{Located}
-use Rattle.model.specs.declared.Located.TheVariants.{Nowhere, At}
+use Rattle.std.specs.Prelude.{Option, None, Some}
 use Rattle.model.specs.Layout.{ss_initial, ss_main, ss_backup, image_size, segment_size, main_at, backup_at}
 use Rattle.model.specs.Words.{Image}
 use Rattle.model.specs.Container.{seg_state, backup_to_main, Valid, paired_backup, by_state, checkpoint_located}
@@ -13,21 +12,21 @@ use Rattle.model.proofs.Laws.Layout.{segment_in_image}
 use Rattle.model.proofs.Laws.Container.{kept_at}
 
 -- a segment that starts there ends inside the image
-abbrev pub Inside : Layout → Image → Located → Type 0
-Inside l I Nowhere = Unit {0}
-Inside l I (At p) = p + segment_size l ≤ length I
+abbrev pub Inside : Layout → Image → Option ℕ → Type 0
+Inside l I None = Unit {0}
+Inside l I (Some p) = p + segment_size l ≤ length I
 
 module _ (l : Layout) (I : Image) (line i : ℕ) where
   -- by the state of the main segment
-  pub located_nowhere : seg_state I line i ≡ ss_initial → Nowhere ≡ checkpoint_located l I line i
+  pub located_nowhere : seg_state I line i ≡ ss_initial → None ≡ checkpoint_located l I line i
   unfolding checkpoint_located by_state
   located_nowhere h = rw h
 
-  pub located_main : seg_state I line i ≡ ss_main → At (main_at l i) ≡ checkpoint_located l I line i
+  pub located_main : seg_state I line i ≡ ss_main → Some (main_at l i) ≡ checkpoint_located l I line i
   unfolding checkpoint_located by_state
   located_main h = rw h
 
-  pub located_backup : seg_state I line i ≡ ss_backup → At (backup_at l (paired_backup l (backup_to_main I) i)) ≡ checkpoint_located l I line i
+  pub located_backup : seg_state I line i ≡ ss_backup → Some (backup_at l (paired_backup l (backup_to_main I) i)) ≡ checkpoint_located l I line i
   unfolding checkpoint_located by_state
   located_backup h = rw h
 

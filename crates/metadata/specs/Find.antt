@@ -1,8 +1,7 @@
 -- What a search for a backup segment answers: a helper's, which says nothing that users rely on. Assumes nothing.
 use Rattle.std.specs.Prelude.{ℕ, cond, ltb}
-use Rattle.metadata.specs.declared.Found.{Found}
-use Rattle.metadata.specs.declared.Found.TheVariants.{Missing, Backup}
+use Rattle.std.specs.Prelude.{Option, None, Some}
 
 -- what a search answers that looks for a number below the number of backup segments
-unfoldable pub found_below : ℕ → ℕ → Found
-found_below backups j = cond (ltb j backups) (Backup j) Missing
+unfoldable pub found_below : ℕ → ℕ → Option ℕ
+found_below backups j = cond (ltb j backups) (Some j) None

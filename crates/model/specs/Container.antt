@@ -3,8 +3,7 @@
 -- line. Assumes nothing.
 use Rattle.std.specs.Prelude.{ℕ, zero, suc, ◌+◌, ◌≤◌, ◌<◌, ◌≡◌, ◌≢◌, ◌⊎◌, Bool, not, cond, ◌&&◌, ◌||◌, List, [], ◌∷◌, ◌++◌, leb, ltb, eqb, length, take, drop, replicate}
 use Rattle.model.specs.declared.Layout.{Layout}
-use Rattle.model.specs.declared.Located.{Located}
-use Rattle.model.specs.declared.Located.TheVariants.{Nowhere, At}
+use Rattle.std.specs.Prelude.{Option, None, Some}
 use Rattle.model.specs.Range.{cat, all_b, any_b, first_b, sum_to, one_if}
 use Rattle.model.specs.Words.{Image, byte_at, word_at}
 use Rattle.model.specs.Layout.{most, epoch_at, mains_at, backups_at, blocks_at, pairs_at, unpaired, ss_initial, ss_main, ss_backup, state_line, segment_size, main_at, backup_at, sizes_ok, image_size}
@@ -104,18 +103,18 @@ by_state (suc zero) a b c = b
 by_state (suc (suc n)) a b c = c
 
 -- where the checkpoint of main segment i stands, by a line of states: nowhere, in itself, or in its backup
-unfoldable pub checkpoint_located : Layout → Image → ℕ → ℕ → Located
+unfoldable pub checkpoint_located : Layout → Image → ℕ → ℕ → Option ℕ
 checkpoint_located l I line i =
-    by_state (seg_state I line i) Nowhere (At (main_at l i)) (At (backup_at l (paired_backup l (backup_to_main I) i)))
+    by_state (seg_state I line i) None (Some (main_at l i)) (Some (backup_at l (paired_backup l (backup_to_main I) i)))
 
 -- the bytes of a segment that starts at a place
 abbrev pub segment_bytes : Layout → Image → ℕ → List ℕ
 segment_bytes l I at = take (segment_size l) (drop at I)
 
 -- and of one that stands nowhere: zeros
-abbrev pub located_bytes : Layout → Image → Located → List ℕ
-located_bytes l I Nowhere = replicate (segment_size l) 0
-located_bytes l I (At p) = segment_bytes l I p
+abbrev pub located_bytes : Layout → Image → Option ℕ → List ℕ
+located_bytes l I None = replicate (segment_size l) 0
+located_bytes l I (Some p) = segment_bytes l I p
 
 -- the checkpoint of main segment i, by a line of states
 unfoldable pub checkpoint_segment : Layout → Image → ℕ → ℕ → List ℕ

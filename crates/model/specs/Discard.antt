@@ -3,8 +3,7 @@
 use Rattle.std.specs.Prelude.{ℕ, ◌+◌, ◌*◌, false, cond, [], ◌++◌}
 use Rattle.model.specs.declared.Layout.{Layout}
 use Rattle.model.specs.declared.Session.{Session}
-use Rattle.model.specs.declared.Located.{Located}
-use Rattle.model.specs.declared.Located.TheVariants.{Nowhere, At}
+use Rattle.std.specs.Prelude.{Option, None, Some}
 use Rattle.model.specs.Words.{Image, word_at}
 use Rattle.model.specs.Layout.{word_size, block_size, main_at}
 use Rattle.model.specs.Status.{Errors, first_error}
@@ -14,13 +13,13 @@ use Rattle.model.specs.Ops.{Ops, for_domain, put_block, each_dirty, trace_errors
 use Rattle.model.specs.Outcome.{Lent, Outcome, outcome_of}
 
 -- word k of block b of what stands there: as it is in the image, or 0 where nothing stands
-abbrev pub located_word : Image → Located → ℕ → ℕ → ℕ
-located_word I Nowhere b k = 0
-located_word I (At p) b k = word_at I (p + block_size * b + word_size * k)
+abbrev pub located_word : Image → Option ℕ → ℕ → ℕ → ℕ
+located_word I None b k = 0
+located_word I (Some p) b k = word_at I (p + block_size * b + word_size * k)
 
 -- the blocks of main segment i that are dirty by its word, stored again as they stand there, upward: 32 stores a block, which are not
 -- written back
-unfoldable pub restore_dirty : Layout → Image → ℕ → ℕ → Located → Ops
+unfoldable pub restore_dirty : Layout → Image → ℕ → ℕ → Option ℕ → Ops
 restore_dirty l I word i from =
     each_dirty word l.blocks (λ b. put_block false (main_at l i + block_size * b) (located_word I from b))
 

@@ -2,8 +2,7 @@
 -- nothing.
 use Rattle.std.specs.Prelude.{ℕ, ◌+◌, ◌*◌, cond, List, ◌++◌, take, drop}
 use Rattle.model.specs.declared.Layout.{Layout}
-use Rattle.model.specs.declared.Located.{Located}
-use Rattle.model.specs.declared.Located.TheVariants.{Nowhere, At}
+use Rattle.std.specs.Prelude.{Option, None, Some}
 use Rattle.model.specs.Words.{Image}
 use Rattle.model.specs.Layout.{block_size, main_at}
 use Rattle.model.specs.Status.{Errors, first_error, served}
@@ -34,9 +33,9 @@ abbrev pub block_part : ℕ → ℕ → Part
 block_part at b = record { start = at + block_size * b; size = block_size }
 
 -- block b of what stands there, or no part
-abbrev pub located_part : Located → ℕ → Part
-located_part Nowhere b = no_part
-located_part (At p) b = block_part p b
+abbrev pub located_part : Option ℕ → ℕ → Part
+located_part None b = no_part
+located_part (Some p) b = block_part p b
 
 -- the working read: the block in its main segment
 unfoldable pub working_part : Layout → Image → ℕ → ℕ → Part

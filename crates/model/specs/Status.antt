@@ -1,26 +1,31 @@
 -- Status numbers (SPECIFICATION 14) and the rule that picks one. Assumes nothing.
 use Rattle.std.specs.Prelude.{ℕ, Bool, cond, List, [], ◌∷◌, eqb}
-use Rattle.model.specs.declared.Status.{Status}
-use Rattle.model.specs.declared.Status.TheVariants.{Served, BadSize, BadLength, Foreign, Invalid, BadSession, NoSuchMain, NoSuchBlock, BadSpan, NoFreeBackup, EpochLimit, TraceShort, TraceBad, BadClients, QuotaReached, BackupsReserved}
+use Rattle.std.specs.Prelude.{Result, Ok, Err}
+use Rattle.model.specs.declared.Refusal.{Refusal}
+use Rattle.model.specs.declared.Refusal.TheVariants.{BadSize, BadLength, Foreign, Invalid, BadSession, NoSuchMain, NoSuchBlock, BadSpan, NoFreeBackup, EpochLimit, TraceShort, TraceBad, BadClients, QuotaReached, BackupsReserved}
 
--- the number of each status (SPECIFICATION 14.1)
-abbrev pub code_of : Status → ℕ
-code_of Served = 0
-code_of BadSize = 1
-code_of BadLength = 2
-code_of Foreign = 3
-code_of Invalid = 4
-code_of BadSession = 5
-code_of NoSuchMain = 6
-code_of NoSuchBlock = 7
-code_of BadSpan = 8
-code_of NoFreeBackup = 9
-code_of EpochLimit = 10
-code_of TraceShort = 11
-code_of TraceBad = 12
-code_of BadClients = 13
-code_of QuotaReached = 14
-code_of BackupsReserved = 15
+-- the number of each refusal (SPECIFICATION 14.1)
+abbrev pub refusal_number : Refusal → ℕ
+refusal_number BadSize = 1
+refusal_number BadLength = 2
+refusal_number Foreign = 3
+refusal_number Invalid = 4
+refusal_number BadSession = 5
+refusal_number NoSuchMain = 6
+refusal_number NoSuchBlock = 7
+refusal_number BadSpan = 8
+refusal_number NoFreeBackup = 9
+refusal_number EpochLimit = 10
+refusal_number TraceShort = 11
+refusal_number TraceBad = 12
+refusal_number BadClients = 13
+refusal_number QuotaReached = 14
+refusal_number BackupsReserved = 15
+
+-- the number of a call's status: 0 where it is served, whatever it then gives, and else that of its refusal
+abbrev pub code_of : {A : Type 0} → Result A Refusal → ℕ
+code_of (Ok a) = 0
+code_of (Err r) = refusal_number r
 
 -- a call's list of refusals: each number with the condition under which it applies
 abbrev pub Errors : Type 0

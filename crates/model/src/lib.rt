@@ -6,11 +6,10 @@
 ghost use Rattle.std.specs.Prelude.{◌≡◌};
 ghost use Rattle.model.specs.Layout.{layout_of};
 ghost use Rattle.model.specs.Session.{fresh_session};
-ghost use Rattle.model.specs.Status.{code_of, served};
-ghost use Rattle.model.specs.declared.Status.TheVariants.{Served};
+ghost use Rattle.model.specs.Status.{code_of, refusal_number};
 
 // The sizes of a container (the trade: M levels, S spares, B frames), each 1 to 64 (SPECIFICATION 1.2).
-#[derive(Clone, Copy)]
+#[derive(Clone, Copy, PartialEq, Eq)]
 pub struct Layout {
     // Main segments (the trade: levels).
     pub mains: u64,
@@ -67,9 +66,9 @@ impl Layout {
         ensures { result ≡ layout_of mains backups blocks }
     {
         Layout {
-            mains: mains,
-            backups: backups,
-            blocks: blocks,
+            mains,
+            backups,
+            blocks,
         }
     }
 }
@@ -106,6 +105,14 @@ impl Session {
     }
 }
 
+// Where a write starts (the trade: level, frame and offset): a main segment, a block of it, and an offset in the block.
+#[derive(Clone, Copy)]
+pub struct Place {
+    pub main: u64,
+    pub block: u64,
+    pub offset: u64,
+}
+
 // What a client may take of the backup segments (the trade: a console's share, limit and taken spares; SPECIFICATION 5.7). The records
 // of all clients are lent together.
 #[derive(Clone, Copy)]
@@ -118,10 +125,9 @@ pub struct Client {
     pub used: u64,
 }
 
-// How a call ends (SPECIFICATION 14).
-#[derive(Clone, Copy)]
-pub enum Status {
-    Served,
+// Why a call is refused (SPECIFICATION 14).
+#[derive(Clone, Copy, PartialEq, Eq)]
+pub enum Refusal {
     BadSize,
     BadLength,
     Foreign,
@@ -139,76 +145,46 @@ pub enum Status {
     BackupsReserved,
 }
 
-impl Status {
-    // The number of the status (SPECIFICATION 14.1).
-    pub fn code(self) -> u64
-        ensures { result ≡ code_of self }
-    {
-        match self {
-            Status::Served => 0,
-            Status::BadSize => 1,
-            Status::BadLength => 2,
-            Status::Foreign => 3,
-            Status::Invalid => 4,
-            Status::BadSession => 5,
-            Status::NoSuchMain => 6,
-            Status::NoSuchBlock => 7,
-            Status::BadSpan => 8,
-            Status::NoFreeBackup => 9,
-            Status::EpochLimit => 10,
-            Status::TraceShort => 11,
-            Status::TraceBad => 12,
-            Status::BadClients => 13,
-            Status::QuotaReached => 14,
-            Status::BackupsReserved => 15,
-        }
-    }
+// The number of a refusal (SPECIFICATION 14.1).
+impl From<Refusal> for u64 {
+    ghost from_gives = { λ r n. n ≡ refusal_number r };
 
-    // Whether the call is served.
-    pub fn is_served(self) -> bool
-        ensures { result ≡ served (code_of self) }
-    {
-        self.code() == 0
+    fn from(refusal: Refusal) -> u64 {
+        match refusal {
+            Refusal::BadSize => 1,
+            Refusal::BadLength => 2,
+            Refusal::Foreign => 3,
+            Refusal::Invalid => 4,
+            Refusal::BadSession => 5,
+            Refusal::NoSuchMain => 6,
+            Refusal::NoSuchBlock => 7,
+            Refusal::BadSpan => 8,
+            Refusal::NoFreeBackup => 9,
+            Refusal::EpochLimit => 10,
+            Refusal::TraceShort => 11,
+            Refusal::TraceBad => 12,
+            Refusal::BadClients => 13,
+            Refusal::QuotaReached => 14,
+            Refusal::BackupsReserved => 15,
+        }
     }
 }
 
-// What opening, write, discard and checkpoint answer: how the call ended, the session, and how many operations stand on the trace.
+// The number that tells how a call ended (SPECIFICATION 14.1): 0 if it is served, and else that of its refusal.
+pub fn status_code<T: Drop>(ended: Result<T, Refusal>) -> u64
+    ensures { result ≡ code_of ended }
+{
+    match ended {
+        Ok(_) => 0,
+        Err(refusal) => u64::from(refusal),
+    }
+}
+
+// What a served opening, write, discard or checkpoint answers: the session afterwards, and how many operations stand on the trace.
 #[derive(Clone, Copy)]
 pub struct Answer {
-    pub status: Status,
     pub session: Session,
     pub ops: u64,
-}
-
-impl Answer {
-    // A refusal: the session is handed back, and nothing stands on the trace.
-    pub fn refused(status: Status, session: Session) -> Answer
-        ensures { (result.status ≡ status) × (result.session ≡ session) × (result.ops ≡ 0) }
-    {
-        Answer {
-            status: status,
-            session: session,
-            ops: 0,
-        }
-    }
-
-    // A served call that leaves this session and wrote so many operations.
-    pub fn served(session: Session, ops: u64) -> Answer
-        ensures { (result.status ≡ Served) × (result.session ≡ session) × (result.ops ≡ ops) }
-    {
-        Answer {
-            status: Status::Served,
-            session: session,
-            ops: ops,
-        }
-    }
-}
-
-// Where the checkpoint of a main segment stands: nowhere, since it is all zero, or in the segment that starts at a place.
-#[derive(Clone, Copy)]
-pub enum Located {
-    Nowhere,
-    At(u64),
 }
 
 // What a write does before its stores: no copy; a copy to the backup segment that the main segment has; a copy to the

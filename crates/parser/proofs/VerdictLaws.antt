@@ -9,25 +9,24 @@ use native.Mathlib.Decide.{dec_lt}
 use lib.ListN.{length}
 use borrow.Author.Tests.{lt-ltb, le-ltb}
 use Rattle.text.specs.Text.{lines_of}
-use Rattle.text.specs.declared.Number.{Number}
-use Rattle.text.specs.declared.Number.TheVariants.{None, Is}
+use Rattle.std.specs.Prelude.{Option, None, Some}
 use Rattle.parser.specs.Script.{most_bytes, first_bad, numbered, verdict}
 
-bad_numbered : (n : ℕ) → n ≢ 0 → Is n ≡ numbered n
+bad_numbered : (n : ℕ) → n ≢ 0 → Some n ≡ numbered n
 bad_numbered zero h = absurd (h refl)
 bad_numbered (suc n) h = refl
 
 -- a number is not none
-abbrev is_none : Number → Bool
+abbrev is_none : Option ℕ → Bool
 is_none None = true
-is_none (Is n) = false
+is_none (Some n) = false
 
 none_numbered : (n : ℕ) → numbered n ≡ None → n ≡ 0
 none_numbered zero e = refl
 none_numbered (suc n) e = absurd (true≢false (sym (ap is_none e)))
 
 module _ (input : List ℕ) where
-  pub verdict_long : most_bytes < length input → Is 0 ≡ verdict input
+  pub verdict_long : most_bytes < length input → Some 0 ≡ verdict input
   unfolding verdict
   verdict_long h = rw (lt-ltb most_bytes (length input) h) refl
 
@@ -36,7 +35,7 @@ module _ (input : List ℕ) where
     unfolding verdict
     verdict_good z = rw (le-ltb most_bytes (length input) short, ← e, z) refl
 
-    pub verdict_bad : n ≢ 0 → Is n ≡ verdict input
+    pub verdict_bad : n ≢ 0 → Some n ≡ verdict input
     unfolding verdict
     verdict_bad h = rw (le-ltb most_bytes (length input) short, ← e) (bad_numbered n h)
 

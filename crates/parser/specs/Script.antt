@@ -4,8 +4,7 @@ use Rattle.std.specs.Prelude.{ℕ, zero, suc, ◌+◌, ◌/◌, Bool, not, cond,
 use Rattle.model.specs.declared.Layout.{Layout}
 use Rattle.model.specs.Layout.{layout_of}
 use Rattle.text.specs.Text.{Line, lines_of, hex_bytes}
-use Rattle.text.specs.declared.Number.{Number}
-use Rattle.text.specs.declared.Number.TheVariants.{None, Is}
+use Rattle.std.specs.Prelude.{Option, None, Some}
 pub use Rattle.lines.specs.Line.{group_key}
 use Rattle.lines.specs.Line.{mains_key, backups_key, blocks_key, block_key, offset_key, bytes_key, checkpoint_key, named, value_of, good_line, number_in}
 
@@ -34,12 +33,12 @@ first_bad k n [] = cond (eqb k group_key) 0 (suc n)
 first_bad k n (l ∷ ls) = cond (good_line (key_for k l) l) (first_bad (following (key_for k l)) (suc n) ls) (suc n)
 
 -- the verdict on a sheet: the number that a bad one prints, 0 if it is too long; none on a good one (`first_bad` has 0 for none)
-abbrev pub numbered : ℕ → Number
+abbrev pub numbered : ℕ → Option ℕ
 numbered zero = None
-numbered (suc n) = Is (suc n)
+numbered (suc n) = Some (suc n)
 
-unfoldable pub verdict : List ℕ → Number
-verdict input = cond (ltb most_bytes (length input)) (Is 0) (numbered (first_bad mains_key 0 (lines_of input)))
+unfoldable pub verdict : List ℕ → Option ℕ
+verdict input = cond (ltb most_bytes (length input)) (Some 0) (numbered (first_bad mains_key 0 (lines_of input)))
 
 -- ---- what a good sheet says
 
@@ -96,9 +95,9 @@ pub data Script : Type 0 where
   good : Layout → List Group → Script
 
 -- the lines, once the verdict is known
-abbrev pub judged : (ℕ → ℕ) → Number → List Line → Script
+abbrev pub judged : (ℕ → ℕ) → Option ℕ → List Line → Script
 judged rule None ls = good (sizes_of rule ls) (groups_of (drop (suc (blocks_line ls)) ls))
-judged rule (Is n) ls = bad n
+judged rule (Some n) ls = bad n
 
 -- A SHEET READ, under any rule for the line that may be left out, and under the one of today
 unfoldable pub parse_by : (ℕ → ℕ) → List ℕ → Script

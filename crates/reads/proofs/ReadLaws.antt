@@ -7,8 +7,7 @@ use native.Mathlib.Omega.{arith}
 use lib.ListN.{length}
 use borrow.Author.Tests.{leb-false, eqb-true}
 use Rattle.model.specs.declared.Layout.{Layout}
-use Rattle.model.specs.declared.Located.{Located}
-use Rattle.model.specs.declared.Located.TheVariants.{At}
+use Rattle.std.specs.Prelude.{Option, Some}
 use Rattle.model.specs.Words.{Image}
 use Rattle.model.specs.Layout.{SizesOk, segment_size, image_size, main_at}
 use Rattle.model.specs.Status.{Errors, served}
@@ -63,7 +62,7 @@ module _ (l : Layout) (I : Image) (i b : ℕ) where
   pub main_inside : Readable → main_at l i + 256 * b + 256 ≤ length I
   main_inside r = let e = r.long in let m = r.main in let q = r.block in omega (arith, segment_in_image l i (omega arith))
 
-  pub located_block : Readable → (p : ℕ) → At p ≡ checkpoint_located l I (active_line I) i → p + 256 * b + 256 ≤ length I
+  pub located_block : Readable → (p : ℕ) → Some p ≡ checkpoint_located l I (active_line I) i → p + 256 * b + 256 ≤ length I
   located_block r p e =
       let s : p + segment_size l ≤ length I = subst (Inside l I) (sym e) (located_inside l I (active_line I) i r.ok.valid r.main r.long) in
       let q = r.block in
@@ -83,7 +82,7 @@ module _ (l : Layout) (I : Image) (i b : ℕ) where
   unfolding checkpoint_part
   checkpoint_refused n = rw n
 
-  pub checkpoint-served : (x : Located) → served (read_status l I i b) ≡ true → x ≡ checkpoint_located l I (active_line I) i → checkpoint_part l I i b ≡ located_part x b
+  pub checkpoint-served : (x : Option ℕ) → served (read_status l I i b) ≡ true → x ≡ checkpoint_located l I (active_line I) i → checkpoint_part l I i b ≡ located_part x b
   unfolding checkpoint_part
   checkpoint-served x e h = rw (e, ← h)
 

@@ -11,8 +11,7 @@ use lib.ListN.{length, get_or, take, drop, get_or-replicate}
 use lib.Seq.{get_or-take, get_or-drop}
 use borrow.Author.Tests.{eq-eqb, eqb-true}
 use Rattle.model.specs.declared.Layout.{Layout}
-use Rattle.model.specs.declared.Located.{Located}
-use Rattle.model.specs.declared.Located.TheVariants.{Nowhere, At}
+use Rattle.std.specs.Prelude.{Option, None, Some}
 use Rattle.model.specs.Range.{all_b}
 use Rattle.model.specs.Words.{Image, byte_at}
 use Rattle.model.specs.Layout.{SizesOk, ss_initial, segment_size, main_at, backup_at}
@@ -63,7 +62,7 @@ part_byte I from n k h =
 
 -- ---- where the checkpoint of a main segment stands
 
-nowhere_not_at : (p : ℕ) → Nowhere ≡ At p → ⊥
+nowhere_not_at : (p : ℕ) → None ≡ Some p → ⊥
 nowhere_not_at p e = let x : ◌≡◌ {A = ℕ} 0 1 = cc in omega (arith, x)
 
 -- what the code goes by in an image that is not refused
@@ -80,34 +79,34 @@ module _ (l : Layout) (I : Image) (i : ℕ) where
       ((h, ok.sizes, omega (arith, m.1), omega (arith, m.1)), subst (λ (k : ℕ). Valid l (seg_state I k) (backup_to_main I)) (sym e) ok.valid)
 
   -- the place x that it found
-  pub found_at : {x y : Located} {n : ℕ} → y ≡ x → y ≡ checkpoint_located l I n i → n ≡ active_line I → x ≡ checkpoint_located l I (active_line I) i
+  pub found_at : {x y : Option ℕ} {n : ℕ} → y ≡ x → y ≡ checkpoint_located l I n i → n ≡ active_line I → x ≡ checkpoint_located l I (active_line I) i
   found_at g e q = sym g ∙ e ∙ ap (λ (k : ℕ). checkpoint_located l I k i) q
 
   abbrev segment : ℕ → ℕ
   segment k = get_or (checkpoint_segment l I (active_line I) i) k 0
 
   -- nowhere only if the main segment is in state 0
-  pub nowhere_initial : Nowhere ≡ checkpoint_located l I (active_line I) i → active_state I i ≡ ss_initial
+  pub nowhere_initial : None ≡ checkpoint_located l I (active_line I) i → active_state I i ≡ ss_initial
   unfolding checkpoint_located by_state
   nowhere_initial = go (active_state I i) refl
     where
-      go : (n : ℕ) → active_state I i ≡ n → Nowhere ≡ by_state n Nowhere (At (main_at l i)) (At (backup_at l (paired_backup l (backup_to_main I) i)))
+      go : (n : ℕ) → active_state I i ≡ n → None ≡ by_state n None (Some (main_at l i)) (Some (backup_at l (paired_backup l (backup_to_main I) i)))
           → active_state I i ≡ ss_initial
       go zero e q = e
       go (suc zero) e q = absurd (nowhere_not_at _ q)
       go (suc (suc n)) e q = absurd (nowhere_not_at _ q)
 
   -- byte k of it, nowhere and somewhere
-  pub byte_nowhere : Nowhere ≡ checkpoint_located l I (active_line I) i → (k : ℕ) → k < segment_size l → segment k ≡ 0
+  pub byte_nowhere : None ≡ checkpoint_located l I (active_line I) i → (k : ℕ) → k < segment_size l → segment k ≡ 0
   unfolding checkpoint_segment
   byte_nowhere e k h = rw (← e) (get_or-replicate (segment_size l) k 0 0 h)
 
-  pub byte_at_lem : (p : ℕ) → At p ≡ checkpoint_located l I (active_line I) i → (k : ℕ) → k < segment_size l → segment k ≡ byte_at I (p + k)
+  pub byte_at_lem : (p : ℕ) → Some p ≡ checkpoint_located l I (active_line I) i → (k : ℕ) → k < segment_size l → segment k ≡ byte_at I (p + k)
   unfolding checkpoint_segment
   byte_at_lem p e k h = rw (← e) (get_or-take (segment_size l) (drop p I) k 0 h ∙ get_or-drop p I k 0)
 
   -- it lies inside the image
-  pub inside_at : first_error (container_errors l I) ≡ 0 → i < l.mains → (p : ℕ) → At p ≡ checkpoint_located l I (active_line I) i → p + segment_size l ≤ length I
+  pub inside_at : first_error (container_errors l I) ≡ 0 → i < l.mains → (p : ℕ) → Some p ≡ checkpoint_located l I (active_line I) i → p + segment_size l ≤ length I
   inside_at accepted h p e =
       let ok = container_ok l I accepted in
       subst (Inside l I) (sym e) (located_inside l I (active_line I) i ok.valid h ok.long)
@@ -118,23 +117,23 @@ module _ (l : Layout) (I J : Image) (i : ℕ) where
   abbrev same_segment : Bool
   same_segment = same_bytes (segment_size l) (checkpoint_segment l I (active_line I) i) (checkpoint_segment l J (active_line J) i)
 
-  abbrev IsAt : Image → Located → Type 0
+  abbrev IsAt : Image → Option ℕ → Type 0
   IsAt K x = x ≡ checkpoint_located l K (active_line K) i
 
   -- the main segment is in state 0 in both or in neither: by where the first stands
   module _ (agree : (active_state I i ≡ ss_initial) ↔ (active_state J i ≡ ss_initial)) where
-    pub both_nowhere : IsAt I Nowhere → true ≡ same_segment
+    pub both_nowhere : IsAt I None → true ≡ same_segment
     unfolding same_bytes
     both_nowhere a =
         let b = located_nowhere l J (active_line J) i (agree.0 (nowhere_initial l I i a)) in
         sym (all_from (segment_size l) _ (λ k m. eq-eqb _ _ (byte_nowhere l I i a k m ∙ sym (byte_nowhere l J i b k m))))
 
-    pub not_one : (p : ℕ) → IsAt I (At p) → IsAt J Nowhere → ⊥
+    pub not_one : (p : ℕ) → IsAt I (Some p) → IsAt J None → ⊥
     not_one p a b =
-        let e : Nowhere ≡ At p = located_nowhere l I (active_line I) i (agree.1 (nowhere_initial l J i b)) ∙ sym a in
+        let e : None ≡ Some p = located_nowhere l I (active_line I) i (agree.1 (nowhere_initial l J i b)) ∙ sym a in
         nowhere_not_at p e
 
-  pub none_nowhere : (x y : ℕ) {r : Bool} → IsAt I (At x) → IsAt J (At y)
+  pub none_nowhere : (x y : ℕ) {r : Bool} → IsAt I (Some x) → IsAt J (Some y)
       → r ≡ all_b (segment_size l) (λ k. eqb (byte_at I (x + k)) (byte_at J (y + k))) → r ≡ same_segment
   unfolding same_bytes
   none_nowhere x y a b s =

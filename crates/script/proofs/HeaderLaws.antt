@@ -9,7 +9,7 @@ use borrow.Author.Tests.{le-leb}
 use Rattle.model.specs.declared.Layout.{Layout}
 use Rattle.model.specs.Layout.{word_size, block_size, most, sizes_ok, in_range, image_size}
 use Rattle.text.specs.Text.{lines_of}
-use Rattle.text.specs.declared.Number.TheVariants.{None}
+use Rattle.std.specs.Prelude.{None}
 use Rattle.lines.specs.Line.{most_size}
 use Rattle.parser.specs.Script.{Script, good, Group, verdict, groups_of, blocks_line, parse_by, parse}
 use Rattle.parser.specs.declared.HeaderAt.{HeaderAt}

@@ -5,7 +5,7 @@
 
 ghost use Rattle.std.specs.Prelude.{◌+◌, ◌≤◌, ◌<◌, ◌≡◌, true, ◌++◌, length, drop};
 ghost use Rattle.model.specs.Layout.{word_size, sizes_ok, image_size};
-ghost use Rattle.text.specs.declared.Number.TheVariants.{None};
+ghost use Rattle.std.specs.Prelude.{None};
 ghost use Rattle.parser.specs.Script.{most_bytes, good, verdict, parse};
 ghost use Rattle.io.specs.Counts.{IsPrefixLen};
 ghost use Rattle.calls.specs.Printed.{printed};
@@ -107,7 +107,7 @@ pub fn run_sheet(input: &[u8], out: &mut [u8; MOST_TEXT]) -> usize
     ensures value { (result ≡ length (printed input.now)) × (out.new ≡ printed input.now ++ drop result out.old) }
 {
     match parser::verdict(input) {
-        Number::Is(n) => printer::append_number(out, 0, b"sheet=", n, b"\n"),
+        Number::Some(n) => printer::append_number(out, 0, b"sheet=", n, b"\n"),
         Number::None => run_good(input, out),
     }
 }

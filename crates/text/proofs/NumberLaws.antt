@@ -6,21 +6,20 @@ use mathlib.Core.Bool.{Bool, not, ◌&&◌}
 use mathlib.Core.List.{List, [], ◌∷◌}
 use lib.Dec.{eqb}
 use lib.ListN.{length}
-use Rattle.text.specs.declared.Number.{Number}
-use Rattle.text.specs.declared.Number.TheVariants.{None}
+use Rattle.std.specs.Prelude.{Option, None}
 use Rattle.text.specs.Text.{code0, is_digit, digit_of, number_if, number_of}
 
 -- one, two and three digits, tested and added up
-pub one_number : (a : ℕ) {p : Bool} {m : ℕ} {r : Number} → p ≡ is_digit a → m ≡ digit_of a → r ≡ number_if p m → r ≡ number_of (a ∷ [])
+pub one_number : (a : ℕ) {p : Bool} {m : ℕ} {r : Option ℕ} → p ≡ is_digit a → m ≡ digit_of a → r ≡ number_if p m → r ≡ number_of (a ∷ [])
 unfolding number_of
 one_number a e x h = h ∙ rw (e, x)
 
-pub two_number : (a b : ℕ) {p q : Bool} {m n : ℕ} {r : Number} → p ≡ is_digit a → q ≡ is_digit b → m ≡ digit_of a → n ≡ digit_of b
+pub two_number : (a b : ℕ) {p q : Bool} {m n : ℕ} {r : Option ℕ} → p ≡ is_digit a → q ≡ is_digit b → m ≡ digit_of a → n ≡ digit_of b
     → r ≡ number_if (p && q && not (eqb a code0)) (10 * m + n) → r ≡ number_of (a ∷ b ∷ [])
 unfolding number_of
 two_number a b e f x y h = h ∙ rw (e, f, x, y)
 
-pub three_number : (a b c : ℕ) {p q s : Bool} {m n o : ℕ} {r : Number} → p ≡ is_digit a → q ≡ is_digit b → s ≡ is_digit c
+pub three_number : (a b c : ℕ) {p q s : Bool} {m n o : ℕ} {r : Option ℕ} → p ≡ is_digit a → q ≡ is_digit b → s ≡ is_digit c
     → m ≡ digit_of a → n ≡ digit_of b → o ≡ digit_of c
     → r ≡ number_if (p && q && s && not (eqb a code0)) (100 * m + 10 * n + o) → r ≡ number_of (a ∷ b ∷ c ∷ [])
 unfolding number_of

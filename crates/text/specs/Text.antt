@@ -3,8 +3,7 @@ use Rattle.std.specs.Prelude.{ℕ, ◌+◌, ◌-◌, ◌*◌, Bool, true, false,
 use Prim.Native.Char.{code}
 use Prim.Native.String.{String, len, char_at}
 use Rattle.model.specs.Range.{cat}
-use Rattle.text.specs.declared.Number.{Number}
-use Rattle.text.specs.declared.Number.TheVariants.{None, Is}
+use Rattle.std.specs.Prelude.{Option, None, Some}
 
 -- the bytes of a text in ASCII
 unfoldable pub text : String → List ℕ
@@ -58,12 +57,12 @@ abbrev pub digit_of : ℕ → ℕ
 digit_of b = b - code0
 
 -- a number that is taken, or none
-abbrev pub number_if : Bool → ℕ → Number
-number_if true n = Is n
+abbrev pub number_if : Bool → ℕ → Option ℕ
+number_if true n = Some n
 number_if false n = None
 
 -- a number of one to three digits; more than one have no leading zero
-unfoldable pub number_of : List ℕ → Number
+unfoldable pub number_of : List ℕ → Option ℕ
 number_of [] = None
 number_of (a ∷ []) = number_if (is_digit a) (digit_of a)
 number_of (a ∷ b ∷ []) = number_if (is_digit a && is_digit b && not (eqb a code0)) (10 * digit_of a + digit_of b)

@@ -1,5 +1,5 @@
 -- Laws of operations written on a trace for a kind of module: nothing, one run after another, a run for each number, a run if a test
--- holds, a run that is the same for every kind, and what a whole call leaves.
+-- holds, and what a whole call leaves.
 use Prim.Native.Nat.{ℕ, zero, suc, ◌+◌, ◌*◌, ◌≤◌, ◌<◌}
 use mathlib.Core.Path.{◌≡◌, refl, sym, ap, ap₂, ◌∙◌}
 use mathlib.Core.Bool.{Bool, true, false, cond, false≢true}
@@ -11,11 +11,11 @@ use native.Mathlib.Numerals.{add-one}
 use lib.ListN.{length, set, drop, length-append}
 use lib.Seq.{sets, sets-eq, length-sets}
 use Rattle.model.specs.Range.{cat}
-use Rattle.model.specs.Session.{adr}
 use Rattle.model.specs.Ops.{Ops, Trace, encode, written, for_domain}
 use Rattle.model.proofs.Laws.Ops.{length-encode, encode_append}
-use Rattle.model.proofs.Laws.Domain.{domain_append, domain_cat, domain_adr}
+use Rattle.model.proofs.Laws.Domain.{domain_append, domain_cat}
 use Rattle.model.proofs.Laws.Counts.{count_append}
+use Rattle.trace.specs.declared.Writer.{Writer}
 use Rattle.trace.specs.Emit.{emit, Fits, Emitted}
 
 -- ---- the trace alone
@@ -46,42 +46,53 @@ emit_whole t O h =
 
 -- ---- one run: the trace keeps its length; the same operations in another form
 
-pub fits_as : {d : ℕ} {t : Trace} {n : ℕ} {O E : Ops} → O ≡ E → Fits d t n O → Fits d t n E
-fits_as {d} p h = record { room = omega (arith, ap (λ (X : Ops). length (for_domain d X)) p) }
+pub fits_as : {w : Writer} {O E : Ops} → O ≡ E → Fits w O → Fits w E
+fits_as {w} p h = record { room = omega (arith, ap (λ (X : Ops). length (for_domain w.domain X)) p) }
 
-module _ {d : ℕ} {t t₁ : Trace} {n r : ℕ} {O : Ops} (e : Emitted d t n O t₁ r) where
-  pub emitted_length : length t₁ ≡ length t
-  emitted_length = ap length e.stands ∙ length-emit t n (for_domain d O)
+module _ {w w₁ : Writer} {O : Ops} (e : Emitted w O w₁) where
+  pub emitted_length : length w₁.trace.now ≡ length w.trace.now
+  emitted_length = ap length e.stands ∙ length-emit w.trace.now w.next (for_domain w.domain O)
 
-  pub emitted_as : {E : Ops} → O ≡ E → Emitted d t n E t₁ r
-  emitted_as p = record { stands = e.stands ∙ ap (λ (X : Ops). emit t n (for_domain d X)) p; next = e.next ∙ ap (λ (X : Ops). n + length (for_domain d X)) p }
+  pub emitted_as : {E : Ops} → O ≡ E → Emitted w E w₁
+  emitted_as p =
+      record {
+        same = e.same;
+        kind = e.kind;
+        stands = e.stands ∙ ap (λ (X : Ops). emit w.trace.now w.next (for_domain w.domain X)) p;
+        next = e.next ∙ ap (λ (X : Ops). w.next + length (for_domain w.domain X)) p;
+      }
 
 -- ---- no run
 
-pub emitted_nil : {d : ℕ} {t : Trace} {n : ℕ} → Emitted d t n [] t n
+pub emitted_nil : {w : Writer} → Emitted w [] w
 unfolding for_domain
-emitted_nil {t = t} {n = n} = record { stands = sym (emit_nil t n); next = omega arith }
+emitted_nil {w} = record { same = refl; kind = refl; stands = sym (emit_nil w.trace.now w.next); next = omega arith }
 
 -- ---- one run after another
 
-pub fits_first : {d : ℕ} {t : Trace} {n : ℕ} {A : Ops} (B : Ops) → Fits d t n (A ++ B) → Fits d t n A
-fits_first {d} {A = A} B h = record { room = omega (arith, count_append d A B) }
+pub fits_first : {w : Writer} {A : Ops} (B : Ops) → Fits w (A ++ B) → Fits w A
+fits_first {w} {A} B h = record { room = omega (arith, count_append w.domain A B) }
 
-pub fits_then : {d : ℕ} {t t₁ : Trace} {n r : ℕ} {A B : Ops} → Fits d t n (A ++ B) → Emitted d t n A t₁ r → Fits d t₁ r B
-fits_then {d} {A = A} {B} h e = record { room = omega (arith, count_append d A B, emitted_length e) }
+pub fits_then : {w w₁ : Writer} {A B : Ops} → Fits w (A ++ B) → Emitted w A w₁ → Fits w₁ B
+fits_then {w} {A = A} {B} h e = record { room = rw e.kind (omega (arith, count_append w.domain A B, emitted_length e)) }
 
-pub emitted_then : {d : ℕ} {t t₁ t₂ : Trace} {n r₁ r₂ : ℕ} {A B : Ops} → Emitted d t n A t₁ r₁ → Emitted d t₁ r₁ B t₂ r₂ → Emitted d t n (A ++ B) t₂ r₂
-emitted_then {d} {t} {n = n} {A = A} {B = B} x y =
+pub emitted_then : {w w₁ w₂ : Writer} {A B : Ops} → Emitted w A w₁ → Emitted w₁ B w₂ → Emitted w (A ++ B) w₂
+emitted_then {w} {w₁} {w₂} {A} {B} x y =
+    let d : ℕ = w.domain in
+    let k : length (for_domain w₁.domain B) ≡ length (for_domain d B) = ap (λ (e : ℕ). length (for_domain e B)) x.kind in
     record {
+      same = y.same ∙ x.same;
+      kind = y.kind ∙ x.kind;
       stands =
-          y.stands ∙ ap₂ (λ (u : Trace) (m : ℕ). emit u m (for_domain d B)) x.stands x.next
-          ∙ sym (emit_append t n (for_domain d A) (for_domain d B)) ∙ ap (emit t n) (sym (domain_append d A B));
-      next = omega (arith, count_append d A B);
+          y.stands ∙ ap (λ (e : ℕ). emit w₁.trace.now w₁.next (for_domain e B)) x.kind
+          ∙ ap₂ (λ (u : Trace) (m : ℕ). emit u m (for_domain d B)) x.stands x.next
+          ∙ sym (emit_append w.trace.now w.next (for_domain d A) (for_domain d B)) ∙ ap (emit w.trace.now w.next) (sym (domain_append d A B));
+      next = omega (arith, k, count_append d A B);
     }
 
 -- ---- a run for each number: f 0, f 1, ..
 
-pub emitted_none : {d : ℕ} {t : Trace} {n : ℕ} (f : ℕ → Ops) → Emitted d t n (cat 0 f) t n
+pub emitted_none : {w : Writer} (f : ℕ → Ops) → Emitted w (cat 0 f) w
 unfolding cat
 emitted_none f = emitted_nil
 
@@ -95,35 +106,28 @@ length_upto i (suc k) f h =
     ]
 
 -- after i of k turns there is room for the next one
-pub fits_each : {d : ℕ} {t t₁ : Trace} {n r : ℕ} (i k : ℕ) (f : ℕ → Ops) → i < k → Fits d t n (cat k f) → Emitted d t n (cat i f) t₁ r → Fits d t₁ r (f i)
-fits_each {d} i k f l h e =
-    record { room = omega (arith, length_upto i k (λ j. for_domain d (f j)) l, ap length (domain_cat d i f), ap length (domain_cat d k f), emitted_length e) }
+pub fits_each : {w w₁ : Writer} (i k : ℕ) (f : ℕ → Ops) → i < k → Fits w (cat k f) → Emitted w (cat i f) w₁ → Fits w₁ (f i)
+fits_each {w} i k f l h e =
+    let d : ℕ = w.domain in
+    record {
+      room = rw e.kind (omega (arith, length_upto i k (λ j. for_domain d (f j)) l, ap length (domain_cat d i f), ap length (domain_cat d k f), emitted_length e));
+    }
 
 -- and with it written, i + 1 turns are
-pub emitted_each : {d : ℕ} {t t₁ t₂ : Trace} {n r₁ r₂ : ℕ} (i : ℕ) (f : ℕ → Ops) → Emitted d t n (cat i f) t₁ r₁ → Emitted d t₁ r₁ (f i) t₂ r₂ → Emitted d t n (cat (i + 1) f) t₂ r₂
+pub emitted_each : {w w₁ w₂ : Writer} (i : ℕ) (f : ℕ → Ops) → Emitted w (cat i f) w₁ → Emitted w₁ (f i) w₂ → Emitted w (cat (i + 1) f) w₂
 unfolding cat
 emitted_each i f x y = rw add-one (emitted_then x y)
 
 -- ---- a run if a test holds
 
-pub fits_if : {d : ℕ} {t : Trace} {n : ℕ} {O : Ops} (b : Bool) → b ≡ true → Fits d t n (cond b O []) → Fits d t n O
+pub fits_if : {w : Writer} {O : Ops} (b : Bool) → b ≡ true → Fits w (cond b O []) → Fits w O
 fits_if true p h = h
 fits_if false p h = absurd (false≢true p)
 
 -- it holds
-pub emitted_if : {d : ℕ} {t t₁ : Trace} {n r : ℕ} {O : Ops} (b : Bool) → b ≡ true → Emitted d t n O t₁ r → Emitted d t n (cond b O []) t₁ r
+pub emitted_if : {w w₁ : Writer} {O : Ops} (b : Bool) → b ≡ true → Emitted w O w₁ → Emitted w (cond b O []) w₁
 emitted_if b p e = rw p e
 
 -- it does not: nothing is written
-pub emitted_unless : {d : ℕ} {t t₁ : Trace} {n r : ℕ} (b : Bool) (O : Ops) → b ≡ false → t₁ ≡ t → r ≡ n → Emitted d t n (cond b O []) t₁ r
-emitted_unless b O p x y = rw (p, x, y) emitted_nil
-
--- ---- a run that is the same for every kind, as one without write-backs
-
-pub fits_plain : {d : ℕ} {t : Trace} {n : ℕ} {O : Ops} → for_domain d O ≡ O → Fits d t n O → Fits adr t n O
-fits_plain {O = O} p h = record { room = omega (arith, ap length p, ap length (domain_adr O)) }
-
-pub emitted_plain : (d : ℕ) {t t₁ : Trace} {n r : ℕ} {O : Ops} → for_domain d O ≡ O → Emitted adr t n O t₁ r → Emitted d t n O t₁ r
-emitted_plain d {t} {n = n} {O = O} p e =
-    let same = domain_adr O ∙ sym p in
-    record { stands = e.stands ∙ ap (emit t n) same; next = e.next ∙ ap (λ (X : Ops). n + length X) same }
+pub emitted_unless : {w : Writer} (b : Bool) (O : Ops) → b ≡ false → Emitted w (cond b O []) w
+emitted_unless b O p = rw p emitted_nil

@@ -9,9 +9,9 @@ ghost use Rattle.model.specs.Status.{code_of, first_error};
 ghost use Rattle.model.specs.Session.{adr};
 ghost use Rattle.model.specs.Ops.{store, clwb, sfence, Ops, Trace, op_numbers, trace_errors};
 ghost use Rattle.model.specs.Counts.{flushes, copied_ops};
-ghost use Rattle.trace.specs.Emit.{Fits, Emitted, word_stores};
+ghost use Rattle.trace.specs.Emit.{Begun, Fits, Emitted, word_stores};
 
-use model::{Layout, Session, Status};
+use model::{Layout, Refusal, Session};
 
 // The numbers that an operation takes on a trace.
 pub const OP_NUMBERS: usize = 3;
@@ -26,63 +26,84 @@ pub const OP_SFENCE: u64 = 3;
 // Bytes of a word, as indexes count them.
 const WORD_SIZE: usize = Layout::WORD_SIZE as usize;
 
-// Writes the three numbers of operation n. The number of the next operation.
-fn put_op(trace: &mut [u64], n: usize, kind: u64, place: u64, word: u64) -> usize
-    requires { op_numbers * (n + 1) ≤ length trace.old }
-    ensures { (trace.new ≡ sets trace.old (op_numbers * n) (kind ∷ place ∷ word ∷ [])) × (result ≡ n + 1) }
-{
-    let at = OP_NUMBERS * n;
-    trace[at] = kind;
-    trace[at + 1] = place;
-    trace[at + 2] = word;
-    n + 1
+// Writes the operations of a call on its trace, one after the other: those that the trace has for the kind of module.
+#[derive(Drop)]
+pub struct Writer<'a> {
+    // The kind of module.
+    pub domain: u64,
+    pub trace: &'a mut [u64],
+    // The number of the operation that comes next.
+    pub next: usize,
 }
 
-// Writes, as operation n, the store of a word at a place. The number of the next operation.
-pub fn put_store(trace: &mut [u64], n: usize, place: u64, word: u64) -> usize
-    requires { Fits adr trace.old n (store place word ∷ []) }
-    ensures { Emitted adr trace.old n (store place word ∷ []) trace.new result }
-{
-    put_op(trace, n, OP_STORE, place, word)
-}
-
-// Writes, as operation n, the write-back of the line at a place, if the trace has write-backs for the kind of module: this is the one
-// place that looks at it to write or not. The number of the next operation.
-pub fn put_clwb(domain: u64, trace: &mut [u64], n: usize, place: u64) -> usize
-    requires { Fits domain trace.old n (clwb place ∷ []) }
-    ensures { Emitted domain trace.old n (clwb place ∷ []) trace.new result }
-{
-    if domain != Session::ADR {
-        return n;
+impl<'a> Writer<'a> {
+    // Begins at the start of a trace.
+    pub fn new(domain: u64, trace: &'a mut [u64]) -> Writer<'a>
+        ensures same_trace { result.trace.ghost_name ≡ trace.entry.ghost_name }
+        ensures begun { Begun domain trace.old result }
+    {
+        Writer {
+            domain,
+            trace,
+            next: 0,
+        }
     }
-    put_op(trace, n, OP_CLWB, place, 0)
-}
 
-// Writes, as operation n, a fence. The number of the next operation.
-pub fn put_sfence(trace: &mut [u64], n: usize) -> usize
-    requires { Fits adr trace.old n (sfence ∷ []) }
-    ensures { Emitted adr trace.old n (sfence ∷ []) trace.new result }
-{
-    put_op(trace, n, OP_SFENCE, 0, 0)
-}
-
-// Writes, from operation n on, the stores of the words that lie whole among bytes, from a place on, upward: each word is read as
-// its store is written. The number of the next operation.
-pub fn put_words(trace: &mut [u64], n: usize, place: u64, bytes: &[u8]) -> usize
-    requires bytes_bound { place + length bytes.now < 2 ^ 64 }
-    requires fits { Fits adr trace.old n (word_stores place bytes.now) }
-    ensures { Emitted adr trace.old n (word_stores place bytes.now) trace.new result }
-{
-    let count = bytes.len() / WORD_SIZE;
-    let mut next = n;
-    let mut k: usize = 0;
-    while k < count {
-        let at = WORD_SIZE * k;
-        let word = words::word_at(bytes, at);
-        next = put_store(trace, next, place + at as u64, word);
-        k += 1;
+    // Writes the three numbers of an operation.
+    fn put(&mut self, kind: u64, place: u64, word: u64)
+        requires { op_numbers * (self.old.next + 1) ≤ length self.old.trace.now }
+        ensures same { (self.new.trace.ghost_name ≡ self.old.trace.ghost_name) × (self.new.domain ≡ self.old.domain) }
+        ensures stands { self.new.trace.now ≡ sets self.old.trace.now (op_numbers * self.old.next) (kind ∷ place ∷ word ∷ []) }
+        ensures next { self.new.next ≡ self.old.next + 1 }
+    {
+        let at = OP_NUMBERS * self.next;
+        self.trace[at] = kind;
+        self.trace[at + 1] = place;
+        self.trace[at + 2] = word;
+        self.next += 1;
     }
-    next
+
+    // Writes the store of a word at a place.
+    pub fn store(&mut self, place: u64, word: u64)
+        requires { Fits self.old (store place word ∷ []) }
+        ensures { Emitted self.old (store place word ∷ []) self.new }
+    {
+        self.put(OP_STORE, place, word);
+    }
+
+    // Writes the write-back of the line at a place, if the trace has write-backs for the kind of module: this is the one place that looks
+    // at it to write or not.
+    pub fn clwb(&mut self, place: u64)
+        requires { Fits self.old (clwb place ∷ []) }
+        ensures { Emitted self.old (clwb place ∷ []) self.new }
+    {
+        if self.domain != Session::ADR {
+            return;
+        }
+        self.put(OP_CLWB, place, 0);
+    }
+
+    // Writes a fence.
+    pub fn sfence(&mut self)
+        requires { Fits self.old (sfence ∷ []) }
+        ensures { Emitted self.old (sfence ∷ []) self.new }
+    {
+        self.put(OP_SFENCE, 0, 0);
+    }
+
+    // Writes the stores of the words that lie whole among bytes, from a place on, upward: each word is read as its store is written.
+    pub fn store_words(&mut self, place: u64, bytes: &[u8])
+        requires bytes_bound { place + length bytes.now < 2 ^ 64 }
+        requires fits { Fits self.old (word_stores place bytes.now) }
+        ensures { Emitted self.old (word_stores place bytes.now) self.new }
+    {
+        let count = bytes.len() / WORD_SIZE;
+        for k in 0..count {
+            let at = WORD_SIZE * k;
+            let word = words::word_at(bytes, at);
+            self.store(place + at as u64, word);
+        }
+    }
 }
 
 // How many of so many write-backs a trace has for a kind of module.
@@ -103,12 +124,12 @@ pub fn copied_ops(domain: u64) -> u64
 }
 
 // Refusal 11, of a trace that has room for so many numbers, by the number of operations.
-pub fn trace_status(room: usize, ops: u64) -> Status
+pub fn trace_status(room: usize, ops: u64) -> Result<(), Refusal>
     requires { ops ≤ 2 ^ 33 }
     ensures { (O : Ops) (t : Trace) → length O ≡ ops → length t ≡ room → code_of result ≡ first_error (trace_errors O t) }
 {
     if (room as u64) < OP_NUMBERS as u64 * ops {
-        return Status::TraceShort;
+        return Err(Refusal::TraceShort);
     }
-    Status::Served
+    Ok(())
 }

@@ -8,7 +8,7 @@ use lib.ListN.{length, take, drop}
 use borrow.Author.Tests.{lt-ltb, le-ltb}
 use Rattle.model.specs.Range.{cat}
 use Rattle.text.specs.Text.{text, lines_of}
-use Rattle.text.specs.declared.Number.TheVariants.{None, Is}
+use Rattle.std.specs.Prelude.{None, Some}
 use Rattle.lines.specs.Line.{named, number_in}
 use Rattle.parser.specs.Script.{most_bytes, line_at, verdict, has_backups, bad}
 use Rattle.parser.proofs.ReadLaws.{Ends, past_line, line_part}
@@ -62,6 +62,6 @@ module _ (input : List ℕ) where
   unfolding upgrade_text
   answer_good e = rw e refl
 
-  pub answer_bad : (n : ℕ) → verdict input ≡ Is n → script_text (bad n) ≡ upgrade_text input
+  pub answer_bad : (n : ℕ) → verdict input ≡ Some n → script_text (bad n) ≡ upgrade_text input
   unfolding upgrade_text
   answer_bad n e = rw e refl

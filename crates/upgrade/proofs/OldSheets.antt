@@ -10,8 +10,7 @@ use Rattle.model.specs.Range.{cat}
 use Rattle.model.specs.declared.Layout.{Layout}
 use Rattle.model.specs.Layout.{layout_of}
 use Rattle.text.specs.Text.{text, Line, lines_of}
-use Rattle.text.specs.declared.Number.{Number}
-use Rattle.text.specs.declared.Number.TheVariants.{None, Is}
+use Rattle.std.specs.Prelude.{Option, None, Some}
 use Rattle.lines.specs.Line.{named, number_in}
 use Rattle.parser.specs.Script.{most_bytes, line_at, verdict, good, Group, groups_of, default_backups, blocks_line, sizes_of, judged, parse_by, parse, has_backups}
 use Rattle.parser.proofs.VerdictLaws.{verdict_long, verdict_good}
@@ -71,8 +70,8 @@ others : (input : List ℕ) → (LeavesOut input → ⊥) → (rule rule' : ℕ 
 unfolding parse_by sizes_of
 others input h rule rule' = go (verdict input) refl (has_backups (lines_of input)) refl
   where
-    go : (v : Number) → verdict input ≡ v → (b : Bool) → has_backups (lines_of input) ≡ b → judged rule v (lines_of input) ≡ judged rule' v (lines_of input)
-    go (Is n) e b f = refl
+    go : (v : Option ℕ) → verdict input ≡ v → (b : Bool) → has_backups (lines_of input) ≡ b → judged rule v (lines_of input) ≡ judged rule' v (lines_of input)
+    go (Some n) e b f = refl
     go None e true f = rw f refl
     go None e false f = absurd (h (record { good = e; without = f }))
 

@@ -2,8 +2,7 @@
 -- rewritten, and what the program that does it prints. That they then print what they printed: OldSheets.antt. Assumes nothing.
 use Rattle.std.specs.Prelude.{ℕ, ◌≡◌, false, cond, List, ◌++◌, ltb, length, drop}
 use Rattle.text.specs.Text.{text, Line, lines_of}
-use Rattle.text.specs.declared.Number.{Number}
-use Rattle.text.specs.declared.Number.TheVariants.{None, Is}
+use Rattle.std.specs.Prelude.{Option, None, Some}
 use Rattle.lines.specs.Line.{mains_key, backups_key, number_in}
 use Rattle.parser.specs.Script.{most_bytes, line_at, verdict, has_backups, bad}
 use Rattle.printer.specs.Decimal.{decimal}
@@ -44,9 +43,9 @@ good_text input =
     (cond (ltb most_bytes (length (rewritten input))) (text "bytes=" ++ decimal (length (rewritten input)) ++ text "\n") (rewritten input))
 
 -- by the verdict: for a bad sheet what the sheet program prints
-abbrev pub verdict_text : Number → List ℕ → List ℕ
+abbrev pub verdict_text : Option ℕ → List ℕ → List ℕ
 verdict_text None input = good_text input
-verdict_text (Is n) input = script_text (bad n)
+verdict_text (Some n) input = script_text (bad n)
 
 -- WHAT THE PROGRAM PRINTS for a sheet, by its bytes
 unfoldable pub upgrade_text : List ℕ → List ℕ

@@ -5,7 +5,7 @@
 
 ghost use Rattle.std.specs.Prelude.{◌≤◌, ◌≡◌, ◌++◌, length, drop};
 ghost use Rattle.io.specs.Counts.{IsPrefixLen};
-ghost use Rattle.text.specs.declared.Number.TheVariants.{None};
+ghost use Rattle.std.specs.Prelude.{None};
 ghost use Rattle.parser.specs.Script.{most_bytes, verdict};
 ghost use Rattle.printer.specs.Decimal.{Appended};
 ghost use Rattle.upgrade.specs.Upgrade.{LeavesOut, rewritten, good_text, upgrade_text};
@@ -51,7 +51,7 @@ pub fn upgrade_sheet(input: &[u8], out: &mut [u8; parser::MOST_BYTES]) -> usize
     ensures value { (result ≡ length (upgrade_text input.now)) × (out.new ≡ upgrade_text input.now ++ drop result out.old) }
 {
     match parser::verdict(input) {
-        Number::Is(n) => printer::append_number(out, 0, b"sheet=", n, b"\n"),
+        Number::Some(n) => printer::append_number(out, 0, b"sheet=", n, b"\n"),
         Number::None => upgrade_good(input, out),
     }
 }

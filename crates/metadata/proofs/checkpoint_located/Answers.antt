@@ -1,7 +1,7 @@
 use Prim.Native.Nat.{ℕ}
 use mathlib.Core.Path.{◌≡◌, ◌∙◌, sym, ap}
 use native.Mathlib.Omega.{arith}
-use Rattle.model.specs.declared.Located.TheVariants.{At}
+use Rattle.std.specs.Prelude.{Some}
 use Rattle.model.specs.Layout.{backup_at}
 use Rattle.model.specs.Container.{seg_state}
 use Rattle.metadata.proofs.LocatedLaws.{located_nowhere, located_main, located_backup, backup_there}
@@ -14,7 +14,7 @@ returns-then-state-eq-SS_INITIAL c = let g = c.args in located_nowhere g.layout 
 pub returns-then-state-eq-SS_MAIN : goal.returns-then-state-eq-SS_MAIN
 returns-then-state-eq-SS_MAIN c =
     let g = c.args in
-    ap At c.main_at.ensures.0 ∙ located_main g.layout g.image.now g.line g.main c.if-state-eq-SS_MAIN.true
+    ap Some c.main_at.ensures.0 ∙ located_main g.layout g.image.now g.line g.main c.if-state-eq-SS_MAIN.true
 
 pub backup_at-requires : goal.backup_at-requires
 backup_at-requires c =
@@ -34,4 +34,4 @@ returns-in-Backup c =
     let g = c.args in
     let s : seg_state g.image.now g.line g.main ≡ 2 = omega (arith, c.requires.valid.states g.main (omega arith)) in
     let q = found_backup _ _ _ (sym c.in-Backup.is ∙ c.find_paired_backup-found.ensures) in
-    ap At (c.backup_at.ensures.0 ∙ ap (λ (j : ℕ). backup_at g.layout j) q.0) ∙ located_backup g.layout g.image.now g.line g.main s
+    ap Some (c.backup_at.ensures.0 ∙ ap (λ (j : ℕ). backup_at g.layout j) q.0) ∙ located_backup g.layout g.image.now g.line g.main s

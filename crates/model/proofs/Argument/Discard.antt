@@ -10,7 +10,7 @@ use native.Mathlib.Omega.{arith}
 use lib.ListN.{get_or, take}
 use Rattle.model.specs.declared.Layout.{Layout}
 use Rattle.model.specs.declared.Session.{Session}
-use Rattle.model.specs.declared.Located.{Located}
+use Rattle.std.specs.Prelude.{Option}
 use Rattle.model.specs.Words.{Image, byte_at, bytes_of, Bytes}
 use Rattle.model.specs.Layout.{segment_size, main_at, backup_at}
 use Rattle.model.specs.Container.{active_state, active_line, backup_to_main, paired_backup, by_state, checkpoint_located}
@@ -40,7 +40,7 @@ module _ (O : Ops) (I₀ : Image) (s : Session) (P W : Contents) (held : Bytes I
   word = dirty_word s i
 
   -- where the checkpoint of the segment stands
-  abbrev from : Located
+  abbrev from : Option ℕ
   from = checkpoint_located l I (active_line I) i
 
   -- the operations

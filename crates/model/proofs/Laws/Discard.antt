@@ -9,8 +9,7 @@ use lib.ListN.{length}
 use borrow.Author.Tests.{not-false}
 use Rattle.model.specs.declared.Layout.{Layout}
 use Rattle.model.specs.declared.Session.{Session}
-use Rattle.model.specs.declared.Located.{Located}
-use Rattle.model.specs.declared.Located.TheVariants.{Nowhere, At}
+use Rattle.std.specs.Prelude.{Option, None, Some}
 use Rattle.model.specs.Words.{Image}
 use Rattle.model.specs.Layout.{main_at, backup_at}
 use Rattle.model.specs.Status.{first_error}
@@ -30,13 +29,13 @@ module _ (s : Session) (I : Image) (i : ℕ) where
   abbrev l : Layout
   l = s.layout
 
-  abbrev from : Located
+  abbrev from : Option ℕ
   from = checkpoint_located l I (active_line I) i
 
   -- where the checkpoint of a dirty main segment stands, if 1 to 5 do not refuse: nowhere, or in its backup segment
   located : first_error (context_errors s I) ≡ 0 → dirty_segment s i ≡ true
-      → ((active_state I i ≡ 0) × (from ≡ Nowhere))
-      ⊎ ((active_state I i ≡ 2) × ((j : ℕ) × (j < l.backups) × (backup_to_main I j ≡ i) × (from ≡ At (backup_at l j))))
+      → ((active_state I i ≡ 0) × (from ≡ None))
+      ⊎ ((active_state I i ≡ 2) × ((j : ℕ) × (j < l.backups) × (backup_to_main I j ≡ i) × (from ≡ Some (backup_at l j))))
   unfolding checkpoint_located by_state
   located h d = go (active_state I i) refl
     where
@@ -46,12 +45,12 @@ module _ (s : Session) (I : Image) (i : ℕ) where
       dirty : (i < l.mains) × (active_state I i ≢ 1)
       dirty = dirty_means s (active_state I) (not-false _ (served_condition (context_errors s I) (omega arith) h 5)) i d
 
-      at : ℕ → Located
-      at n = by_state n Nowhere (At (main_at l i)) (At (backup_at l (paired_backup l (backup_to_main I) i)))
+      at : ℕ → Option ℕ
+      at n = by_state n None (Some (main_at l i)) (Some (backup_at l (paired_backup l (backup_to_main I) i)))
 
       go : (n : ℕ) → active_state I i ≡ n
-          → ((active_state I i ≡ 0) × (at (active_state I i) ≡ Nowhere))
-          ⊎ ((active_state I i ≡ 2) × ((j : ℕ) × (j < l.backups) × (backup_to_main I j ≡ i) × (at (active_state I i) ≡ At (backup_at l j))))
+          → ((active_state I i ≡ 0) × (at (active_state I i) ≡ None))
+          ⊎ ((active_state I i ≡ 2) × ((j : ℕ) × (j < l.backups) × (backup_to_main I j ≡ i) × (at (active_state I i) ≡ Some (backup_at l j))))
       go zero e = inl (e, rw e refl)
       go (suc zero) e = absurd (dirty.1 e)
       go (suc (suc n)) e =
@@ -60,11 +59,11 @@ module _ (s : Session) (I : Image) (i : ℕ) where
           inr (two, (paired_backup l (backup_to_main I) i, p.0, p.1, rw two refl))
 
   -- a block that is not written back is its stores
-  only_stores : (x : Located) → restore_dirty l I (dirty_word s i) i x ≡ each_stored s i (located_word I x)
+  only_stores : (x : Option ℕ) → restore_dirty l I (dirty_word s i) i x ≡ each_stored s i (located_word I x)
   unfolding restore_dirty put_block
   only_stores x = cat_ext l.blocks _ _ (λ b h. ap (λ (O : Ops). cond (is_dirty (dirty_word s i) b) O []) (append-nil _))
 
-  dirty_stored : dirty_segment s i ≡ true → (x : Located) → from ≡ x → discard_ops s I i ≡ each_stored s i (located_word I x)
+  dirty_stored : dirty_segment s i ≡ true → (x : Option ℕ) → from ≡ x → discard_ops s I i ≡ each_stored s i (located_word I x)
   unfolding discard_ops
   dirty_stored d x e = rw d (ap (restore_dirty l I (dirty_word s i) i) e ∙ only_stores x)
 
@@ -80,8 +79,8 @@ module _ (s : Session) (I : Image) (i : ℕ) where
 pub discard-stores : DiscardStores
 discard-stores = record {
   dirty = λ s I i h d. ⊎_elim
-      (λ e. inl (e.0, dirty_stored s I i d Nowhere e.1))
-      (λ e. inr (e.0, (e.1.0, e.1.1, e.1.2, dirty_stored s I i d (At (backup_at s.layout e.1.0)) e.1.3)))
+      (λ e. inl (e.0, dirty_stored s I i d None e.1))
+      (λ e. inr (e.0, (e.1.0, e.1.1, e.1.2, dirty_stored s I i d (Some (backup_at s.layout e.1.0)) e.1.3)))
       (located s I i h d);
   clean = λ s I i d. (clean_none s I i d, clean_served s I i d);
 }

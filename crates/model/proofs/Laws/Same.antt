@@ -12,7 +12,7 @@ use lib.ListN.{length, get_or, drop, length-replicate, length-drop}
 use lib.Seq.{length-take-le, ext_get_or}
 use borrow.Author.Tests.{eqb-true, eq-eqb, ne_eqb}
 use Rattle.model.specs.declared.Layout.{Layout}
-use Rattle.model.specs.declared.Located.TheVariants.{Nowhere, At}
+use Rattle.std.specs.Prelude.{None, Some}
 use Rattle.model.specs.Words.{Image}
 use Rattle.model.specs.Layout.{segment_size, segment_at, main_at, backup_at}
 use Rattle.model.specs.Container.{active_line, active_state, seg_state, backup_to_main, paired_backup, by_state, segment_bytes, checkpoint_located, located_bytes, checkpoint_segment, checkpoint_bytes}
@@ -34,7 +34,7 @@ module _ (l : Layout) (I : Image) (c : ContainerOk l I) where
   length-checkpoint_segment i h = go (seg_state I (active_line I) i) refl
     where
       go : (st : ℕ) → seg_state I (active_line I) i ≡ st
-          → length (located_bytes l I (by_state st Nowhere (At (main_at l i)) (At (backup_at l (paired_backup l (backup_to_main I) i))))) ≡ segment_size l
+          → length (located_bytes l I (by_state st None (Some (main_at l i)) (Some (backup_at l (paired_backup l (backup_to_main I) i))))) ≡ segment_size l
       go zero e = length-replicate (segment_size l) 0
       go (suc zero) e = length_segment i (omega arith)
       go (suc (suc n)) e =

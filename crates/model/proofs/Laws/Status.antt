@@ -11,7 +11,9 @@ use native.Mathlib.Decide.{ℕ_discrete}
 use native.Mathlib.Nat.{suc-ne-zero}
 use lib.Dec.{eqb}
 use borrow.Author.Tests.{eqb-true, eqb-false, eq-eqb}
-use Rattle.model.specs.Status.{Errors, first_error, served}
+use Rattle.model.specs.declared.Refusal.{Refusal}
+use Rattle.model.specs.declared.Refusal.TheVariants.{BadSize, BadLength, Foreign, Invalid, BadSession, NoSuchMain, NoSuchBlock, BadSpan, NoFreeBackup, EpochLimit, TraceShort, TraceBad, BadClients, QuotaReached, BackupsReserved}
+use Rattle.model.specs.Status.{refusal_number, Errors, first_error, served}
 use Rattle.model.specs.Refusals.{NoneHolds, Numbered}
 use Rattle.model.proofs.Laws.Range.{or_left, or_right}
 
@@ -69,6 +71,24 @@ served_none (e ∷ es) k h = go e.1 h (served_none es k.1)
     go : (b : Bool) → cond b e.0 (first_error es) ≡ 0 → (first_error es ≡ 0 → NoneHolds es) → (b ≡ false) × NoneHolds es
     go true h ih = (let z : ⊥ = omega arith in absurd z)
     go false h ih = (refl, ih h)
+
+-- no refusal has the number of a served call
+pub refusal_refuses : (r : Refusal) → served (refusal_number r) ≡ false
+refusal_refuses BadSize = refl
+refusal_refuses BadLength = refl
+refusal_refuses Foreign = refl
+refusal_refuses Invalid = refl
+refusal_refuses BadSession = refl
+refusal_refuses NoSuchMain = refl
+refusal_refuses NoSuchBlock = refl
+refusal_refuses BadSpan = refl
+refusal_refuses NoFreeBackup = refl
+refusal_refuses EpochLimit = refl
+refusal_refuses TraceShort = refl
+refusal_refuses TraceBad = refl
+refusal_refuses BadClients = refl
+refusal_refuses QuotaReached = refl
+refusal_refuses BackupsReserved = refl
 
 -- ---- a list in two parts
 

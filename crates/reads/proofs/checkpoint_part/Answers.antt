@@ -1,7 +1,7 @@
 use Prim.Native.Nat.{ℕ}
 use mathlib.Core.Path.{refl, ◌∙◌, sym, ap, subst}
 use native.Mathlib.Omega.{arith}
-use Rattle.model.specs.declared.Located.TheVariants.{Nowhere}
+use Rattle.std.specs.Prelude.{None}
 use Rattle.model.specs.Container.{seg_state, backup_to_main, Valid, checkpoint_located}
 use Rattle.reads.proofs.ReadLaws.{read_judged, readable, located_block, checkpoint_refused, checkpoint-served, answered_none, answered_block}
 use Rattle.reads.proofs.checkpoint_part.Goals as goal
@@ -30,13 +30,13 @@ checkpoint_located-located-requires c =
       valid = subst (λ (n : ℕ). Valid a.layout (seg_state a.image.now n) (backup_to_main a.image.now)) (sym e.0) r.ok.valid;
     }
 
-pub returns-in-Nowhere : goal.returns-in-Nowhere
-returns-in-Nowhere c =
+pub returns-in-None : goal.returns-in-None
+returns-in-None c =
     let a = c.args in
     let s = read_judged a.layout a.image.now a.main a.block _ _ c.read_status.ensures c.is_served.ensures in
     let z = s ∙ c.if-not-is_served.false in
-    let e = sym c.in-Nowhere.is ∙ c.checkpoint_located-located.ensures ∙ ap (λ (n : ℕ). checkpoint_located a.layout a.image.now n a.main) c.active_at.ensures.0 in
-    answered_none a.image.now _ _ c.empty-in-Nowhere.ensures (checkpoint-served a.layout a.image.now a.main a.block Nowhere z e)
+    let e = sym c.in-None.is ∙ c.checkpoint_located-located.ensures ∙ ap (λ (n : ℕ). checkpoint_located a.layout a.image.now n a.main) c.active_at.ensures.0 in
+    answered_none a.image.now _ _ c.empty-in-None.ensures (checkpoint-served a.layout a.image.now a.main a.block None z e)
 
 pub of_block-requires : goal.of_block-requires
 of_block-requires c =

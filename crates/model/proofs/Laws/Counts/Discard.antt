@@ -7,7 +7,7 @@ use native.Mathlib.Omega.{arith}
 use lib.ListN.{length, length-append}
 use Rattle.model.specs.declared.Layout.{Layout}
 use Rattle.model.specs.declared.Session.{Session}
-use Rattle.model.specs.declared.Located.{Located}
+use Rattle.std.specs.Prelude.{Option}
 use Rattle.model.specs.Words.{Image}
 use Rattle.model.specs.Layout.{block_words}
 use Rattle.model.specs.Container.{active_line, checkpoint_located}
@@ -27,7 +27,7 @@ count_unflushed : (d a : ℕ) (w : ℕ → ℕ) → length (for_domain d (put_bl
 unfolding put_block
 count_unflushed d a w = ap length (domain_unflushed d a w) ∙ length-append (stores block_words a w) [] ∙ omega (arith, length-stores block_words a w)
 
-pub count_restore : (d : ℕ) (l : Layout) (I : Image) (word i : ℕ) (from : Located)
+pub count_restore : (d : ℕ) (l : Layout) (I : Image) (word i : ℕ) (from : Option ℕ)
     → length (for_domain d (restore_dirty l I word i from)) ≡ 32 * dirty_count word l.blocks
 unfolding restore_dirty
 count_restore d l I word i from = count_dirty d word l.blocks 32 _ (λ b. count_unflushed d _ _)
@@ -37,7 +37,7 @@ pub count_discard : (d : ℕ) (s : Session) (I : Image) (i : ℕ)
 unfolding discard_ops for_domain
 count_discard d s I i = go (dirty_segment s i)
   where
-    from : Located
+    from : Option ℕ
     from = checkpoint_located s.layout I (active_line I) i
 
     go : (b : Bool) → length (for_domain d (cond b (restore_dirty s.layout I (dirty_word s i) i from) [])) ≡ cond b (32 * dirty_count (dirty_word s i) s.layout.blocks) 0

@@ -9,7 +9,7 @@ use Rattle.model.specs.declared.Layout.{Layout}
 use Rattle.model.specs.declared.Session.{Session}
 use Rattle.model.specs.declared.Action.{Action}
 use Rattle.model.specs.declared.Action.TheVariants.{Nothing, ZeroMain, CopyToBackup, CopyToMain}
-use Rattle.model.specs.declared.Located.{Located}
+use Rattle.std.specs.Prelude.{Option}
 use Rattle.model.specs.declared.Plan.{Plan}
 use Rattle.model.specs.declared.Plan.TheVariants.{NoCopy, OwnBackup, NewBackup, NoneFree}
 use Rattle.model.specs.Range.{cat}
@@ -172,7 +172,7 @@ module _ (s : Session) (I : Image) where
 
   -- ---- discard
 
-  ok_restore_dirty : (i : ℕ) (from : Located) → i < s.layout.mains → AllOk size (restore_dirty s.layout I (word i) i from)
+  ok_restore_dirty : (i : ℕ) (from : Option ℕ) → i < s.layout.mains → AllOk size (restore_dirty s.layout I (word i) i from)
   unfolding restore_dirty
   ok_restore_dirty i from h =
       all_cat (OpOk size) s.layout.blocks _

@@ -8,8 +8,7 @@ use borrow.Author.Tests.{leb-false}
 use Rattle.model.specs.Outcome.{Lent}
 use Rattle.model.specs.declared.Layout.{Layout}
 use Rattle.model.specs.declared.Session.{Session}
-use Rattle.model.specs.declared.Located.{Located}
-use Rattle.model.specs.declared.Located.TheVariants.{Nowhere, At}
+use Rattle.std.specs.Prelude.{Option, None, Some}
 use Rattle.model.specs.Words.{Image}
 use Rattle.model.specs.Layout.{word_size, block_size, main_at, SizesOk}
 use Rattle.model.specs.Container.{active_line, checkpoint_located}
@@ -25,11 +24,11 @@ use Rattle.model.proofs.Laws.Unread.Metadata.{stores_ext, error_ext, segment_wor
 use Rattle.model.proofs.Laws.Unread.Reads.{InSegments, located_same, located_in}
 
 module _ {I J : Image} (same : AgreeNamed I J) where
-  word_same : (x : Located) (b k : ℕ) → InSegments same x → located_word I x b k ≡ located_word J x b k
-  word_same Nowhere b k h = refl
-  word_same (At p) b k h = segment_word same (p + block_size * b + word_size * k) (omega arith)
+  word_same : (x : Option ℕ) (b k : ℕ) → InSegments same x → located_word I x b k ≡ located_word J x b k
+  word_same None b k h = refl
+  word_same (Some p) b k h = segment_word same (p + block_size * b + word_size * k) (omega arith)
 
-  restore_same : (l : Layout) (word i : ℕ) (x : Located) → InSegments same x → restore_dirty l I word i x ≡ restore_dirty l J word i x
+  restore_same : (l : Layout) (word i : ℕ) (x : Option ℕ) → InSegments same x → restore_dirty l I word i x ≡ restore_dirty l J word i x
   unfolding restore_dirty put_block
   restore_same l word i x h = cat_ext l.blocks _ _ (λ b g.
       ap (λ (O : Ops). cond (is_dirty word b) (O ++ []) []) (stores_ext _ (main_at l i + block_size * b) _ _ (λ k y. word_same x b k h)))

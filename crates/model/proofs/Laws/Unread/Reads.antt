@@ -7,8 +7,7 @@ use native.Mathlib.Omega.{arith}
 use lib.Dec.{eqb}
 use borrow.Author.Tests.{eqb-true, leb-false}
 use Rattle.model.specs.declared.Layout.{Layout}
-use Rattle.model.specs.declared.Located.{Located}
-use Rattle.model.specs.declared.Located.TheVariants.{Nowhere, At}
+use Rattle.std.specs.Prelude.{Option, None, Some}
 use Rattle.model.specs.Words.{Image}
 use Rattle.model.specs.Layout.{block_size, metadata_size, most, ss_initial, SizesOk, segment_size, main_at, backup_at}
 use Rattle.model.specs.Status.{first_error, served}
@@ -26,18 +25,18 @@ module _ {I J : Image} (same : AgreeNamed I J) where
 
   pub located_same : (l : Layout) (i : ℕ) → SizesOk l → i < l.mains → checkpoint_located l I (active_line I) i ≡ checkpoint_located l J (active_line J) i
   unfolding checkpoint_located
-  located_same l i sizes h = ap₂ (λ (n j : ℕ). by_state n Nowhere (At (main_at l i)) (At (backup_at l j))) (state_same same i (omega arith)) (backup_same same l sizes i)
+  located_same l i sizes h = ap₂ (λ (n j : ℕ). by_state n None (Some (main_at l i)) (Some (backup_at l j))) (state_same same i (omega arith)) (backup_same same l sizes i)
 
   -- in a segment, if anywhere
-  abbrev pub InSegments : Located → Type 0
-  InSegments Nowhere = Unit {0}
-  InSegments (At p) = metadata_size ≤ p
+  abbrev pub InSegments : Option ℕ → Type 0
+  InSegments None = Unit {0}
+  InSegments (Some p) = metadata_size ≤ p
 
   pub located_in : (l : Layout) (i : ℕ) → InSegments (checkpoint_located l I (active_line I) i)
   unfolding checkpoint_located by_state
   located_in l i = go (seg_state I (active_line I) i)
     where
-      go : (n : ℕ) → InSegments (by_state n Nowhere (At (main_at l i)) (At (backup_at l (paired_backup l (backup_to_main I) i))))
+      go : (n : ℕ) → InSegments (by_state n None (Some (main_at l i)) (Some (backup_at l (paired_backup l (backup_to_main I) i))))
       go zero = tt
       go (suc zero) = omega arith
       go (suc (suc n)) = omega arith
@@ -56,15 +55,15 @@ module _ {I J : Image} (same : AgreeNamed I J) where
   unfolding checkpoint_part read_status
   checkpoint_part_unread l i b = cond_cong _ _ (ap served (read_status_unread l i b))
       (λ z. let e = eqb-true _ 0 z in
-      ap (λ (x : Located). located_part x b) (located_same l i (container_then l I _ e).0.sizes (leb-false _ _ (served_condition (read_errors l I i b) (omega arith) e 6))))
+      ap (λ (x : Option ℕ). located_part x b) (located_same l i (container_then l I _ e).0.sizes (leb-false _ _ (served_condition (read_errors l I i b) (omega arith) e 6))))
       (λ z. refl)
 
   block_same : (at b : ℕ) → metadata_size ≤ at → part_of I (block_part at b) ≡ part_of J (block_part at b)
   block_same at b h = segment_part same block_size (at + block_size * b) (omega arith)
 
-  located_block_same : (x : Located) (b : ℕ) → InSegments x → part_of I (located_part x b) ≡ part_of J (located_part x b)
-  located_block_same Nowhere b h = refl
-  located_block_same (At p) b h = block_same p b h
+  located_block_same : (x : Option ℕ) (b : ℕ) → InSegments x → part_of I (located_part x b) ≡ part_of J (located_part x b)
+  located_block_same None b h = refl
+  located_block_same (Some p) b h = block_same p b h
 
   choice_same : (c : Bool) (p : Part) → part_of I p ≡ part_of J p → part_of I (cond c p no_part) ≡ part_of J (cond c p no_part)
   choice_same true p e = e
@@ -80,21 +79,21 @@ module _ {I J : Image} (same : AgreeNamed I J) where
   pub checkpoint_block_unread : (l : Layout) (i b : ℕ) → checkpoint_block l I i b ≡ checkpoint_block l J i b
   unfolding checkpoint_part
   checkpoint_block_unread l i b =
-      let x : Located = checkpoint_located l I (active_line I) i in
+      let x : Option ℕ = checkpoint_located l I (active_line I) i in
       choice_same (served (read_status l I i b)) (located_part x b) (located_block_same x b (located_in l i))
       ∙ ap (part_of J) (checkpoint_part_unread l i b)
 
   -- ---- the checkpoint
 
-  located_bytes_same : (l : Layout) (x : Located) → InSegments x → located_bytes l I x ≡ located_bytes l J x
-  located_bytes_same l Nowhere h = refl
-  located_bytes_same l (At p) h = segment_part same (segment_size l) p h
+  located_bytes_same : (l : Layout) (x : Option ℕ) → InSegments x → located_bytes l I x ≡ located_bytes l J x
+  located_bytes_same l None h = refl
+  located_bytes_same l (Some p) h = segment_part same (segment_size l) p h
 
   checkpoint_same : (l : Layout) → SizesOk l → checkpoint_bytes l I (active_line I) ≡ checkpoint_bytes l J (active_line J)
   unfolding checkpoint_bytes checkpoint_segment
   checkpoint_same l sizes = cat_ext l.mains _ _ (λ i h.
       located_bytes_same l (checkpoint_located l I (active_line I) i) (located_in l i)
-      ∙ ap (λ (x : Located). located_bytes l J x) (located_same l i sizes h))
+      ∙ ap (λ (x : Option ℕ). located_bytes l J x) (located_same l i sizes h))
 
 initial_unread : {I J K L : Image} → AgreeNamed I J → AgreeNamed K L → (n : ℕ) → n ≤ most
     → same_initial n (active_state I) (active_state K) ≡ same_initial n (active_state J) (active_state L)
