@@ -1,6 +1,5 @@
 // The blocks of a segment (the trade: the frames of a level or a spare): all of them copied or zeroed, the dirty ones copied,
-// zeroed or written back, by operations on a trace. Every function `put_..` writes its operations from number n on, those that the
-// trace has for the kind of module, and answers the number of the next one.
+// zeroed or written back, by operations on a trace.
 
 #![tactic(auto)]
 
@@ -11,6 +10,7 @@ ghost use Rattle.model.specs.Ops.{clwbs, put_block, copy_segment, zero_segment, 
 ghost use Rattle.trace.specs.Emit.{Fits, Emitted};
 
 use model::Layout;
+use trace::Writer;
 
 // Bytes of a block, as indexes count them.
 const BLOCK_SIZE: usize = Layout::BLOCK_SIZE as usize;
@@ -23,55 +23,30 @@ pub fn put_segment_copy(
     layout: Layout,
     from: usize,
     to: usize,
-    domain: u64,
-    trace: &mut [u64],
-    n: usize,
-) -> usize
+    out: &mut Writer,
+)
     requires layout_in_bounds { from + segment_size layout ≤ length image.now }
     requires layout_bound { to + segment_size layout < 2 ^ 64 }
-    requires fits { Fits domain trace.old n (copy_segment layout image.now from to) }
-    ensures { Emitted domain trace.old n (copy_segment layout image.now from to) trace.new result }
+    requires fits { Fits out.old (copy_segment layout image.now from to) }
+    ensures { Emitted out.old (copy_segment layout image.now from to) out.new }
 {
-    let blocks = layout.blocks as usize;
-    let mut next = n;
-    let mut b = 0;
-    while b < blocks {
+    for b in 0..layout.blocks as usize {
         let start = from + BLOCK_SIZE * b;
         let place = to + BLOCK_SIZE * b;
-        next = blocks::put_copy(
-            &image[start..start + BLOCK_SIZE],
-            place as u64,
-            true,
-            domain,
-            trace,
-            next,
-        );
-        b += 1;
+        blocks::put_copy(&image[start..start + BLOCK_SIZE], place as u64, true, out);
     }
-    next
 }
 
 // Fills all blocks of the segment at a place with zeros, upward.
-pub fn put_segment_zero(
-    layout: Layout,
-    to: usize,
-    domain: u64,
-    trace: &mut [u64],
-    n: usize,
-) -> usize
+pub fn put_segment_zero(layout: Layout, to: usize, out: &mut Writer)
     requires layout_bound { to + segment_size layout < 2 ^ 64 }
-    requires fits { Fits domain trace.old n (zero_segment layout to) }
-    ensures { Emitted domain trace.old n (zero_segment layout to) trace.new result }
+    requires fits { Fits out.old (zero_segment layout to) }
+    ensures { Emitted out.old (zero_segment layout to) out.new }
 {
-    let blocks = layout.blocks as usize;
-    let mut next = n;
-    let mut b = 0;
-    while b < blocks {
+    for b in 0..layout.blocks as usize {
         let place = to + BLOCK_SIZE * b;
-        next = blocks::put_zero(place as u64, true, domain, trace, next);
-        b += 1;
+        blocks::put_zero(place as u64, true, out);
     }
-    next
 }
 
 // ---- dirty blocks
@@ -85,81 +60,45 @@ pub fn put_dirty_copies(
     from: usize,
     to: usize,
     flush: bool,
-    domain: u64,
-    trace: &mut [u64],
-    n: usize,
-) -> usize
+    out: &mut Writer,
+)
     requires blocks_le_most { (blocks ≤ most) × (word < 2 ^ blocks) }
     requires blocks_in_bounds { from + block_size * blocks ≤ length image.now }
     requires blocks_bound { to + block_size * blocks < 2 ^ 64 }
-    requires fits { Fits domain trace.old n (each_dirty word blocks (λ b. put_block flush (to + block_size * b) (λ k. word_at image.now (from + block_size * b + word_size * k)))) }
-    ensures { Emitted domain trace.old n (each_dirty word blocks (λ b. put_block flush (to + block_size * b) (λ k. word_at image.now (from + block_size * b + word_size * k)))) trace.new result }
+    requires fits { Fits out.old (each_dirty word blocks (λ b. put_block flush (to + block_size * b) (λ k. word_at image.now (from + block_size * b + word_size * k)))) }
+    ensures { Emitted out.old (each_dirty word blocks (λ b. put_block flush (to + block_size * b) (λ k. word_at image.now (from + block_size * b + word_size * k)))) out.new }
 {
-    let mut next = n;
-    let mut rest = word;
-    while rest != 0 {
-        let b = u64::trailing_zeros(rest) as usize;
+    for b in words::bits(word) {
         let source = from + BLOCK_SIZE * b;
         let target = to + BLOCK_SIZE * b;
-        next = blocks::put_copy(
-            &image[source..source + BLOCK_SIZE],
-            target as u64,
-            flush,
-            domain,
-            trace,
-            next,
-        );
-        rest = rest & (rest - 1);
+        blocks::put_copy(&image[source..source + BLOCK_SIZE], target as u64, flush, out);
     }
-    next
 }
 
 // Fills the dirty blocks of the segment at a place with zeros, upward, which are not written back; bit b of the word says that block b is
 // dirty, and `rest` has those that are left.
-pub fn put_dirty_zeros(
-    blocks: u64,
-    word: u64,
-    to: usize,
-    domain: u64,
-    trace: &mut [u64],
-    n: usize,
-) -> usize
+pub fn put_dirty_zeros(blocks: u64, word: u64, to: usize, out: &mut Writer)
     requires blocks_le_most { (blocks ≤ most) × (word < 2 ^ blocks) }
     requires blocks_bound { to + block_size * blocks < 2 ^ 64 }
-    requires fits { Fits domain trace.old n (each_dirty word blocks (λ b. put_block false (to + block_size * b) (λ _. 0))) }
-    ensures { Emitted domain trace.old n (each_dirty word blocks (λ b. put_block false (to + block_size * b) (λ _. 0))) trace.new result }
+    requires fits { Fits out.old (each_dirty word blocks (λ b. put_block false (to + block_size * b) (λ _. 0))) }
+    ensures { Emitted out.old (each_dirty word blocks (λ b. put_block false (to + block_size * b) (λ _. 0))) out.new }
 {
-    let mut next = n;
-    let mut rest = word;
-    while rest != 0 {
-        let target = to + BLOCK_SIZE * (u64::trailing_zeros(rest) as usize);
-        next = blocks::put_zero(target as u64, false, domain, trace, next);
-        rest = rest & (rest - 1);
+    for b in words::bits(word) {
+        let target = to + BLOCK_SIZE * b;
+        blocks::put_zero(target as u64, false, out);
     }
-    next
 }
 
 // Writes back the dirty blocks of the segment at a place, upward; bit b of the word `dirty` says that block b is, and `rest` has
 // those that are left.
-pub fn put_dirty_clwbs(
-    blocks: u64,
-    dirty: u64,
-    at: usize,
-    domain: u64,
-    trace: &mut [u64],
-    n: usize,
-) -> usize
+pub fn put_dirty_clwbs(blocks: u64, dirty: u64, at: usize, out: &mut Writer)
     requires blocks_le_most { (blocks ≤ most) × (dirty < 2 ^ blocks) }
     requires blocks_bound { at + block_size * blocks < 2 ^ 64 }
-    requires fits { Fits domain trace.old n (each_dirty dirty blocks (λ b. clwbs block_lines (at + block_size * b))) }
-    ensures { Emitted domain trace.old n (each_dirty dirty blocks (λ b. clwbs block_lines (at + block_size * b))) trace.new result }
+    requires fits { Fits out.old (each_dirty dirty blocks (λ b. clwbs block_lines (at + block_size * b))) }
+    ensures { Emitted out.old (each_dirty dirty blocks (λ b. clwbs block_lines (at + block_size * b))) out.new }
 {
-    let mut next = n;
-    let mut rest = dirty;
-    while rest != 0 {
-        let place = at + BLOCK_SIZE * (u64::trailing_zeros(rest) as usize);
-        next = blocks::put_clwbs(place as u64, domain, trace, next);
-        rest = rest & (rest - 1);
+    for b in words::bits(dirty) {
+        let place = at + BLOCK_SIZE * b;
+        blocks::put_clwbs(place as u64, out);
     }
-    next
 }

@@ -1,4 +1,4 @@
-// The volatile session (SPECIFICATION 5; the trade: the card), lent by its parts: tests and changes of its dirty bits, its
+// The volatile session (SPECIFICATION 5; the trade: the card), as it is lent: tests and changes of its dirty bits, its
 // validity against the states of main segments, how many blocks are dirty, and the one judge of an image and a session.
 
 #![tactic(auto)]
@@ -11,10 +11,10 @@ ghost use Rattle.model.specs.Layout.{line_size, word_size, most, ss_main};
 ghost use Rattle.model.specs.Status.{code_of, first_error};
 ghost use Rattle.model.specs.Session.{is_dirty, set_bit, set_bits, with_checkpoint, valid_session, context_errors};
 ghost use Rattle.model.specs.Counts.{dirty_total};
-ghost use Rattle.session.specs.Parts.{session_of};
+ghost use Rattle.session.specs.Parts.{viewed};
 ghost use Rattle.session.specs.Marked.{marked_segments};
 
-use model::{Layout, Session, Status};
+use model::{Layout, Refusal, Session};
 
 // Bytes of a line, as indexes count them.
 const LINE_SIZE: usize = Layout::LINE_SIZE as usize;
@@ -29,6 +29,59 @@ const EIGHT: usize = 8;
 const ALL: u64 = 18446744073709551615;
 
 const BEYOND_EIGHT: u64 = 0xffffffffffffff00;
+
+// A session that is lent: its words of dirty blocks stand elsewhere, in a session or among the words of the C interface.
+#[derive(Clone, Copy)]
+pub struct SessionView<'a> {
+    pub layout: Layout,
+    pub dirty_segments: u64,
+    pub dirty_blocks: &'a [u64; Layout::MOST_LEN],
+    pub domain: u64,
+}
+
+impl<'a> SessionView<'a> {
+    // A session, lent.
+    pub fn of(session: &'a Session) -> SessionView<'a>
+        ensures { viewed result ≡ session.now }
+    {
+        SessionView {
+            layout: session.layout,
+            dirty_segments: session.dirty_segments,
+            dirty_blocks: &session.dirty_blocks,
+            domain: session.domain,
+        }
+    }
+
+    // Whether a session is valid, by the states of main segments.
+    fn is_valid(self, states: &[u8]) -> bool
+        requires le_mains { (1 ≤ self.layout.mains) × (self.layout.mains ≤ most) × (1 ≤ self.layout.blocks) × (self.layout.blocks ≤ most) }
+        requires states_in_bounds { line_size ≤ length states.now }
+        ensures { result ≡ valid_session (viewed self) (λ i. get_or states.now i 0) }
+    {
+        let mains = self.layout.mains;
+        if !words::within(self.dirty_segments, mains) {
+            return false;
+        }
+        let n = mains as usize;
+        let in_blocks = blocks_within(self.dirty_blocks, n, self.layout.blocks)
+            & rest_clear(self.dirty_blocks, n);
+        in_blocks
+            & none_in_main(self.dirty_segments, states, mains)
+            & !(self.domain > Session::EADR)
+    }
+
+    // The first of refusals 1 to 5 that applies to an image and a session.
+    pub fn judge(self, image: &[u8]) -> Result<(), Refusal>
+        ensures { code_of result ≡ first_error (context_errors (viewed self) image.now) }
+    {
+        container::container_status(image, self.layout)?;
+        let active = metadata::active_at(image);
+        if !self.is_valid(&image[active..active + LINE_SIZE]) {
+            return Err(Refusal::BadSession);
+        }
+        Ok(())
+    }
+}
 
 // A word of dirty bits with the bits below `blocks` cleared; the others are kept.
 pub fn clear_blocks(word: u64, blocks: u64) -> u64
@@ -58,35 +111,32 @@ pub fn set_segment(segments: u64, main: u64) -> u64
 pub fn with_checkpoint(s: Session) -> Session
     ensures { result ≡ with_checkpoint s }
 {
-    let mut next = s;
-    next.dirty_segments = 0;
-    next
+    Session {
+        dirty_segments: 0,
+        ..s
+    }
 }
 
 // Whether each of the first `mains` words has no bit set from bit `blocks` on.
-fn blocks_within(words: &[u64], mains: usize, blocks: u64) -> bool
-    requires { (mains ≤ most) × (1 ≤ blocks) × (blocks ≤ most) × (most ≤ length words.now) }
+fn blocks_within(words: &[u64; Layout::MOST_LEN], mains: usize, blocks: u64) -> bool
+    requires { (mains ≤ most) × (1 ≤ blocks) × (blocks ≤ most) }
     ensures { result ≡ all_b mains (λ i. ltb (get_or words.now i 0) (2 ^ blocks)) }
 {
     let mut seen: u64 = 0;
-    let mut i = 0;
-    while i < mains {
-        seen |= words[i];
-        i += 1;
+    for word in &words[..mains] {
+        seen |= *word;
     }
     words::within(seen, blocks)
 }
 
 // Whether the words from `mains` on are 0.
-fn rest_clear(words: &[u64], mains: usize) -> bool
-    requires { (mains ≤ most) × (most ≤ length words.now) }
+fn rest_clear(words: &[u64; Layout::MOST_LEN], mains: usize) -> bool
+    requires { mains ≤ most }
     ensures { result ≡ all_b most (λ i. ltb i mains || eqb (get_or words.now i 0) 0) }
 {
     let mut seen: u64 = 0;
-    let mut i = mains;
-    while i < Layout::MOST_LEN {
-        seen |= words[i];
-        i += 1;
+    for word in &words[mains..] {
+        seen |= *word;
     }
     seen == 0
 }
@@ -118,49 +168,6 @@ fn none_in_main(segments: u64, states: &[u8], mains: u64) -> bool
     seen == 0
 }
 
-// Whether the session of these parts is valid, by the states of main segments.
-fn session_valid(layout: Layout, segments: u64, words: &[u64], domain: u64, states: &[u8]) -> bool
-    requires le_mains { (1 ≤ layout.mains) × (layout.mains ≤ most) × (1 ≤ layout.blocks) × (layout.blocks ≤ most) }
-    requires most_in_bounds { (most ≤ length words.now) × (line_size ≤ length states.now) }
-    ensures { result ≡ valid_session (session_of layout segments words.now domain) (λ i. get_or states.now i 0) }
-{
-    let mains = layout.mains;
-    if !words::within(segments, mains) {
-        return false;
-    }
-    let n = mains as usize;
-    let in_blocks = blocks_within(words, n, layout.blocks) & rest_clear(words, n);
-    in_blocks & none_in_main(segments, states, mains) & !(domain > Session::EADR)
-}
-
-// The first of refusals 1 to 5 that applies to an image and the session of these parts.
-pub fn context_status(
-    image: &[u8],
-    layout: Layout,
-    segments: u64,
-    words: &[u64],
-    domain: u64,
-) -> Status
-    requires { most ≤ length words.now }
-    ensures { code_of result ≡ first_error (context_errors (session_of layout segments words.now domain) image.now) }
-{
-    let container = container::container_status(image, layout);
-    if !container.is_served() {
-        return container;
-    }
-    let active = metadata::active_at(image);
-    if !session_valid(
-        layout,
-        segments,
-        words,
-        domain,
-        &image[active..active + LINE_SIZE],
-    ) {
-        return Status::BadSession;
-    }
-    Status::Served
-}
-
 // How many blocks of a main segment are dirty, by its word.
 pub fn dirty_count(word: u64) -> u64
     ensures { (result ≡ ones word) × (result ≤ most) }
@@ -171,22 +178,20 @@ pub fn dirty_count(word: u64) -> u64
 // ---- the main segments that have a dirty block
 
 // Whether the eight words from word i on are 0.
-fn eight_clear(words: &[u64], i: usize) -> bool
-    requires { (i + word_size ≤ most) × (most ≤ length words.now) }
+fn eight_clear(words: &[u64; Layout::MOST_LEN], i: usize) -> bool
+    requires { i + word_size ≤ most }
     ensures { result ≡ all_b word_size (λ t. eqb (get_or words.now (i + t) 0) 0) }
 {
     let mut seen: u64 = 0;
-    let mut t = 0;
-    while t < EIGHT {
-        seen |= words[i + t];
-        t += 1;
+    for word in &words[i..i + EIGHT] {
+        seen |= *word;
     }
     seen == 0
 }
 
 // Whether the eight main segments from main segment i on are there and have no dirty block, so that they can be passed over.
-fn eight_passed(words: &[u64], i: usize, mains: usize) -> bool
-    requires { (i ≤ mains) × (mains ≤ most) × (most ≤ length words.now) }
+fn eight_passed(words: &[u64; Layout::MOST_LEN], i: usize, mains: usize) -> bool
+    requires { (i ≤ mains) × (mains ≤ most) }
     ensures { result ≡ true → (i + word_size ≤ mains) × (all_b word_size (λ t. eqb (get_or words.now (i + t) 0) 0) ≡ true) }
 {
     if mains < i + EIGHT {
@@ -207,8 +212,8 @@ fn with_mark(set: u64, word: u64, i: usize) -> u64
 }
 
 // The main segments that have a dirty block, as bits of a word. Eight without one are passed over at once.
-pub fn marked_segments(words: &[u64], mains: usize) -> u64
-    requires { (mains ≤ most) × (most ≤ length words.now) }
+pub fn marked_segments(words: &[u64; Layout::MOST_LEN], mains: usize) -> u64
+    requires { mains ≤ most }
     ensures { result ≡ marked_segments words.now mains }
 {
     let mut set: u64 = 0;
@@ -225,17 +230,15 @@ pub fn marked_segments(words: &[u64], mains: usize) -> u64
 }
 
 // How many blocks of all main segments are dirty, by their words and the set of those that have one.
-pub fn dirty_total(layout: Layout, words: &[u64], marked: u64) -> u64
-    requires mains_le_most { (layout.mains ≤ most) × (most ≤ length words.now) }
+pub fn dirty_total(layout: Layout, words: &[u64; Layout::MOST_LEN], marked: u64) -> u64
+    requires mains_le_most { layout.mains ≤ most }
     requires by_index { (i : ℕ) → i < layout.mains → get_or words.now i 0 < 2 ^ layout.blocks }
     requires marked_value { marked ≡ marked_segments words.now layout.mains }
     ensures { (result ≡ dirty_total layout words.now) × (result ≤ most * most) }
 {
     let mut sum = 0;
-    let mut rest = marked;
-    while rest != 0 {
-        sum += dirty_count(words[u64::trailing_zeros(rest) as usize]);
-        rest = rest & (rest - 1);
+    for i in words::bits(marked) {
+        sum += dirty_count(words[i]);
     }
     sum
 }
