@@ -1,7 +1,6 @@
 // Copy on write (SPECIFICATION 10.3): before the first store to a main segment that holds its checkpoint itself, the segment
 // is copied to a backup segment and its state becomes 2. The plan of the copy, how many operations it is, and the
-// operations. Every function `put_..` writes its operations from number n on, those that the trace has for the kind of module, and
-// answers the number of the next one.
+// operations.
 
 #![tactic(auto)]
 
@@ -14,8 +13,8 @@ ghost use Rattle.trace.specs.Emit.{Fits, Emitted};
 ghost use Rattle.session.specs.Parts.{session_of};
 ghost use Rattle.copy.specs.Steps.{Writable, CopiesTo};
 
-use metadata::Found;
 use model::{Layout, Plan};
+use trace::Writer;
 
 // Operations that give a backup segment its main segment, and that turn a state with the fences around it, without the one write-back
 // that each of the two has besides.
@@ -46,16 +45,12 @@ pub fn plan_copy(image: &[u8], layout: Layout, segments: u64, main: u64) -> Plan
     if dirty | (state != Layout::SS_MAIN) {
         return Plan::NoCopy;
     }
-    let own = metadata::find_paired_backup(image, layout, main);
-    match own {
-        Found::Backup(backup) => Plan::OwnBackup(backup),
-        Found::Missing => {
-            let new = metadata::find_new_backup(image, layout);
-            match new {
-                Found::Backup(backup) => Plan::NewBackup(backup),
-                Found::Missing => Plan::NoneFree,
-            }
-        }
+    if let Some(backup) = metadata::find_paired_backup(image, layout, main) {
+        return Plan::OwnBackup(backup);
+    }
+    match metadata::find_new_backup(image, layout) {
+        Some(backup) => Plan::NewBackup(backup),
+        None => Plan::NoneFree,
     }
 }
 
@@ -63,24 +58,14 @@ pub fn plan_copy(image: &[u8], layout: Layout, segments: u64, main: u64) -> Plan
 pub fn has_copy(plan: Plan) -> bool
     ensures { result ≡ copies plan }
 {
-    match plan {
-        Plan::NoCopy => false,
-        Plan::OwnBackup(_) => true,
-        Plan::NewBackup(_) => true,
-        Plan::NoneFree => false,
-    }
+    matches!(plan, Plan::OwnBackup(_) | Plan::NewBackup(_))
 }
 
 // Whether a new backup segment is needed and none is free.
 pub fn none_free(plan: Plan) -> bool
     ensures { result ≡ none_free plan }
 {
-    match plan {
-        Plan::NoCopy => false,
-        Plan::OwnBackup(_) => false,
-        Plan::NewBackup(_) => false,
-        Plan::NoneFree => true,
-    }
+    matches!(plan, Plan::NoneFree)
 }
 
 // How many operations the copy is on a trace for a kind of module (SPECIFICATION 10.6).
@@ -90,103 +75,76 @@ pub fn copy_count(plan: Plan, segment: Segment, domain: u64) -> u64
 {
     let block = trace::copied_ops(domain);
     match plan {
-        Plan::NoCopy => 0,
+        Plan::NoCopy | Plan::NoneFree => 0,
         Plan::OwnBackup(_) => {
             block * session::dirty_count(segment.word) + (STATE_OPS + trace::flush_count(domain, 1))
         }
         Plan::NewBackup(_) => {
             block * segment.layout.blocks + (PAIR_OPS + STATE_OPS + trace::flush_count(domain, 2))
         }
-        Plan::NoneFree => 0,
     }
 }
 
 // ---- the operations
 
 // Gives backup segment `backup` the main segment `main`: its pair byte is stored in its word and written back.
-fn put_pair(image: &[u8], main: u64, backup: u64, domain: u64, trace: &mut [u64], n: usize) -> usize
+fn put_pair(image: &[u8], main: u64, backup: u64, out: &mut Writer)
     requires main_lt_most { (main < most) × (backup < most) × (pairs_end ≤ length image.now) }
-    requires fits { Fits domain trace.old n (pair_ops image.now main backup) }
-    ensures { Emitted domain trace.old n (pair_ops image.now main backup) trace.new result }
+    requires fits { Fits out.old (pair_ops image.now main backup) }
+    ensures { Emitted out.old (pair_ops image.now main backup) out.new }
 {
     let pair = (Layout::PAIRS_AT + backup) as usize;
-    let next = span::put_byte(image, pair, main as u8, trace, n);
-    trace::put_clwb(domain, trace, next, Layout::PAIRS_AT)
+    span::put_byte(image, pair, main as u8, out);
+    out.clwb(Layout::PAIRS_AT);
 }
 
 // A fence; state 2 for a main segment stored on the active line of states and written back; a fence.
-fn put_state(image: &[u8], main: u64, domain: u64, trace: &mut [u64], n: usize) -> usize
+fn put_state(image: &[u8], main: u64, out: &mut Writer)
     requires main_lt_most { (main < most) × (pairs_at ≤ length image.now) }
-    requires fits { Fits domain trace.old n (sfence ∷ state_ops image.now main ++ sfence ∷ []) }
-    ensures { Emitted domain trace.old n (sfence ∷ state_ops image.now main ++ sfence ∷ []) trace.new result }
+    requires fits { Fits out.old (sfence ∷ state_ops image.now main ++ sfence ∷ []) }
+    ensures { Emitted out.old (sfence ∷ state_ops image.now main ++ sfence ∷ []) out.new }
 {
     let active = metadata::active_at(image);
     let state = active + main as usize;
-    let store = trace::put_sfence(trace, n);
-    let clwb = span::put_byte(image, state, Layout::SS_BACKUP, trace, store);
-    let fence = trace::put_clwb(domain, trace, clwb, active as u64);
-    trace::put_sfence(trace, fence)
+    out.sfence();
+    span::put_byte(image, state, Layout::SS_BACKUP, out);
+    out.clwb(active as u64);
+    out.sfence();
 }
 
 // Makes the bytes of a main segment stand in the plan's backup segment: its dirty blocks in its own, all in the new one, which
 // is given to it first.
-fn put_backup(
-    image: &[u8],
-    segment: Segment,
-    plan: Plan,
-    domain: u64,
-    trace: &mut [u64],
-    n: usize,
-) -> usize
+fn put_backup(image: &[u8], segment: Segment, plan: Plan, out: &mut Writer)
     requires writable { Writable segment.layout image.now segment.main × (segment.word < 2 ^ segment.layout.blocks) }
     requires copies_to { CopiesTo segment.layout plan }
-    requires fits { Fits domain trace.old n (backup_ops segment.layout image.now segment.word segment.main plan) }
-    ensures { Emitted domain trace.old n (backup_ops segment.layout image.now segment.word segment.main plan) trace.new result }
+    requires fits { Fits out.old (backup_ops segment.layout image.now segment.word segment.main plan) }
+    ensures { Emitted out.old (backup_ops segment.layout image.now segment.word segment.main plan) out.new }
 {
     let layout = segment.layout;
     let from = places::main_at(layout, segment.main);
     match plan {
-        Plan::NoCopy => n,
+        Plan::NoCopy | Plan::NoneFree => {}
         Plan::OwnBackup(j) => {
             let to = places::backup_at(layout, j);
-            segments::put_dirty_copies(
-                image,
-                layout.blocks,
-                segment.word,
-                from,
-                to,
-                true,
-                domain,
-                trace,
-                n,
-            )
+            segments::put_dirty_copies(image, layout.blocks, segment.word, from, to, true, out);
         }
         Plan::NewBackup(j) => {
             let to = places::backup_at(layout, j);
-            let next = put_pair(image, segment.main, j, domain, trace, n);
-            segments::put_segment_copy(image, layout, from, to, domain, trace, next)
+            put_pair(image, segment.main, j, out);
+            segments::put_segment_copy(image, layout, from, to, out);
         }
-        Plan::NoneFree => n,
     }
 }
 
 // Copy on write, if the plan copies: the backup, a fence, state 2, a fence.
-pub fn put_copy_on_write(
-    image: &[u8],
-    segment: Segment,
-    plan: Plan,
-    domain: u64,
-    trace: &mut [u64],
-    n: usize,
-) -> usize
+pub fn put_copy_on_write(image: &[u8], segment: Segment, plan: Plan, out: &mut Writer)
     requires writable { Writable segment.layout image.now segment.main × (segment.word < 2 ^ segment.layout.blocks) }
     requires copies_to { CopiesTo segment.layout plan }
-    requires fits { Fits domain trace.old n (copy_on_write_ops segment.layout image.now segment.word segment.main plan) }
-    ensures { Emitted domain trace.old n (copy_on_write_ops segment.layout image.now segment.word segment.main plan) trace.new result }
+    requires fits { Fits out.old (copy_on_write_ops segment.layout image.now segment.word segment.main plan) }
+    ensures { Emitted out.old (copy_on_write_ops segment.layout image.now segment.word segment.main plan) out.new }
 {
-    if !has_copy(plan) {
-        return n;
+    if has_copy(plan) {
+        put_backup(image, segment, plan, out);
+        put_state(image, segment.main, out);
     }
-    let next = put_backup(image, segment, plan, domain, trace, n);
-    put_state(image, segment.main, domain, trace, next)
 }

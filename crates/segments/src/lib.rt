@@ -18,13 +18,7 @@ const BLOCK_SIZE: usize = Layout::BLOCK_SIZE as usize;
 // ---- all blocks
 
 // Copies all blocks of the segment at one place to that at another, upward.
-pub fn put_segment_copy(
-    image: &[u8],
-    layout: Layout,
-    from: usize,
-    to: usize,
-    out: &mut Writer,
-)
+pub fn put_segment_copy(image: &[u8], layout: Layout, from: usize, to: usize, out: &mut Writer)
     requires layout_in_bounds { from + segment_size layout ≤ length image.now }
     requires layout_bound { to + segment_size layout < 2 ^ 64 }
     requires fits { Fits out.old (copy_segment layout image.now from to) }
@@ -71,7 +65,12 @@ pub fn put_dirty_copies(
     for b in words::bits(word) {
         let source = from + BLOCK_SIZE * b;
         let target = to + BLOCK_SIZE * b;
-        blocks::put_copy(&image[source..source + BLOCK_SIZE], target as u64, flush, out);
+        blocks::put_copy(
+            &image[source..source + BLOCK_SIZE],
+            target as u64,
+            flush,
+            out,
+        );
     }
 }
 
