@@ -3,10 +3,10 @@ use Prim.Native.Nat.{ℕ, zero, suc, ◌+◌, ◌-◌, ◌≤◌, ◌<◌}
 use mathlib.Core.Path.{◌≡◌, sym, ap, ◌∙◌}
 use mathlib.Core.List.{[], append-nil}
 use native.Mathlib.Omega.{arith}
-use lib.Count.{count_trailing_zeros}
 use Rattle.model.specs.Range.{cat}
 use Rattle.model.specs.Session.{bit}
 use Rattle.model.specs.Ops.{Ops}
+use Rattle.words.specs.Walk.{Turn}
 use Rattle.words.proofs.WalkLaws.{Walk, walk_left, walk_beyond, walk_below, walk_between}
 use Rattle.trace.specs.declared.Writer.{Writer}
 use Rattle.trace.specs.Emit.{Fits, Emitted}
@@ -28,18 +28,15 @@ module _ {set n rest k : ℕ} (g : ℕ → Ops) (none : (b : ℕ) → b < n → 
       let skip = cat_skip g k (n - k) (λ b l h. none b (omega (arith, v.within)) (walk_left v e b l)) in
       emitted_as p (sym skip ∙ ap (λ (m : ℕ). cat m g) e₁)
 
-  module _ {w w₁ : Writer} (some : 0 < rest) (p : Emitted w (cat k g) w₁) where
-    abbrev z : ℕ
-    z = count_trailing_zeros 64 rest
-
-    reached : Emitted w (cat (count_trailing_zeros 64 rest) g) w₁
+  module _ {b after : ℕ} {w w₁ : Writer} (t : Turn rest b after) (p : Emitted w (cat k g) w₁) where
+    reached : Emitted w (cat b g) w₁
     reached =
-        let e₁ : k + (z - k) ≡ z = omega (arith, walk_beyond v some) in
-        let skip = cat_skip g k (z - k) (λ b l h. none b (omega (arith, walk_below v some)) (walk_between v some b l (omega arith))) in
+        let e₁ : k + (b - k) ≡ b = omega (arith, walk_beyond v t) in
+        let skip = cat_skip g k (b - k) (λ i l h. none i (omega (arith, walk_below v t)) (walk_between v t i l (omega arith))) in
         emitted_as p (sym skip ∙ ap (λ (m : ℕ). cat m g) e₁)
 
-    pub walk_fits : Fits w (cat n g) → Fits w₁ (g (count_trailing_zeros 64 rest))
-    walk_fits room = fits_each z n g (walk_below v some) room reached
+    pub walk_fits : Fits w (cat n g) → Fits w₁ (g b)
+    walk_fits room = fits_each b n g (walk_below v t) room reached
 
-    pub walk_emits : {w₂ : Writer} → Emitted w₁ (g (count_trailing_zeros 64 rest)) w₂ → Emitted w (cat (count_trailing_zeros 64 rest + 1) g) w₂
-    walk_emits q = emitted_each z g reached q
+    pub walk_emits : {w₂ : Writer} → Emitted w₁ (g b) w₂ → Emitted w (cat (b + 1) g) w₂
+    walk_emits q = emitted_each b g reached q

@@ -161,3 +161,36 @@ pub fn within(word: u64, n: u64) -> bool
 {
     (word >> (n - 1)) >> 1 == 0
 }
+
+// The members of a set of bits, upward: those that are still to come.
+#[derive(Clone, Copy)]
+pub struct Members {
+    pub rest: u64,
+}
+
+// A walk over the members of a set of bits.
+pub fn bits(set: u64) -> Members
+    ensures { result.rest ≡ set }
+{
+    Members { rest: set }
+}
+
+impl Iterator for Members {
+    ghost use Rattle.std.specs.Iterator.{at_most};
+    ghost use Rattle.words.specs.Walk.{GivesLowest};
+
+    type Item = usize;
+
+    ghost next_gives = { GivesLowest };
+
+    ghost remaining = { λ left. at_most left.rest };
+
+    fn next(&mut self) -> Option<usize> {
+        if self.rest == 0 {
+            return None;
+        }
+        let lowest = u64::trailing_zeros(self.rest) as usize;
+        self.rest &= self.rest - 1;
+        Some(lowest)
+    }
+}
