@@ -3,13 +3,13 @@
 
 #![tactic(auto)]
 
-ghost use Rattle.std.specs.Prelude.{◌≡◌, ◌+◌, ◌*◌, ◌≤◌, ◌<◌};
-ghost use Rattle.model.specs.Layout.{block_size, most, largest_image, layout_of};
+ghost use Rattle.std.specs.Prelude.{◌≡◌, ◌+◌, ◌*◌, ◌≤◌, ◌<◌, length, take, drop};
+ghost use Rattle.model.specs.Layout.{block_size, most, largest_image};
 ghost use Rattle.model.specs.Status.{code_of};
 ghost use Rattle.model.specs.Reads.{read_status, working_part, checkpoint_part, working_block, checkpoint_block};
 ghost use Rattle.reads.specs.Answered.{Answered};
 
-use model::{Layout, Located, Status};
+use model::{Layout, Refusal};
 
 // A part of an image: where it starts and how many bytes it has.
 #[derive(Clone, Copy)]
@@ -39,13 +39,10 @@ impl Part {
 }
 
 // The status of either read.
-pub fn read_status(image: &[u8], layout: Layout, main: u64, block: u64) -> Status
+pub fn read_status(image: &[u8], layout: Layout, main: u64, block: u64) -> Result<(), Refusal>
     ensures { code_of result ≡ read_status layout image.now main block }
 {
-    let status = container::container_status(image, layout);
-    if !status.is_served() {
-        return status;
-    }
+    container::container_status(image, layout)?;
     places::place_status(layout, main, block)
 }
 
@@ -53,7 +50,7 @@ pub fn read_status(image: &[u8], layout: Layout, main: u64, block: u64) -> Statu
 pub fn working_part(image: &[u8], layout: Layout, main: u64, block: u64) -> Part
     ensures { Answered image.now (working_part layout image.now main block) result }
 {
-    if !read_status(image, layout, main, block).is_served() {
+    if read_status(image, layout, main, block).is_err() {
         return Part::empty();
     }
     Part::of_block(places::main_at(layout, main) as u64, block)
@@ -63,62 +60,38 @@ pub fn working_part(image: &[u8], layout: Layout, main: u64, block: u64) -> Part
 pub fn checkpoint_part(image: &[u8], layout: Layout, main: u64, block: u64) -> Part
     ensures { Answered image.now (checkpoint_part layout image.now main block) result }
 {
-    if !read_status(image, layout, main, block).is_served() {
+    if read_status(image, layout, main, block).is_err() {
         return Part::empty();
     }
-    let located = metadata::checkpoint_located(image, layout, metadata::active_at(image), main);
-    match located {
-        Located::Nowhere => Part::empty(),
-        Located::At(at) => Part::of_block(at, block),
+    match metadata::checkpoint_located(image, layout, metadata::active_at(image), main) {
+        None => Part::empty(),
+        Some(at) => Part::of_block(at, block),
     }
 }
 
-// The status of either read, by sizes.
-pub fn crpm_read_status(
-    image: &[u8],
-    mains: u64,
-    backups: u64,
-    blocks: u64,
-    main: u64,
-    block: u64,
-) -> Status
-    ensures { code_of result ≡ read_status (layout_of mains backups blocks) image.now main block }
+// The bytes of a part of an image.
+fn bytes_of(image: &[u8], part: Part) -> &[u8]
+    requires { part.start + part.size ≤ length image.now }
+    ensures result_value { result.now ≡ take part.size (drop part.start image.now) }
+    ensures ref_ptr_value { (result.ref_ptr.0 ≡ image.entry.ref_ptr.0) × (result.ref_ptr.1 ≡ part.start + image.entry.ref_ptr.1) }
 {
-    read_status(image, Layout::new(mains, backups, blocks), main, block)
+    let start = part.start as usize;
+    let end = start + part.size as usize;
+    &image[start..end]
 }
 
 // The bytes of a block as they stand, or none: the part of the caller's image that holds them.
-pub fn crpm_read_working(
-    image: &[u8],
-    mains: u64,
-    backups: u64,
-    blocks: u64,
-    main: u64,
-    block: u64,
-) -> &[u8]
-    ensures result_value { result.now ≡ working_block (layout_of mains backups blocks) image.now main block }
-    ensures ref_ptr_value { (result.ref_ptr.0 ≡ image.entry.ref_ptr.0) × (result.ref_ptr.1 ≡ (working_part (layout_of mains backups blocks) image.now main block).start + image.entry.ref_ptr.1) }
+pub fn crpm_read_working(image: &[u8], layout: Layout, main: u64, block: u64) -> &[u8]
+    ensures result_value { result.now ≡ working_block layout image.now main block }
+    ensures ref_ptr_value { (result.ref_ptr.0 ≡ image.entry.ref_ptr.0) × (result.ref_ptr.1 ≡ (working_part layout image.now main block).start + image.entry.ref_ptr.1) }
 {
-    let part = working_part(image, Layout::new(mains, backups, blocks), main, block);
-    let start = part.start as usize;
-    let end = start + part.size as usize;
-    &image[start..end]
+    bytes_of(image, working_part(image, layout, main, block))
 }
 
 // The bytes of a block as of the last checkpoint, or none: the part of the caller's image that holds them.
-pub fn crpm_read_checkpoint(
-    image: &[u8],
-    mains: u64,
-    backups: u64,
-    blocks: u64,
-    main: u64,
-    block: u64,
-) -> &[u8]
-    ensures result_value { result.now ≡ checkpoint_block (layout_of mains backups blocks) image.now main block }
-    ensures ref_ptr_value { (result.ref_ptr.0 ≡ image.entry.ref_ptr.0) × (result.ref_ptr.1 ≡ (checkpoint_part (layout_of mains backups blocks) image.now main block).start + image.entry.ref_ptr.1) }
+pub fn crpm_read_checkpoint(image: &[u8], layout: Layout, main: u64, block: u64) -> &[u8]
+    ensures result_value { result.now ≡ checkpoint_block layout image.now main block }
+    ensures ref_ptr_value { (result.ref_ptr.0 ≡ image.entry.ref_ptr.0) × (result.ref_ptr.1 ≡ (checkpoint_part layout image.now main block).start + image.entry.ref_ptr.1) }
 {
-    let part = checkpoint_part(image, Layout::new(mains, backups, blocks), main, block);
-    let start = part.start as usize;
-    let end = start + part.size as usize;
-    &image[start..end]
+    bytes_of(image, checkpoint_part(image, layout, main, block))
 }

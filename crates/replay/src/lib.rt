@@ -4,19 +4,13 @@
 #![tactic(auto)]
 
 ghost use Rattle.std.specs.Prelude.{◌≡◌, true, ◌*◌, ◌/◌, ◌%◌, ◌≤◌, ◌^◌, ◌<◌, length};
+ghost use Rattle.std.specs.Result.{result_unwrap_or};
 ghost use Rattle.model.specs.Layout.{line_size};
 ghost use Rattle.model.specs.Status.{code_of};
 ghost use Rattle.model.specs.Ops.{op_numbers, op_of, apply, replay};
 ghost use Rattle.model.specs.Replay.{well_formed, all_well_formed, replay_count, replayed_ops, replay_status, replay_outcome};
 
-use model::{Layout, Status};
-
-// How a replay ends, and how many operations it played.
-#[derive(Clone, Copy)]
-pub struct Replayed {
-    pub status: Status,
-    pub played: u64,
-}
+use model::{Layout, Refusal};
 
 // Whether three numbers are an operation on an image of so many lines.
 fn op_well_formed(lines: u64, kind: u64, place: u64, word: u64) -> bool
@@ -39,9 +33,7 @@ fn all_well_formed(lines: u64, trace: &[u64], count: usize) -> bool
     requires count_in_bounds { op_numbers * count ≤ length trace.now }
     ensures { result ≡ all_well_formed lines trace.now count }
 {
-    let mut k = count;
-    while 0 < k {
-        k -= 1;
+    for k in (0..count).rev() {
         let at = trace::OP_NUMBERS * k;
         if !op_well_formed(lines, trace[at], trace[at + 1], trace[at + 2]) {
             return false;
@@ -59,20 +51,20 @@ fn replay_count(trace: &[u64], n: u64) -> usize
 }
 
 // The status of a replay.
-fn replay_status(image: &[u8], trace: &[u64], n: u64) -> Status
+fn replay_status(image: &[u8], trace: &[u64], n: u64) -> Result<(), Refusal>
     ensures { code_of result ≡ replay_status image.now trace.now n }
 {
     if image.len() as u64 % Layout::LINE_SIZE != 0 {
-        return Status::BadLength;
+        return Err(Refusal::BadLength);
     }
     if trace.len() % trace::OP_NUMBERS != 0 {
-        return Status::TraceBad;
+        return Err(Refusal::TraceBad);
     }
     let lines = image.len() as u64 / Layout::LINE_SIZE;
-    if all_well_formed(lines, trace, replay_count(trace, n)) {
-        return Status::Served;
+    if !all_well_formed(lines, trace, replay_count(trace, n)) {
+        return Err(Refusal::TraceBad);
     }
-    Status::TraceBad
+    Ok(())
 }
 
 // Plays one operation: a store changes the image, the others do not.
@@ -93,31 +85,20 @@ fn play(image: &mut [u8], trace: &[u64], count: usize)
     requires count_value { all_well_formed (length image.old / line_size) trace.now count ≡ true }
     ensures { image.new ≡ replay (replayed_ops trace.now count) image.old }
 {
-    let mut k = 0;
-    while k < count {
+    for k in 0..count {
         let at = trace::OP_NUMBERS * k;
         play_op(image, trace[at], trace[at + 1], trace[at + 2]);
-        k += 1;
     }
 }
 
-// Plays the first n operations of a trace, or all if there are fewer. A refusal changes nothing.
-pub fn crpm_replay(image: &mut [u8], trace: &[u64], n: u64) -> Replayed
-    ensures status_value { code_of result.status ≡ (replay_outcome image.old trace.now n).status }
-    ensures played_value { result.played ≡ (replay_outcome image.old trace.now n).played }
+// Plays the first n operations of a trace, or all if there are fewer, and answers how many. A refusal plays none and changes nothing.
+pub fn crpm_replay(image: &mut [u8], trace: &[u64], n: u64) -> Result<u64, Refusal>
+    ensures status_value { code_of result ≡ (replay_outcome image.old trace.now n).status }
+    ensures played_value { result_unwrap_or result 0 ≡ (replay_outcome image.old trace.now n).played }
     ensures image_after { image.new ≡ (replay_outcome image.old trace.now n).image }
 {
-    let status = replay_status(image, trace, n);
-    if !status.is_served() {
-        return Replayed {
-            status: status,
-            played: 0,
-        };
-    }
+    replay_status(image, trace, n)?;
     let count = replay_count(trace, n);
     play(image, trace, count);
-    Replayed {
-        status: Status::Served,
-        played: count as u64,
-    }
+    Ok(count as u64)
 }

@@ -3,23 +3,17 @@
 
 #![tactic(auto)]
 
-ghost use Rattle.std.specs.Prelude.{◌≡◌, ◌↔◌, ◌+◌, ◌*◌, ◌≤◌, ◌<◌, eqb, length};
+ghost use Rattle.std.specs.Prelude.{◌≡◌, ◌↔◌, ◌+◌, ◌*◌, ◌≤◌, ◌<◌, eqb, length, false};
+ghost use Rattle.std.specs.Result.{result_unwrap_or};
 ghost use Rattle.model.specs.Range.{all_b};
 ghost use Rattle.model.specs.Words.{byte_at};
-ghost use Rattle.model.specs.Layout.{block_size, line_size, most, layout_of, ss_initial, segment_size};
+ghost use Rattle.model.specs.Layout.{block_size, line_size, most, ss_initial, segment_size};
 ghost use Rattle.model.specs.Status.{code_of, first_error};
 ghost use Rattle.model.specs.Container.{active_line, active_state, seg_state, checkpoint_segment, checkpoint_bytes, container_errors};
 ghost use Rattle.model.specs.Same.{same_initial, same_bytes, same_status, same_checkpoint, same_outcome};
 ghost use Rattle.model.specs.SameCheckpoint.{InitialAgree};
 
-use model::{Layout, Located, Status};
-
-// How a comparison ends, and whether the images have the same checkpoint.
-#[derive(Clone, Copy)]
-pub struct Compared {
-    pub status: Status,
-    pub same: bool,
-}
+use model::{Layout, Refusal};
 
 // Bytes of a block, as indexes count them.
 const BLOCK_SIZE: usize = Layout::BLOCK_SIZE as usize;
@@ -31,12 +25,9 @@ fn same_initial(a: &[u8], x: usize, b: &[u8], y: usize, mains: u64) -> bool
     requires line_size_in_bounds_2 { y + line_size ≤ length b.now }
     ensures { result ≡ same_initial mains (seg_state a.now x) (seg_state b.now y) }
 {
-    let count = mains as usize;
     let mut ok = true;
-    let mut i: usize = 0;
-    while i < count {
+    for i in 0..mains as usize {
         ok = ok & ((a[x + i] == Layout::SS_INITIAL) == (b[y + i] == Layout::SS_INITIAL));
-        i += 1;
     }
     ok
 }
@@ -48,14 +39,11 @@ fn segments_equal(a: &[u8], x: usize, b: &[u8], y: usize, blocks: u64) -> bool
     requires blocks_in_bounds_2 { y + block_size * blocks ≤ length b.now }
     ensures { result ≡ all_b (block_size * blocks) (λ k. eqb (byte_at a.now (x + k)) (byte_at b.now (y + k))) }
 {
-    let count = blocks as usize;
     let mut ok = true;
-    let mut n: usize = 0;
-    while n < count {
+    for n in 0..blocks as usize {
         let p = x + BLOCK_SIZE * n;
         let q = y + BLOCK_SIZE * n;
         ok = ok & blocks::blocks_equal(&a[p..p + BLOCK_SIZE], &b[q..q + BLOCK_SIZE]);
-        n += 1;
     }
     ok
 }
@@ -70,13 +58,11 @@ fn segment_same(a: &[u8], b: &[u8], layout: Layout, main: u64) -> bool
 {
     let x = metadata::checkpoint_located(a, layout, metadata::active_at(a), main);
     let y = metadata::checkpoint_located(b, layout, metadata::active_at(b), main);
-    match x {
-        Located::Nowhere => true,
-        Located::At(p) => match y {
-            // cannot be, since the states agree
-            Located::Nowhere => false,
-            Located::At(q) => segments_equal(a, p as usize, b, q as usize, layout.blocks),
-        },
+    match (x, y) {
+        (None, _) => true,
+        // cannot be, since the states agree
+        (Some(_), None) => false,
+        (Some(p), Some(q)) => segments_equal(a, p as usize, b, q as usize, layout.blocks),
     }
 }
 
@@ -87,12 +73,9 @@ fn same_bytes(a: &[u8], b: &[u8], layout: Layout) -> bool
     requires initial_agree { InitialAgree layout a.now b.now }
     ensures { result ≡ same_bytes (segment_size layout * layout.mains) (checkpoint_bytes layout a.now (active_line a.now)) (checkpoint_bytes layout b.now (active_line b.now)) }
 {
-    let mains = layout.mains;
     let mut ok = true;
-    let mut i = 0;
-    while i < mains {
+    for i in 0..layout.mains {
         ok = ok & segment_same(a, b, layout, i);
-        i += 1;
     }
     ok
 }
@@ -112,31 +95,18 @@ fn same_checkpoint(a: &[u8], b: &[u8], layout: Layout) -> bool
 }
 
 // The status of a comparison: the first image wholly before the second.
-fn same_status(a: &[u8], b: &[u8], layout: Layout) -> Status
+fn same_status(a: &[u8], b: &[u8], layout: Layout) -> Result<(), Refusal>
     ensures { code_of result ≡ same_status layout a.now b.now }
 {
-    let first = container::container_status(a, layout);
-    if !first.is_served() {
-        return first;
-    }
+    container::container_status(a, layout)?;
     container::container_status(b, layout)
 }
 
 // Whether two images of these sizes have the same checkpoint; no where either is refused.
-pub fn crpm_same_checkpoint(a: &[u8], b: &[u8], mains: u64, backups: u64, blocks: u64) -> Compared
-    ensures status_value { code_of result.status ≡ (same_outcome (layout_of mains backups blocks) a.now b.now).status }
-    ensures same_value { result.same ≡ (same_outcome (layout_of mains backups blocks) a.now b.now).same }
+pub fn crpm_same_checkpoint(a: &[u8], b: &[u8], layout: Layout) -> Result<bool, Refusal>
+    ensures status_value { code_of result ≡ (same_outcome layout a.now b.now).status }
+    ensures same_value { result_unwrap_or result false ≡ (same_outcome layout a.now b.now).same }
 {
-    let layout = Layout::new(mains, backups, blocks);
-    let status = same_status(a, b, layout);
-    if !status.is_served() {
-        return Compared {
-            status: status,
-            same: false,
-        };
-    }
-    Compared {
-        status: status,
-        same: same_checkpoint(a, b, layout),
-    }
+    same_status(a, b, layout)?;
+    Ok(same_checkpoint(a, b, layout))
 }
