@@ -1,4 +1,4 @@
--- Laws of texts appended to a buffer.
+-- Laws of texts appended to a page.
 use Prim.Native.Nat.{ℕ}
 use mathlib.Core.Path.{◌≡◌, refl, sym, ap, ap₂, ◌∙◌}
 use mathlib.Core.List.{List, [], ◌++◌, append_assoc, append-nil}
@@ -6,26 +6,29 @@ use native.Mathlib.Omega.{arith}
 use lib.ListN.{length, take, drop, length-append, length-take, take-append-drop}
 use lib.Seq.{drop-drop}
 use Rattle.io.specs.Counts.{IsPrefixLen}
-use Rattle.printer.specs.Decimal.{decimal, Appended}
+use Rattle.printer.specs.declared.Page.{Page}
+use Rattle.printer.specs.Decimal.{decimal}
+use Rattle.printer.specs.Page.{Begun, Appended}
 
 -- nothing
-pub appended_none : (a : List ℕ) (p : ℕ) → Appended a p [] a p
-appended_none a p = record { place = omega arith; size = refl; holds = sym (append-nil (take p a)); rest = refl }
+pub appended_none : {p : Page} → Appended p [] p
+appended_none {p} = record { same = refl; end = omega arith; size = refl; holds = sym (append-nil (take p.end p.out.now)); rest = refl }
 
 -- one text, then another
-pub appended_then : {a b c t u : List ℕ} {p q r : ℕ} → Appended a p t b q → Appended b q u c r → Appended a p (t ++ u) c r
-appended_then {a} {b} {c} {t} {u} {p} {q} {r} f g = record {
-  place = omega (arith, length-append t u, f.place, g.place);
+pub appended_then : {p q r : Page} {t u : List ℕ} → Appended p t q → Appended q u r → Appended p (t ++ u) r
+appended_then {p} {q} {r} {t} {u} f g = record {
+  same = g.same ∙ f.same;
+  end = omega (arith, length-append t u, f.end, g.end);
   size = g.size ∙ f.size;
-  holds = g.holds ∙ ap (λ (x : List ℕ). x ++ u) f.holds ∙ append_assoc (take p a) t u;
-  rest = g.rest ∙ further b ∙ ap (λ (x : List ℕ). drop (length u) x) f.rest ∙ sym (further a);
+  holds = g.holds ∙ ap (λ (x : List ℕ). x ++ u) f.holds ∙ append_assoc (take p.end p.out.now) t u;
+  rest = g.rest ∙ further q.out.now ∙ ap (drop (length u)) f.rest ∙ sym (further p.out.now);
 }
   where
-    further : (l : List ℕ) → drop r l ≡ drop (length u) (drop q l)
-    further l = ap (λ (k : ℕ). drop k l) g.place ∙ sym (drop-drop (length u) q l)
+    further : (l : List ℕ) → drop r.end l ≡ drop (length u) (drop q.end l)
+    further l = ap (λ (k : ℕ). drop k l) g.end ∙ sym (drop-drop (length u) q.end l)
 
 -- the same text by another name
-pub appended_as : {a b t u : List ℕ} {p q : ℕ} → t ≡ u → Appended a p t b q → Appended a p u b q
+pub appended_as : {p q : Page} {t u : List ℕ} → t ≡ u → Appended p t q → Appended p u q
 appended_as e f = rw e at f
 
 -- a number between two texts, each by another name
@@ -33,7 +36,8 @@ pub number_text : (n : ℕ) (k k' t t' : List ℕ) → k ≡ k' → t ≡ t' →
 number_text n k k' t t' e f = rw (e, f)
 
 -- what a caller sees of a text at the start of a buffer
-pub appended_first : {a t b : List ℕ} {q : ℕ} → Appended a 0 t b q → IsPrefixLen q b × ((q ≡ length t) × (b ≡ t ++ drop q a))
-appended_first {a} {t} {b} {q} f =
-    let size : q ≡ length (take q b) = f.place ∙ omega (arith, ap length f.holds) in
-    ((omega (arith, size, length-take q b), size), (f.place ∙ omega arith, sym (take-append-drop q b) ∙ ap₂ ◌++◌ f.holds f.rest))
+pub appended_first : {a t : List ℕ} {p q : Page} → Begun a p → Appended p t q → IsPrefixLen q.end q.out.now × ((q.end ≡ length t) × (q.out.now ≡ t ++ drop q.end a))
+appended_first {a} {t} {p} {q} s f =
+    let holds = rw s.end at f.holds in
+    let size : q.end ≡ length (take q.end q.out.now) = omega (arith, ap length holds) in
+    ((omega (arith, size, length-take q.end q.out.now), size), (omega arith, sym (take-append-drop q.end q.out.now) ∙ ap₂ ◌++◌ holds (rw s.holds at f.rest)))

@@ -1,0 +1,9 @@
+use Rattle.std.proofs.Common.{◌∙◌}
+use Rattle.printer.proofs.NumberLaws.{digits_decimal}
+use Rattle.printer.proofs.AppendedLaws.{appended_as}
+use Rattle.printer.proofs.Page.decimal.Goals as goal
+
+pub returns-clause-appended : goal.returns-clause-appended
+returns-clause-appended c =
+    let d = c.decimal-count in
+    appended_as (d.ensures.digits ∙ digits_decimal c.args.n d.result d.ensures.len c.ranges.n.fits) c.text.ensures

@@ -1,5 +1,0 @@
-use Rattle.printer.proofs.AppendedLaws.{appended_then}
-use Rattle.printer.proofs.append_keyed.Goals as goal
-
-pub returns-clause-appended : goal.returns-clause-appended
-returns-clause-appended c = appended_then c.append_text-number.ensures c.append_decimal.ensures.appended
