@@ -1,12 +1,12 @@
 -- The tests that one pass over pairs and one over states make: a helper's, which says nothing that users rely on. That they are the
 -- rules of model's Container is shown in proofs/. Assumes nothing.
-use Rattle.std.specs.Prelude.{◌≡◌, ℕ, zero, suc, ◌+◌, ◌*◌, ◌/◌, ◌%◌, ◌<◌, Bool, true, cond, ◌&&◌, ◌||◌, ◌==◌, nat_lt}
+use Rattle.std.specs.Prelude.{◌≡◌, ℕ, zero, suc, ◌+◌, ◌*◌, ◌/◌, ◌%◌, ◌<◌, Bool, true, false, cond, ◌&&◌, ◌||◌, ◌==◌, nat_lt}
+use Rattle.std.specs.Prelude.{Option, None, Some}
 use Rattle.model.specs.declared.Layout.{Layout}
 use Rattle.model.specs.Layout.{word_size, most, unpaired}
 use Rattle.model.specs.Session.{is_dirty, set_bit}
 use Rattle.model.specs.Container.{is_paired, valid_metadata}
 use Rattle.container.specs.declared.Paired.{Paired}
-use Rattle.container.specs.declared.Examined.{Examined}
 
 -- bytes of half a line
 abbrev pub half_line : ℕ
@@ -35,9 +35,13 @@ lay_pairs pr (suc n) = lay_pair (lay_pairs pr n) (pr n)
 unfoldable pub state_fits : ℕ → ℕ → Bool
 state_fits paired st = st == paired || st == suc paired
 
--- what the passes answer: whether states and pairs are valid, and the set that the words of pairs lay; where they are valid, it has the
--- main segments that are paired
-pub record ExaminedBy (l : Layout) (st pr : ℕ → ℕ) (r : Examined) : Type 0 where
-  pub valid : r.valid ≡ valid_metadata l st pr
-  pub set : r.paired ≡ (lay_pairs pr (word_size * ((l.backups + 7) / word_size))).set
-  pub paired : r.valid ≡ true → (i : ℕ) → i < l.mains → is_dirty r.paired i ≡ is_paired l pr i
+-- what the passes find where states and pairs are valid: the set that the words of pairs lay, which has the main segments that are paired
+pub record ValidWith (l : Layout) (st pr : ℕ → ℕ) (set : ℕ) : Type 0 where
+  pub valid : valid_metadata l st pr ≡ true
+  pub laid : set ≡ (lay_pairs pr (word_size * ((l.backups + 7) / word_size))).set
+  pub paired : (i : ℕ) → i < l.mains → is_dirty set i ≡ is_paired l pr i
+
+-- what the passes answer: that set, or nothing where states and pairs are not valid
+abbrev pub ExaminedBy : Layout → (ℕ → ℕ) → (ℕ → ℕ) → Option ℕ → Type 0
+ExaminedBy l st pr None = valid_metadata l st pr ≡ false
+ExaminedBy l st pr (Some set) = ValidWith l st pr set

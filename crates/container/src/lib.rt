@@ -12,7 +12,7 @@ ghost use Rattle.model.specs.Session.{bit};
 ghost use Rattle.model.specs.Container.{seg_state, backup_to_main, container_errors};
 ghost use Rattle.container.specs.Scan.{half_line, lay_pair, lay_bytes, low_bytes, lay_pairs, state_fits, ExaminedBy};
 
-use model::{Layout, Status};
+use model::{Layout, Refusal};
 
 // Sizes as indexes count them, and the bits of a byte.
 const WORD_SIZE: usize = Layout::WORD_SIZE as usize;
@@ -35,6 +35,16 @@ const EACH_TOP_TWO: u64 = 0xc0c0c0c0c0c0c0c0;
 
 const EACH_HIGH: u64 = 0xfefefefefefefefe;
 
+// How many words hold the first n bytes of a line.
+fn word_count(n: usize) -> usize
+    requires { n ≤ most }
+    ensures { (n ≤ word_size * result) × (word_size * result < n + word_size) × (result ≤ line_words) }
+{
+    n.div_ceil(WORD_SIZE)
+}
+
+// ---- pairs
+
 // What pairs name: the main segments below 64, as bits of a word, and how many pairs are not unpaired. No two name the same main
 // segment, and all name one below 64, exactly if there are as many bits as pairs.
 #[derive(Clone, Copy)]
@@ -43,106 +53,82 @@ pub struct Paired {
     pub count: u64,
 }
 
-// What a pass over metadata finds: whether it is valid, and which main segments are paired, as bits of a word.
-#[derive(Clone, Copy)]
-pub struct Examined {
-    pub valid: bool,
-    pub paired: u64,
-}
+impl Paired {
+    // No pair yet.
+    const NONE: Paired = Paired { set: 0, count: 0 };
 
-// How many words hold the first n bytes of a line.
-fn word_count(n: usize) -> usize
-    requires { n ≤ most }
-    ensures { (n ≤ word_size * result) × (word_size * result < n + word_size) × (result ≤ line_words) }
-{
-    (n + (WORD_SIZE - 1)) / WORD_SIZE
-}
+    // One pair more.
+    fn with(self, pair: u8) -> Paired
+        requires { self.count < 2 ^ 32 }
+        ensures { result ≡ lay_pair self pair }
+    {
+        if pair == Layout::UNPAIRED {
+            return self;
+        }
+        let count = self.count + 1;
+        if u64::from(pair) < Layout::MOST {
+            return Paired {
+                set: self.set | (1 << pair),
+                count,
+            };
+        }
+        Paired { count, ..self }
+    }
 
-// ---- pairs
+    // The eight pairs of a word more, whatever they are.
+    fn with_any(self, word: u64) -> Paired
+        requires { self.count ≤ most }
+        ensures { result ≡ lay_bytes word_size self word }
+    {
+        let mut next = self;
+        for pair in word.to_le_bytes() {
+            next = next.with(pair);
+        }
+        next
+    }
 
-// One pair more.
-fn lay_pair(before: Paired, pair: u64) -> Paired
-    requires { before.count < 2 ^ 32 }
-    ensures { result ≡ lay_pair before pair }
-{
-    if pair == Layout::UNPAIRED as u64 {
-        return before;
+    // The eight pairs of a word more, which all name main segments below 64.
+    fn with_mains(self, word: u64) -> Paired
+        requires count_le_most { self.count ≤ most }
+        requires word_value { low_bytes word_size word ≡ true }
+        ensures { result ≡ lay_bytes word_size self word }
+    {
+        let mut set = self.set;
+        for pair in word.to_le_bytes() {
+            set |= 1 << pair;
+        }
+        Paired {
+            set,
+            count: self.count + Layout::WORD_SIZE,
+        }
     }
-    if pair < Layout::MOST {
-        return Paired {
-            set: before.set | (1 << pair),
-            count: before.count + 1,
-        };
-    }
-    Paired {
-        set: before.set,
-        count: before.count + 1,
-    }
-}
 
-// The eight pairs of a word more, whatever they are.
-fn lay_eight(before: Paired, word: u64) -> Paired
-    requires { before.count ≤ most }
-    ensures { result ≡ lay_bytes word_size before word }
-{
-    let mut next = before;
-    let mut rest = word;
-    let mut t: u64 = 0;
-    while t < Layout::WORD_SIZE {
-        next = lay_pair(next, rest % BYTE);
-        rest = rest / BYTE;
-        t += 1;
+    // The eight pairs of a word more: a word of unpaired backup segments adds nothing, and one of paired ones is not tested byte by byte.
+    fn with_word(self, word: u64) -> Paired
+        requires { self.count ≤ most }
+        ensures { result ≡ lay_bytes word_size self word }
+    {
+        if word == ALL_UNPAIRED {
+            return self;
+        }
+        if word & EACH_TOP_TWO == 0 {
+            return self.with_mains(word);
+        }
+        self.with_any(word)
     }
-    next
-}
 
-// The eight pairs of a word more, which all name main segments below 64.
-fn lay_full(before: Paired, word: u64) -> Paired
-    requires count_le_most { before.count ≤ most }
-    requires word_value { low_bytes word_size word ≡ true }
-    ensures { result ≡ lay_bytes word_size before word }
-{
-    let mut set = before.set;
-    let mut rest = word;
-    let mut t: u64 = 0;
-    while t < Layout::WORD_SIZE {
-        set = set | (1 << (rest % Layout::MOST));
-        rest = rest / BYTE;
-        t += 1;
+    // The first `count` words of pairs.
+    fn of_words(image: &[u8], count: usize) -> Paired
+        requires { (count ≤ line_words) × (pairs_end ≤ length image.now) }
+        ensures { result ≡ lay_pairs (backup_to_main image.now) (word_size * count) }
+    {
+        let mut paired = Paired::NONE;
+        for k in 0..count {
+            let word = words::word_at(image, Layout::PAIRS_AT as usize + WORD_SIZE * k);
+            paired = paired.with_word(word);
+        }
+        paired
     }
-    Paired {
-        set: set,
-        count: before.count + Layout::WORD_SIZE,
-    }
-}
-
-// The eight pairs of a word more: a word of unpaired backup segments adds nothing, and one of paired ones is not tested byte by byte.
-fn lay_word(before: Paired, word: u64) -> Paired
-    requires { before.count ≤ most }
-    ensures { result ≡ lay_bytes word_size before word }
-{
-    if word == ALL_UNPAIRED {
-        return before;
-    }
-    if word & EACH_TOP_TWO == 0 {
-        return lay_full(before, word);
-    }
-    lay_eight(before, word)
-}
-
-// The pass over the first `count` words of pairs.
-fn scan_pairs(image: &[u8], count: usize) -> Paired
-    requires { (count ≤ line_words) × (pairs_end ≤ length image.now) }
-    ensures { result ≡ lay_pairs (backup_to_main image.now) (word_size * count) }
-{
-    let mut paired = Paired { set: 0, count: 0 };
-    let mut k: usize = 0;
-    while k < count {
-        let word = words::word_at(image, Layout::PAIRS_AT as usize + WORD_SIZE * k);
-        paired = lay_word(paired, word);
-        k += 1;
-    }
-    paired
 }
 
 // ---- bytes of a line
@@ -159,10 +145,8 @@ fn half_is(image: &[u8], at: usize, n: usize, value: u8) -> bool
     let first = n / WORD_SIZE;
     let word = words::word_at(image, at + WORD_SIZE * first);
     let mut seen = (word ^ pattern) >> (BYTE_BITS * (n % WORD_SIZE));
-    let mut k = first + 1;
-    while k < HALF_WORDS {
-        seen = seen | (words::word_at(image, at + WORD_SIZE * k) ^ pattern);
-        k += 1;
+    for k in first + 1..HALF_WORDS {
+        seen |= words::word_at(image, at + WORD_SIZE * k) ^ pattern;
     }
     seen == 0
 }
@@ -185,52 +169,42 @@ fn states_fit(image: &[u8], line: usize, count: usize, set: u64) -> bool
     requires { (count ≤ line_words) × (line + line_size ≤ length image.now) }
     ensures { result ≡ all_b (word_size * count) (λ i. state_fits (bit set i) (byte_at image.now (line + i))) }
 {
-    let mut over: u64 = 0;
-    let mut k: usize = 0;
-    while k < count {
+    let mut over = 0;
+    for k in 0..count {
         let i = WORD_SIZE * k;
         let states = words::word_at(image, line + i);
-        let left = std::num::wrapping_sub_u64(states, words::bits_at(set, i as u64));
-        over = over | (left & EACH_HIGH);
-        k += 1;
+        let left = states.wrapping_sub(words::bits_at(set, i as u64));
+        over |= left & EACH_HIGH;
     }
     over == 0
 }
 
 // ---- pairs and states
 
-// The pass over a line of states and the pairs: whether the metadata is valid by that line, and which main segments are paired.
-pub fn examine(image: &[u8], layout: Layout, line: usize) -> Examined
+// The main segments that are paired, as bits of a word, or none where the metadata is not valid by this line of states.
+pub fn examine(image: &[u8], layout: Layout, line: usize) -> Option<u64>
     requires { (1 ≤ layout.mains) × (layout.mains ≤ most) × (layout.backups ≤ most) × (pairs_end ≤ length image.now) × (line + line_size ≤ length image.now) }
     ensures { ExaminedBy layout (seg_state image.now line) (backup_to_main image.now) result }
 {
     let mains = layout.mains as usize;
     let backups = layout.backups as usize;
-    let paired = scan_pairs(image, word_count(backups));
-    let set = paired.set;
-    let pairs_ok = (u64::count_ones(set) as u64 == paired.count) & words::within(set, layout.mains);
+    let Paired { set, count } = Paired::of_words(image, word_count(backups));
+    let pairs_ok = (u64::from(set.count_ones()) == count) & words::within(set, layout.mains);
     let states_ok = states_fit(image, line, word_count(mains), set);
     let rest_ok = rest_is(image, Layout::PAIRS_AT as usize, backups, Layout::UNPAIRED)
         & rest_is(image, line, mains, Layout::SS_INITIAL);
-    Examined {
-        valid: (pairs_ok & states_ok) & rest_ok,
-        paired: set,
-    }
+    (pairs_ok & states_ok & rest_ok).then_some(set)
 }
 
 // ---- refusals 1 to 4
 
 // The first of refusals 1 to 4 that applies.
-pub fn container_status(image: &[u8], layout: Layout) -> Status
+pub fn container_status(image: &[u8], layout: Layout) -> Result<(), Refusal>
     ensures { code_of result ≡ first_error (container_errors layout image.now) }
 {
-    let status = places::layout_status(image, layout);
-    if !status.is_served() {
-        return status;
+    places::layout_status(image, layout)?;
+    if examine(image, layout, metadata::active_at(image)).is_none() {
+        return Err(Refusal::Invalid);
     }
-    let found = examine(image, layout, metadata::active_at(image));
-    if !found.valid {
-        return Status::Invalid;
-    }
-    Status::Served
+    Ok(())
 }

@@ -10,7 +10,7 @@ ghost use Rattle.model.specs.Container.{committed_epoch, active_line, inactive_l
 ghost use Rattle.model.specs.FreeBackups.{mains_in_backup};
 ghost use Rattle.metadata.specs.Find.{found_below};
 
-use model::{Layout, Located};
+use model::Layout;
 
 // The pair byte of an unpaired backup segment, as a search asks for it.
 const NO_MAIN: u64 = Layout::UNPAIRED as u64;
@@ -49,39 +49,27 @@ pub fn inactive_at(image: &[u8]) -> usize
 
 // ---- backup segments
 
-// What a search for a backup segment finds: none, or its number.
-#[derive(Clone, Copy)]
-pub enum Found {
-    Missing,
-    Backup(u64),
-}
-
 // What a search answers that found this number: a backup segment, or none if it is beyond the last.
-fn found_below(backups: u64, j: u64) -> Found
+fn found_below(backups: u64, j: u64) -> Option<u64>
     ensures { result ≡ found_below backups j }
 {
-    if j < backups {
-        return Found::Backup(j);
-    }
-    Found::Missing
+    (j < backups).then_some(j)
 }
 
 // The lowest backup segment whose pair byte is `main`, searched for a word of pairs at a time.
-pub fn find_paired_backup(image: &[u8], layout: Layout, main: u64) -> Found
+pub fn find_paired_backup(image: &[u8], layout: Layout, main: u64) -> Option<u64>
     requires { (layout.backups ≤ most) × (main < 256) × (pairs_end ≤ length image.now) }
     ensures { result ≡ found_below layout.backups (paired_backup layout (backup_to_main image.now) main) }
 {
-    let backups = layout.backups;
-    let mut j = 0;
-    while j < backups {
+    for k in 0..layout.backups.div_ceil(Layout::WORD_SIZE) {
+        let j = Layout::WORD_SIZE * k;
         let word = words::word_at(image, (Layout::PAIRS_AT + j) as usize);
-        let k = words::first_byte(word, main as u8);
-        if k < Layout::WORD_SIZE {
-            return found_below(backups, j + k);
+        let place = words::first_byte(word, main as u8);
+        if place < Layout::WORD_SIZE {
+            return found_below(layout.backups, j + place);
         }
-        j += Layout::WORD_SIZE;
     }
-    Found::Missing
+    None
 }
 
 // The state on a line of states of the main segment that a pair byte names.
@@ -89,37 +77,33 @@ fn paired_state(image: &[u8], line: usize, pair: u8) -> u8
     requires { (pair < most) × (line + line_size ≤ length image.now) }
     ensures { result ≡ seg_state image.now line pair }
 {
-    image[line + pair as usize]
+    image[line + usize::from(pair)]
 }
 
 // Of backup segments that all have a main segment, the lowest whose main segment is in state 1.
-fn find_unused_backup(image: &[u8], layout: Layout, line: usize) -> Found
+fn find_unused_backup(image: &[u8], layout: Layout, line: usize) -> Option<u64>
     requires backups_le_most { (layout.backups ≤ most) × (pairs_end ≤ length image.now) × (line + line_size ≤ length image.now) }
     requires by_index { (j : ℕ) → j < layout.backups → backup_to_main image.now j < most }
     ensures { result ≡ found_below layout.backups (first_b layout.backups (λ j. eqb (seg_state image.now line (backup_to_main image.now j)) ss_main)) }
 {
-    let backups = layout.backups;
-    let mut j = 0;
-    while j < backups {
+    for j in 0..layout.backups {
         if paired_state(image, line, image[(Layout::PAIRS_AT + j) as usize]) == Layout::SS_MAIN {
-            return Found::Backup(j);
+            return Some(j);
         }
-        j += 1;
     }
-    Found::Missing
+    None
 }
 
 // The new backup segment by the active line of states (SPECIFICATION 3.4): the lowest that is unpaired; if all are paired, the lowest
 // whose main segment is in state 1.
-pub fn find_new_backup(image: &[u8], layout: Layout) -> Found
+pub fn find_new_backup(image: &[u8], layout: Layout) -> Option<u64>
     requires mains_le_most { (layout.mains ≤ most) × (layout.backups ≤ most) × (pairs_end ≤ length image.now) }
     requires valid { Valid layout (active_state image.now) (backup_to_main image.now) }
     ensures { result ≡ found_below layout.backups (new_backup layout (active_state image.now) (backup_to_main image.now)) }
 {
-    let alone = find_paired_backup(image, layout, NO_MAIN);
-    match alone {
-        Found::Missing => find_unused_backup(image, layout, line_at(image, ACTIVE)),
-        Found::Backup(backup) => Found::Backup(backup),
+    match find_paired_backup(image, layout, NO_MAIN) {
+        Some(alone) => Some(alone),
+        None => find_unused_backup(image, layout, line_at(image, ACTIVE)),
     }
 }
 
@@ -128,14 +112,11 @@ fn count_in_backup(image: &[u8], layout: Layout, line: usize) -> u64
     requires { (layout.mains ≤ most) × (line + line_size ≤ length image.now) }
     ensures { result ≡ mains_in_backup layout (seg_state image.now line) }
 {
-    let mains = layout.mains as usize;
-    let mut sum = 0;
-    let mut i = 0;
-    while i < mains {
-        sum += (image[line + i] == Layout::SS_BACKUP) as u64;
-        i += 1;
-    }
-    sum
+    let states = &image[line..line + layout.mains as usize];
+    states
+        .iter()
+        .filter(|state| **state == Layout::SS_BACKUP)
+        .count() as u64
 }
 
 // How many backup segments are free by the active line of states: all but those of the main segments in state 2.
@@ -148,21 +129,17 @@ pub fn free_backups(image: &[u8], layout: Layout) -> u64
 
 // Where the checkpoint of a main segment stands, by a line of states and pairs that are valid: a segment in state 2 has a
 // backup segment.
-pub fn checkpoint_located(image: &[u8], layout: Layout, line: usize, main: u64) -> Located
+pub fn checkpoint_located(image: &[u8], layout: Layout, line: usize, main: u64) -> Option<u64>
     requires main_lt_mains { (main < layout.mains) × SizesOk layout × (pairs_end ≤ length image.now) × (line + line_size ≤ length image.now) }
     requires valid { Valid layout (seg_state image.now line) (backup_to_main image.now) }
     ensures { result ≡ checkpoint_located layout image.now line main }
 {
-    let state = image[line + main as usize];
-    if state == Layout::SS_INITIAL {
-        return Located::Nowhere;
-    }
-    if state == Layout::SS_MAIN {
-        return Located::At(places::main_at(layout, main) as u64);
-    }
-    let found = find_paired_backup(image, layout, main);
-    match found {
-        Found::Missing => Located::Nowhere,
-        Found::Backup(backup) => Located::At(places::backup_at(layout, backup) as u64),
+    match image[line + main as usize] {
+        Layout::SS_INITIAL => None,
+        Layout::SS_MAIN => Some(places::main_at(layout, main) as u64),
+        _ => {
+            let backup = find_paired_backup(image, layout, main)?;
+            Some(places::backup_at(layout, backup) as u64)
+        }
     }
 }

@@ -8,7 +8,7 @@ ghost use Rattle.model.specs.Status.{code_of, first_error};
 ghost use Rattle.model.specs.Layout.{most, most_segments, metadata_size, largest_image, header_end, segment_size, in_range, sizes_ok, image_size, segment_at, main_at, backup_at};
 ghost use Rattle.model.specs.Container.{header_ok, size_errors, layout_errors, main_errors, block_errors};
 
-use model::{Layout, Status};
+use model::{Layout, Refusal};
 
 // ---- places
 
@@ -76,61 +76,57 @@ fn header_ok(image: &[u8], layout: Layout) -> bool
     requires { header_end ≤ length image.now }
     ensures { result ≡ header_ok layout image.now }
 {
-    let mains = words::word_at(image, Layout::MAINS_AT as usize);
-    let backups = words::word_at(image, Layout::BACKUPS_AT as usize);
-    let blocks = words::word_at(image, Layout::BLOCKS_AT as usize);
-    (mains == layout.mains) & (backups == layout.backups) & (blocks == layout.blocks)
+    let own = Layout::new(
+        words::word_at(image, Layout::MAINS_AT as usize),
+        words::word_at(image, Layout::BACKUPS_AT as usize),
+        words::word_at(image, Layout::BLOCKS_AT as usize),
+    );
+    own == layout
 }
 
 // ---- refusals
 
 // The first of refusals 1 and 2 that applies.
-pub fn size_status(image: &[u8], layout: Layout) -> Status
+pub fn size_status(image: &[u8], layout: Layout) -> Result<(), Refusal>
     ensures { code_of result ≡ first_error (size_errors layout image.now) }
 {
     if !sizes_ok(layout) {
-        return Status::BadSize;
+        return Err(Refusal::BadSize);
     }
     if image.len() != allowed_image_size(layout) {
-        return Status::BadLength;
+        return Err(Refusal::BadLength);
     }
-    Status::Served
+    Ok(())
 }
 
 // The first of refusals 1 to 3 that applies.
-pub fn layout_status(image: &[u8], layout: Layout) -> Status
+pub fn layout_status(image: &[u8], layout: Layout) -> Result<(), Refusal>
     ensures { code_of result ≡ first_error (layout_errors layout image.now) }
 {
-    let status = size_status(image, layout);
-    if !status.is_served() {
-        return status;
-    }
+    size_status(image, layout)?;
     if !header_ok(image, layout) {
-        return Status::Foreign;
+        return Err(Refusal::Foreign);
     }
-    Status::Served
+    Ok(())
 }
 
 // Refusal 6, for a call that names a main segment.
-pub fn main_status(layout: Layout, main: u64) -> Status
+pub fn main_status(layout: Layout, main: u64) -> Result<(), Refusal>
     ensures { code_of result ≡ first_error (main_errors layout main) }
 {
     if layout.mains <= main {
-        return Status::NoSuchMain;
+        return Err(Refusal::NoSuchMain);
     }
-    Status::Served
+    Ok(())
 }
 
 // The first of refusals 6 and 7 that applies, for a call that names a main segment and a block.
-pub fn place_status(layout: Layout, main: u64, block: u64) -> Status
+pub fn place_status(layout: Layout, main: u64, block: u64) -> Result<(), Refusal>
     ensures { code_of result ≡ first_error (main_errors layout main ++ block_errors layout block) }
 {
-    let status = main_status(layout, main);
-    if !status.is_served() {
-        return status;
-    }
+    main_status(layout, main)?;
     if layout.blocks <= block {
-        return Status::NoSuchBlock;
+        return Err(Refusal::NoSuchBlock);
     }
-    Status::Served
+    Ok(())
 }
