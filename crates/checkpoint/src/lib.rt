@@ -1,27 +1,28 @@
 // Checkpoint (SPECIFICATION 11; the trade: save): the dirty blocks are written back, the next states are stored on the
-// inactive line, and then the epoch is raised. Every function `put_..` writes its operations from number n on, those that the
-// trace has for the kind of module, and answers the number of the next one.
+// inactive line, and then the epoch is raised.
 
 #![tactic(auto)]
 
-ghost use Rattle.std.specs.Prelude.{◌≡◌, true, ◌≢◌, ◌++◌, ℕ, ◌+◌, ◌*◌, ◌^◌, ◌≤◌, ◌<◌, length, get_or};
+ghost use Rattle.std.specs.Prelude.{◌≡◌, ◌≢◌, cond, ◌++◌, ℕ, ◌+◌, ◌*◌, ◌^◌, ◌≤◌, ◌<◌, length, get_or, IfOk};
 ghost use Rattle.model.specs.Words.{Image, word_of};
 ghost use Rattle.model.specs.Layout.{word_size, line_size, line_words, most, metadata_size};
 ghost use Rattle.model.specs.Status.{code_of, first_error, served};
 ghost use Rattle.model.specs.Container.{committed_epoch, seg_state};
 ghost use Rattle.model.specs.Ops.{for_domain};
-ghost use Rattle.model.specs.Clients.{Clients, clients_errors};
-ghost use Rattle.model.specs.Outcome.{lent, Gives};
+ghost use Rattle.model.specs.Clients.{Clients, clients_errors, cleared};
+ghost use Rattle.model.specs.Outcome.{lent, told, Gives};
 ghost use Rattle.model.specs.Checkpoint.{flush_dirty, next_states, states_ops, epoch_ops, checkpoint_ops, epoch_errors, lent_errors, checkpoint_outcome};
 ghost use Rattle.trace.specs.Emit.{Fits, Emitted};
-ghost use Rattle.session.specs.Parts.{session_of};
+ghost use Rattle.session.specs.Parts.{session_of, viewed};
 ghost use Rattle.session.specs.Marked.{marked_segments};
-ghost use Rattle.clients.specs.Run.{loaded, cleared_from};
+ghost use Rattle.clients.specs.Run.{loaded};
 ghost use Rattle.checkpoint.specs.Advance.{last_epoch, Advancing};
-ghost use Rattle.checkpoint.specs.Checkpointed.{checkpointed_answer, checkpointed_clients};
+ghost use Rattle.checkpoint.specs.Checkpointed.{checkpointed_answer};
 
 use clients::Run;
-use model::{Answer, Layout, Session, Status};
+use model::{Answer, Layout, Refusal, Session};
+use session::SessionView;
+use trace::Writer;
 
 // Sizes as indexes count them.
 const WORD_SIZE: usize = Layout::WORD_SIZE as usize;
@@ -48,29 +49,17 @@ const FIXED_FLUSHES: u64 = 2;
 // ---- the dirty blocks
 
 // Writes back every dirty block of every main segment, upward: `marked` has those that have one, and `rest` those that are left.
-fn put_flushes(
-    layout: Layout,
-    words: &[u64],
-    marked: u64,
-    domain: u64,
-    trace: &mut [u64],
-    n: usize,
-) -> usize
-    requires mains_le_most { (layout.mains ≤ most) × (layout.blocks ≤ most) × (most ≤ length words.now) }
+fn put_flushes(layout: Layout, words: &[u64; Layout::MOST_LEN], marked: u64, out: &mut Writer)
+    requires mains_le_most { (layout.mains ≤ most) × (layout.blocks ≤ most) }
     requires by_index { (i : ℕ) → i < layout.mains → get_or words.now i 0 < 2 ^ layout.blocks }
     requires marked_value { marked ≡ marked_segments words.now layout.mains }
-    requires fits { Fits domain trace.old n (flush_dirty layout words.now) }
-    ensures { Emitted domain trace.old n (flush_dirty layout words.now) trace.new result }
+    requires fits { Fits out.old (flush_dirty layout words.now) }
+    ensures { Emitted out.old (flush_dirty layout words.now) out.new }
 {
-    let mut next = n;
-    let mut rest = marked;
-    while rest != 0 {
-        let i = u64::trailing_zeros(rest) as usize;
+    for i in words::bits(marked) {
         let at = places::main_at(layout, i as u64);
-        next = segments::put_dirty_clwbs(layout.blocks, words[i], at, domain, trace, next);
-        rest = rest & (rest - 1);
+        segments::put_dirty_clwbs(layout.blocks, words[i], at, out);
     }
-    next
 }
 
 // ---- the states
@@ -87,70 +76,58 @@ fn next_word(image: &[u8], line: usize, segments: u64, k: usize) -> u64
 }
 
 // Stores the next states on the inactive line, upward, and writes it back.
-fn put_states(image: &[u8], segments: u64, domain: u64, trace: &mut [u64], n: usize) -> usize
+fn put_states(image: &[u8], segments: u64, out: &mut Writer)
     requires metadata_size_in_bounds { metadata_size ≤ length image.now }
-    requires fits { Fits domain trace.old n (states_ops image.now segments) }
-    ensures { Emitted domain trace.old n (states_ops image.now segments) trace.new result }
+    requires fits { Fits out.old (states_ops image.now segments) }
+    ensures { Emitted out.old (states_ops image.now segments) out.new }
 {
     let from = metadata::active_at(image);
     let to = metadata::inactive_at(image);
-    let mut next = n;
-    let mut k = 0;
-    while k < LINE_WORDS {
+    for k in 0..LINE_WORDS {
         let word = next_word(image, from, segments, k);
-        next = trace::put_store(trace, next, (to + WORD_SIZE * k) as u64, word);
-        k += 1;
+        out.store((to + WORD_SIZE * k) as u64, word);
     }
-    trace::put_clwb(domain, trace, next, to as u64)
+    out.clwb(to as u64);
 }
 
 // ---- the epoch
 
 // Raises the epoch by 1 and writes it back.
-fn put_epoch(image: &[u8], domain: u64, trace: &mut [u64], n: usize) -> usize
+fn put_epoch(image: &[u8], out: &mut Writer)
     requires word_size_in_bounds { (word_size ≤ length image.now) × (committed_epoch image.now ≢ last_epoch) }
-    requires fits { Fits domain trace.old n (epoch_ops image.now) }
-    ensures { Emitted domain trace.old n (epoch_ops image.now) trace.new result }
+    requires fits { Fits out.old (epoch_ops image.now) }
+    ensures { Emitted out.old (epoch_ops image.now) out.new }
 {
     let epoch = words::word_at(image, EPOCH_AT);
-    let next = trace::put_store(trace, n, Layout::EPOCH_AT, epoch + 1);
-    trace::put_clwb(domain, trace, next, Layout::EPOCH_AT)
+    out.store(Layout::EPOCH_AT, epoch + 1);
+    out.clwb(Layout::EPOCH_AT);
 }
 
 // ---- all operations
 
-// Their number on the trace for a kind of module, whatever the dirty segments and the image.
-fn checkpoint_length(layout: Layout, words: &[u64], marked: u64, domain: u64) -> u64
-    requires mains_le_most { (layout.mains ≤ most) × (most ≤ length words.now) }
-    requires by_index { (i : ℕ) → i < layout.mains → get_or words.now i 0 < 2 ^ layout.blocks }
-    requires marked_value { marked ≡ marked_segments words.now layout.mains }
-    ensures { ((segments : ℕ) (I : Image) → result ≡ length (for_domain domain (checkpoint_ops (session_of layout segments words.now domain) I))) × (result < 2 ^ 32) }
+// Their number on the trace for the kind of module, whatever the dirty segments and the image.
+fn checkpoint_length(session: SessionView, marked: u64) -> u64
+    requires mains_le_most { session.layout.mains ≤ most }
+    requires by_index { (i : ℕ) → i < session.layout.mains → get_or session.dirty_blocks.now i 0 < 2 ^ session.layout.blocks }
+    requires marked_value { marked ≡ marked_segments session.dirty_blocks.now session.layout.mains }
+    ensures { ((segments : ℕ) (I : Image) → result ≡ length (for_domain session.domain (checkpoint_ops (session_of session.layout segments session.dirty_blocks.now session.domain) I))) × (result < 2 ^ 32) }
 {
-    let blocks = session::dirty_total(layout, words, marked);
-    trace::flush_count(domain, Layout::BLOCK_LINES * blocks + FIXED_FLUSHES) + FIXED_OPS
+    let blocks = session::dirty_total(session.layout, session.dirty_blocks, marked);
+    trace::flush_count(session.domain, Layout::BLOCK_LINES * blocks + FIXED_FLUSHES) + FIXED_OPS
 }
 
-// Writes them, by the parts of the session: dirty blocks, fence, states, fence, epoch, fence.
-fn put_checkpoint(
-    image: &[u8],
-    layout: Layout,
-    segments: u64,
-    words: &[u64],
-    marked: u64,
-    domain: u64,
-    trace: &mut [u64],
-    n: usize,
-) -> usize
-    requires advancing { Advancing layout image.now words.now × (marked ≡ marked_segments words.now layout.mains) }
-    requires fits { Fits domain trace.old n (checkpoint_ops (session_of layout segments words.now domain) image.now) }
-    ensures { Emitted domain trace.old n (checkpoint_ops (session_of layout segments words.now domain) image.now) trace.new result }
+// Writes them: dirty blocks, fence, states, fence, epoch, fence.
+fn put_checkpoint(image: &[u8], session: SessionView, marked: u64, out: &mut Writer)
+    requires advancing { Advancing session.layout image.now session.dirty_blocks.now × (marked ≡ marked_segments session.dirty_blocks.now session.layout.mains) }
+    requires fits { Fits out.old (checkpoint_ops (viewed session) image.now) }
+    ensures { Emitted out.old (checkpoint_ops (viewed session) image.now) out.new }
 {
-    let flushed = put_flushes(layout, words, marked, domain, trace, n);
-    let fenced = trace::put_sfence(trace, flushed);
-    let stored = put_states(image, segments, domain, trace, fenced);
-    let held = trace::put_sfence(trace, stored);
-    let raised = put_epoch(image, domain, trace, held);
-    trace::put_sfence(trace, raised)
+    put_flushes(session.layout, session.dirty_blocks, marked, out);
+    out.sfence();
+    put_states(image, session.dirty_segments, out);
+    out.sfence();
+    put_epoch(image, out);
+    out.sfence();
 }
 
 // ---- the call
@@ -159,106 +136,55 @@ fn put_checkpoint(
 // raised. `judged` is what refusal 13 says of the records.
 fn checkpoint_status(
     image: &[u8],
-    layout: Layout,
-    segments: u64,
-    words: &[u64],
-    domain: u64,
-    judged: Status,
-) -> Status
-    requires { most ≤ length words.now }
-    ensures result_value { (R : Clients) → code_of judged ≡ first_error (clients_errors layout R) → code_of result ≡ first_error (lent_errors (session_of layout segments words.now domain) image.now R ++ epoch_errors image.now) }
-    ensures advancing { served (code_of result) ≡ true → Advancing layout image.now words.now }
+    session: SessionView,
+    judged: Result<(), Refusal>,
+) -> Result<(), Refusal>
+    ensures result_value { (R : Clients) → code_of judged ≡ first_error (clients_errors session.layout R) → code_of result ≡ first_error (lent_errors (viewed session) image.now R ++ epoch_errors image.now) }
+    ensures advancing { IfOk result (λ _. Advancing session.layout image.now session.dirty_blocks.now) }
 {
-    let context = session::context_status(image, layout, segments, words, domain);
-    if !context.is_served() {
-        return context;
-    }
-    if !judged.is_served() {
-        return judged;
-    }
+    session.judge(image)?;
+    judged?;
     if words::word_at(image, EPOCH_AT) == LAST_EPOCH {
-        return Status::EpochLimit;
+        return Err(Refusal::EpochLimit);
     }
-    Status::Served
+    Ok(())
 }
 
-// What a checkpoint on the parts of a session answers: how it ended, and how many operations stand on the trace. Served, it leaves
-// no dirty segment and no client that has taken any, and the words of dirty blocks stay; refused, session and records stay whole.
-#[derive(Clone, Copy)]
-pub struct Checkpointed {
-    pub status: Status,
-    pub ops: u64,
-}
-
-// A checkpoint with the session lent by its parts (the trade: save): all that was written becomes the checkpoint, in one step that
-// no crash divides. `judged` is what refusal 13 says of the records, which the caller judges (clients::clients_status), and clears
-// where the call is served.
+// A checkpoint on a session that is lent (the trade: save): all that was written becomes the checkpoint, in one step that
+// no crash divides; how many operations that are. Served, it leaves no dirty segment and no client that has taken any, and the words of
+// dirty blocks stay; refused, session and records stay whole. `judged` is what refusal 13 says of the records, which the caller judges
+// (clients::Run::judge), and clears where the call is served.
 pub fn checkpoint_parts(
     image: &[u8],
-    layout: Layout,
-    segments: u64,
-    words: &[u64],
-    domain: u64,
-    judged: Status,
+    session: SessionView,
+    judged: Result<(), Refusal>,
     trace: &mut [u64],
-) -> Checkpointed
-    requires { most ≤ length words.now }
-    ensures { (R : Clients) → code_of judged ≡ first_error (clients_errors layout R) → Gives (checkpoint_outcome (session_of layout segments words.now domain) image.now (lent R trace.old)) trace.old (checkpointed_answer (session_of layout segments words.now domain) result) trace.new (checkpointed_clients R result) }
+) -> Result<u64, Refusal>
+    ensures { (R : Clients) → code_of judged ≡ first_error (clients_errors session.layout R) → Gives (checkpoint_outcome (viewed session) image.now (lent R trace.old)) trace.old (told (viewed session) (checkpointed_answer (viewed session) result)) trace.new (cond (served (code_of result)) (cleared R) R) }
 {
-    let status = checkpoint_status(image, layout, segments, words, domain, judged);
-    if !status.is_served() {
-        return Checkpointed {
-            status: status,
-            ops: 0,
-        };
-    }
-    let marked = session::marked_segments(words, layout.mains as usize);
-    let ops = checkpoint_length(layout, words, marked, domain);
-    let room = trace::trace_status(trace.len(), ops);
-    if !room.is_served() {
-        return Checkpointed {
-            status: room,
-            ops: 0,
-        };
-    }
-    put_checkpoint(image, layout, segments, words, marked, domain, trace, 0);
-    Checkpointed {
-        status: Status::Served,
-        ops: ops,
-    }
+    checkpoint_status(image, session, judged)?;
+    let marked = session::marked_segments(session.dirty_blocks, session.layout.mains as usize);
+    let ops = checkpoint_length(session, marked);
+    trace::trace_status(trace.len(), ops)?;
+    let mut out = Writer::new(session.domain, trace);
+    put_checkpoint(image, session, marked, &mut out);
+    Ok(ops)
 }
 
-// What a checkpoint on a session and a run as values answers: the answer, and the record from which on the run is to be cleared: past
-// its end where the call was refused.
-#[derive(Clone, Copy)]
-pub struct CheckpointRun {
-    pub answer: Answer,
-    pub from: usize,
-}
-
-// Checkpoint, with session and run as values: the answer has the session afterwards.
-pub fn checkpoint_run(image: &[u8], session: Session, run: Run, trace: &mut [u64]) -> CheckpointRun
-    ensures { (R : Clients) → run ≡ loaded R → Gives (checkpoint_outcome session image.now (lent R trace.old)) trace.old result.answer trace.new (cleared_from result.from R) }
+// Checkpoint, with session and run as values: the answer has the session afterwards. The caller clears the records that he lent where the
+// call is served.
+pub fn checkpoint_run(
+    image: &[u8],
+    session: Session,
+    run: Run,
+    trace: &mut [u64],
+) -> Result<Answer, Refusal>
+    ensures { (R : Clients) → run ≡ loaded R → Gives (checkpoint_outcome session image.now (lent R trace.old)) trace.old (told session result) trace.new (cond (served (code_of result)) (cleared R) R) }
 {
-    let layout = session.layout;
-    let segments = session.dirty_segments;
-    let words = &session.dirty_blocks;
-    let domain = session.domain;
-    let judged = clients::clients_status(run, layout);
-    let done = checkpoint_parts(image, layout, segments, words, domain, judged, trace);
-    let status = done.status;
-    let mut next = session;
-    let mut from = run.count;
-    if status.is_served() {
-        next = session::with_checkpoint(session);
-        from = 0;
-    }
-    CheckpointRun {
-        answer: Answer {
-            status: status,
-            session: next,
-            ops: done.ops,
-        },
-        from: from,
-    }
+    let judged = run.judge(session.layout);
+    let ops = checkpoint_parts(image, SessionView::of(&session), judged, trace)?;
+    Ok(Answer {
+        session: session::with_checkpoint(session),
+        ops,
+    })
 }
