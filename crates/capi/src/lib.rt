@@ -17,9 +17,9 @@ ghost use Rattle.model.specs.Same.{same_outcome};
 ghost use Rattle.clients.specs.Words.{clients_in};
 ghost use Rattle.interface.specs.Interface.{open_returned, write_returned, discard_returned, checkpoint_returned, Returns};
 
-use clients::CLIENT_WORDS;
-use interface::{DIRTY_BLOCKS_AT, DIRTY_SEGMENTS_AT, DOMAIN_AT, SESSION_WORDS};
-use model::Layout;
+use clients::{CLIENT_WORDS, Run};
+use interface::{DIRTY_BLOCKS_AT, DIRTY_SEGMENTS_AT, SESSION_WORDS};
+use model::{Layout, Place, Session};
 
 // Formats an image.
 #[unsafe(no_mangle)]
@@ -27,8 +27,7 @@ pub extern "C" fn crpm_format(image: &mut [u8], mains: u64, backups: u64, blocks
     ensures value { result ≡ (format_outcome (layout_of mains backups blocks) image.old).status }
     ensures image_after { image.new ≡ (format_outcome (layout_of mains backups blocks) image.old).image }
 {
-    let status = format::crpm_format(image, mains, backups, blocks);
-    status.code()
+    model::status_code(format::crpm_format(image, Layout::new(mains, backups, blocks)))
 }
 
 // Opening on a kind of module: the session that it answers, and the number of its operations.
@@ -46,11 +45,15 @@ pub extern "C" fn crpm_open(
 ) -> u64
     ensures { Returns (open_returned (layout_of mains backups blocks) domain image.now (clients_in clients.old) trace.old) result session.new (clients_in clients.new) trace.new ops.new }
 {
-    let run = clients::run_in(clients);
-    let done = open::open_run(image, mains, backups, blocks, domain, run, trace);
-    clients::clear_clients(clients, done.from);
-    let opened = done.answer;
-    interface::give_answer(session, ops, opened)
+    let opened = crpm::crpm_open(
+        image,
+        Layout::new(mains, backups, blocks),
+        domain,
+        clients,
+        trace,
+    );
+    let none = Session::fresh(Layout::new(0, 0, 0), Session::ADR);
+    interface::give_answer(session, ops, none, opened)
 }
 
 // Write: the session afterwards, and the number of its operations.
@@ -69,36 +72,30 @@ pub extern "C" fn crpm_write(
 ) -> u64
     ensures { Returns (write_returned image.now session.old (clients_in clients.old) (write_args_of client main block offset bytes.now) trace.old) result session.new (clients_in clients.new) trace.new ops.new }
 {
-    let run = clients::run_in(clients);
-    let words = &session[..];
-    let layout = interface::layout_in(words);
-    let segments = words[DIRTY_SEGMENTS_AT];
-    let dirty_blocks = &words[DIRTY_BLOCKS_AT..DOMAIN_AT];
-    let domain = words[DOMAIN_AT];
-    let written = write::write_parts(
-        image,
-        layout,
-        segments,
-        dirty_blocks,
-        domain,
-        run,
-        client,
+    let run = Run::load(clients);
+    let place = Place {
         main,
         block,
         offset,
-        bytes,
-        trace,
-    );
-    let status = written.status;
-    let code = status.code();
-    *ops = written.ops;
-    if status.is_served() {
-        session[DIRTY_SEGMENTS_AT] = written.dirty_segments;
-        session[DIRTY_BLOCKS_AT + main as usize] = written.word;
-        let record = clients::record_of(run, client, written.used);
-        clients::put_client(clients, client as usize, record);
+    };
+    let view = interface::view_in(session);
+    match write::write_parts(image, view, run, client, place, bytes, trace) {
+        Ok(written) => {
+            session[DIRTY_SEGMENTS_AT] = written.dirty_segments;
+            session[DIRTY_BLOCKS_AT + main as usize] = written.word;
+            clients::put(
+                clients,
+                client as usize,
+                run.record_of(client, written.used),
+            );
+            *ops = written.ops;
+            0
+        }
+        Err(refusal) => {
+            *ops = 0;
+            u64::from(refusal)
+        }
     }
-    code
 }
 
 // Discard: the number of its operations. The session is only read, since it stays, and no records of clients are lent.
@@ -112,15 +109,9 @@ pub extern "C" fn crpm_discard(
 ) -> u64
     ensures { (R : Clients) → Returns (discard_returned image.now session.now R main trace.old) result session.now R trace.new ops.new }
 {
-    let words = &session[..];
-    let layout = interface::layout_in(words);
-    let segments = words[DIRTY_SEGMENTS_AT];
-    let dirty_blocks = &words[DIRTY_BLOCKS_AT..DOMAIN_AT];
-    let domain = words[DOMAIN_AT];
-    let done = discard::discard_parts(image, layout, segments, dirty_blocks, domain, main, trace);
-    *ops = done.ops;
-    let status = done.status;
-    status.code()
+    let discarded = discard::discard_parts(image, interface::view_in(session), main, trace);
+    *ops = discarded.unwrap_or(0);
+    model::status_code(discarded)
 }
 
 // Checkpoint: the session afterwards, and the number of its operations.
@@ -134,30 +125,15 @@ pub extern "C" fn crpm_checkpoint(
 ) -> u64
     ensures { Returns (checkpoint_returned image.now session.old (clients_in clients.old) trace.old) result session.new (clients_in clients.new) trace.new ops.new }
 {
-    let run = clients::run_in(clients);
-    let words = &session[..];
-    let layout = interface::layout_in(words);
-    let segments = words[DIRTY_SEGMENTS_AT];
-    let dirty_blocks = &words[DIRTY_BLOCKS_AT..DOMAIN_AT];
-    let domain = words[DOMAIN_AT];
-    let judged = clients::clients_status(run, layout);
-    let done = checkpoint::checkpoint_parts(
-        image,
-        layout,
-        segments,
-        dirty_blocks,
-        domain,
-        judged,
-        trace,
-    );
-    let status = done.status;
-    let code = status.code();
-    *ops = done.ops;
-    if status.is_served() {
+    let view = interface::view_in(session);
+    let judged = Run::load(clients).judge(view.layout);
+    let checkpointed = checkpoint::checkpoint_parts(image, view, judged, trace);
+    *ops = checkpointed.unwrap_or(0);
+    if checkpointed.is_ok() {
         session[DIRTY_SEGMENTS_AT] = 0;
-        clients::clear_clients(clients, 0);
+        clients::clear(clients);
     }
-    code
+    model::status_code(checkpointed)
 }
 
 // Replay: the image afterwards, and the number of operations played.
@@ -168,9 +144,8 @@ pub extern "C" fn crpm_replay(image: &mut [u8], trace: &[u64], n: u64, played: &
     ensures played_after { played.new ≡ (replay_outcome image.old trace.now n).played }
 {
     let replayed = replay::crpm_replay(image, trace, n);
-    *played = replayed.played;
-    let status = replayed.status;
-    status.code()
+    *played = replayed.unwrap_or(0);
+    model::status_code(replayed)
 }
 
 // The number of a read that found a part of this size: 0 where there is one.
@@ -181,8 +156,7 @@ fn part_code(image: &[u8], layout: Layout, main: u64, block: u64, size: u64) -> 
     if size != 0 {
         return 0;
     }
-    let status = reads::read_status(image, layout, main, block);
-    status.code()
+    model::status_code(reads::read_status(image, layout, main, block))
 }
 
 // Working read: where the part of the image starts that holds the block, and its length.
@@ -244,8 +218,7 @@ pub extern "C" fn crpm_same_checkpoint(
     ensures value { result ≡ (same_outcome (layout_of mains backups blocks) a.now b.now).status }
     ensures same_after { same.new ≡ cond (same_outcome (layout_of mains backups blocks) a.now b.now).same 1 0 }
 {
-    let compared = same::crpm_same_checkpoint(a, b, mains, backups, blocks);
-    *same = compared.same as u64;
-    let status = compared.status;
-    status.code()
+    let compared = same::crpm_same_checkpoint(a, b, Layout::new(mains, backups, blocks));
+    *same = compared.unwrap_or(false) as u64;
+    model::status_code(compared)
 }

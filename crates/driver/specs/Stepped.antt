@@ -3,12 +3,10 @@
 -- traces as the contracts have them. Assumes nothing.
 use Rattle.std.specs.Prelude.{ℕ, ◌*◌, ◌≡◌, length, take}
 use Rattle.model.specs.declared.Session.{Session}
-use Rattle.model.specs.declared.Answer.{Answer}
 use Rattle.model.specs.Words.{Image}
-use Rattle.model.specs.Status.{code_of}
 use Rattle.model.specs.Ops.{op_numbers, Ops, Trace, decode, written, replay}
 use Rattle.model.specs.Clients.{Clients}
-use Rattle.model.specs.Outcome.{Outcome}
+use Rattle.model.specs.Outcome.{Outcome, Told}
 use Rattle.model.specs.History.{Call, answers, Permitted}
 
 -- what a call reports: its number, the session that it answers, the records of clients that it leaves, and how many operations stand on the
@@ -19,9 +17,9 @@ pub record Report : Type 0 where
   pub clients : Clients
   pub ops : ℕ
 
--- an answer of the library and the records that it leaves are one
-abbrev pub report_of : Answer → Clients → Report
-report_of a R = record { number = code_of a.status; session = a.session; clients = R; ops = a.ops }
+-- what a call of the library tells and the records that it leaves are one
+abbrev pub report_of : Told → Clients → Report
+report_of a R = record { number = a.status; session = a.session; clients = R; ops = a.ops }
 
 -- a report and the trace that the call leaves give an outcome, on the trace t (`Gives` says it of answers)
 abbrev pub Reports : Outcome → Trace → Report → Trace → Type 0

@@ -3,11 +3,13 @@
 
 #![tactic(auto)]
 
-ghost use Rattle.std.specs.Prelude.{◌≡◌, ◌≤◌, length};
-ghost use Rattle.model.specs.Status.{code_of};
-ghost use Rattle.interface.specs.Interface.{dirty_segments_at, words_of, session_in};
+ghost use Rattle.std.specs.Prelude.{◌≡◌};
+ghost use Rattle.model.specs.Outcome.{told};
+ghost use Rattle.session.specs.Parts.{viewed};
+ghost use Rattle.interface.specs.Interface.{words_of, session_in};
 
-use model::{Answer, Layout, Session};
+use model::{Answer, Layout, Refusal, Session};
+use session::SessionView;
 
 // Where the dirty segments stand: after the three sizes.
 pub const DIRTY_SEGMENTS_AT: usize = 3;
@@ -21,12 +23,18 @@ pub const DOMAIN_AT: usize = DIRTY_BLOCKS_AT + Layout::MOST_LEN;
 // Words of a session: these, and the kind of module.
 pub const SESSION_WORDS: usize = DOMAIN_AT + 1;
 
-// The layout of the session that stands in words.
-pub fn layout_in(words: &[u64]) -> Layout
-    requires { dirty_segments_at ≤ length words.now }
-    ensures { result ≡ (session_in words.now).layout }
+// The session that stands in words, lent.
+pub fn view_in(words: &[u64; SESSION_WORDS]) -> SessionView<'_>
+    ensures { viewed result ≡ session_in words.now }
 {
-    Layout::new(words[0], words[1], words[2])
+    SessionView {
+        layout: Layout::new(words[0], words[1], words[2]),
+        dirty_segments: words[DIRTY_SEGMENTS_AT],
+        dirty_blocks: <&[u64; Layout::MOST_LEN]>::try_from(
+            &words[DIRTY_BLOCKS_AT..DOMAIN_AT],
+        ).unwrap(),
+        domain: words[DOMAIN_AT],
+    }
 }
 
 // The words of a session.
@@ -38,24 +46,33 @@ fn words_of(session: Session) -> [u64; SESSION_WORDS]
     words[1] = session.layout.backups;
     words[2] = session.layout.blocks;
     words[DIRTY_SEGMENTS_AT] = session.dirty_segments;
-    let mut i = 0;
-    while i < Layout::MOST_LEN {
-        words[DIRTY_BLOCKS_AT + i] = session.dirty_blocks[i];
-        i += 1;
-    }
+    words[DIRTY_BLOCKS_AT..DOMAIN_AT].copy_from_slice(&session.dirty_blocks);
     words[DOMAIN_AT] = session.domain;
     words
 }
 
-// Gives the session of an answer and its number of operations. The number of its status.
-pub fn give_answer(session: &mut [u64; SESSION_WORDS], ops: &mut u64, answer: Answer) -> u64
-    ensures value { result ≡ code_of answer.status }
-    ensures session_after { session.new ≡ words_of answer.session }
-    ensures ops_after { ops.new ≡ answer.ops }
+// Gives the session after a call and its number of operations: those of the answer, and where the call is refused the session that is kept,
+// and none. The number of its status.
+pub fn give_answer(
+    session: &mut [u64; SESSION_WORDS],
+    ops: &mut u64,
+    kept: Session,
+    ended: Result<Answer, Refusal>,
+) -> u64
+    ensures value { result ≡ (told kept ended).status }
+    ensures session_after { session.new ≡ words_of (told kept ended).session }
+    ensures ops_after { ops.new ≡ (told kept ended).ops }
 {
-    let after = answer.session;
-    *session = words_of(after);
-    *ops = answer.ops;
-    let status = answer.status;
-    status.code()
+    match ended {
+        Ok(answer) => {
+            *session = words_of(answer.session);
+            *ops = answer.ops;
+            0
+        }
+        Err(refusal) => {
+            *session = words_of(kept);
+            *ops = 0;
+            u64::from(refusal)
+        }
+    }
 }
