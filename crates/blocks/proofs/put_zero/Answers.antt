@@ -1,29 +1,19 @@
-use mathlib.Core.Path.{refl}
-use Rattle.model.specs.Layout.{block_lines}
-use Rattle.model.specs.Ops.{clwbs, put_block}
-use Rattle.model.proofs.Laws.Domain.{domain_stores}
-use Rattle.trace.proofs.EmitLaws.{fits_first, fits_then, fits_if, fits_plain, emitted_then, emitted_if, emitted_unless, emitted_plain}
+use Rattle.model.specs.Ops.{put_block}
+use Rattle.trace.proofs.EmitLaws.{fits_first, fits_then, fits_if, emitted_then, emitted_if, emitted_unless}
 use Rattle.blocks.proofs.put_zero.Goals as goal
 
-pub put_zeros-next-requires-clause-fits : goal.put_zeros-next-requires-clause-fits
+pub put_zeros-requires-clause-fits : goal.put_zeros-requires-clause-fits
 unfolding put_block
-put_zeros-next-requires-clause-fits c = fits_plain (domain_stores _ _ _ _) (fits_first _ c.requires.fits)
-
-pub returns-then-not-flush : goal.returns-then-not-flush
-unfolding put_block
-returns-then-not-flush c =
-    let g = c.args in
-    emitted_then (emitted_plain g.domain (domain_stores _ _ _ _) c.put_zeros-next.ensures) (emitted_unless g.flush (clwbs block_lines g.to) c.if-not-flush.true refl refl)
+put_zeros-requires-clause-fits c = fits_first _ c.requires.fits
 
 pub put_clwbs-requires-clause-fits : goal.put_clwbs-requires-clause-fits
 unfolding put_block
-put_clwbs-requires-clause-fits c =
-    let zeros = emitted_plain c.args.domain (domain_stores _ _ _ _) c.put_zeros-next.ensures in
-    fits_if c.args.flush c.if-not-flush.false (fits_then c.requires.fits zeros)
+put_clwbs-requires-clause-fits c = fits_if c.args.flush c.if-flush.true (fits_then c.requires.fits c.put_zeros.ensures)
 
-pub returns : goal.returns
+pub returns-then-flush : goal.returns-then-flush
 unfolding put_block
-returns c =
-    let g = c.args in
-    let zeros = emitted_plain g.domain (domain_stores _ _ _ _) c.put_zeros-next.ensures in
-    emitted_then zeros (emitted_if g.flush c.if-not-flush.false c.put_clwbs.ensures)
+returns-then-flush c = emitted_then c.put_zeros.ensures (emitted_if c.args.flush c.if-flush.true c.put_clwbs.ensures)
+
+pub returns-else-flush : goal.returns-else-flush
+unfolding put_block
+returns-else-flush c = emitted_then c.put_zeros.ensures (emitted_unless c.args.flush _ c.if-flush.false)
