@@ -1,4 +1,5 @@
-// Words of an image: 8 bytes, the least significant first; words whose eight bytes are tested or made at once; single bits of a word.
+// Words of an image: 8 bytes, the least significant first; words whose eight bytes are tested or made at once; single bits of a word, and
+// a walk over those that are set.
 
 #![tactic(auto)]
 
@@ -16,30 +17,11 @@ const BYTE: u64 = 256;
 // Bytes of a word, as the length of an array.
 const WORD_LEN: usize = Layout::WORD_SIZE as usize;
 
-// A byte as a number.
-fn wide(byte: u8) -> u64
-    ensures { (result ≡ byte) × (result < 256) }
-{
-    byte as u64
-}
-
 // The word that eight bytes make, the least significant first.
 pub fn join(bytes: [u8; WORD_LEN]) -> u64
     ensures { result ≡ word_at bytes 0 }
 {
-    wide(bytes[0])
-        + BYTE
-            * (wide(bytes[1])
-                + BYTE
-                    * (wide(bytes[2])
-                        + BYTE
-                            * (wide(bytes[3])
-                                + BYTE
-                                    * (wide(bytes[4])
-                                        + BYTE
-                                            * (wide(bytes[5])
-                                                + BYTE
-                                                    * (wide(bytes[6]) + BYTE * wide(bytes[7])))))))
+    u64::from_le_bytes(bytes)
 }
 
 // The eight bytes from a place of an image on.
@@ -47,16 +29,9 @@ pub fn bytes_at(image: &[u8], at: usize) -> [u8; WORD_LEN]
     requires { at + word_size ≤ length image.now }
     ensures { (k : ℕ) → k < word_size → byte_at result k ≡ byte_at image.now (at + k) }
 {
-    [
-        image[at],
-        image[at + 1],
-        image[at + 2],
-        image[at + 3],
-        image[at + 4],
-        image[at + 5],
-        image[at + 6],
-        image[at + 7],
-    ]
+    let mut bytes = [0; WORD_LEN];
+    bytes.copy_from_slice(&image[at..at + WORD_LEN]);
+    bytes
 }
 
 // The word at a place of an image.
@@ -72,22 +47,7 @@ pub fn store_word(image: &mut [u8], at: usize, w: u64)
     requires { at + word_size ≤ length image.old }
     ensures { image.new ≡ store_word image.old at w }
 {
-    let mut rest = w;
-    image[at] = (rest % BYTE) as u8;
-    rest = rest / BYTE;
-    image[at + 1] = (rest % BYTE) as u8;
-    rest = rest / BYTE;
-    image[at + 2] = (rest % BYTE) as u8;
-    rest = rest / BYTE;
-    image[at + 3] = (rest % BYTE) as u8;
-    rest = rest / BYTE;
-    image[at + 4] = (rest % BYTE) as u8;
-    rest = rest / BYTE;
-    image[at + 5] = (rest % BYTE) as u8;
-    rest = rest / BYTE;
-    image[at + 6] = (rest % BYTE) as u8;
-    rest = rest / BYTE;
-    image[at + 7] = (rest % BYTE) as u8;
+    image[at..at + WORD_LEN].copy_from_slice(&w.to_le_bytes());
 }
 
 // ---- eight bytes at once
@@ -109,7 +69,7 @@ const TOP_BIT: u64 = 7;
 pub fn each(byte: u8) -> u64
     ensures { result ≡ word_of (λ k. byte) 0 }
 {
-    wide(byte) * EACH_ONE
+    u64::from(byte) * EACH_ONE
 }
 
 // The eight bits of a set from bit p on, one in each byte and there at its own place: byte k has bit k or none.
@@ -141,7 +101,7 @@ pub fn first_byte(word: u64, byte: u8) -> u64
     ensures { (f : ℕ → ℕ) → ((k : ℕ) → k < word_size → f k < 256) → word ≡ word_of f 0 → result ≡ first_b word_size (λ k. eqb (f k) byte) }
 {
     let found = present(word ^ each(byte)) ^ EACH_ONE;
-    u64::trailing_zeros(found) as u64 / BYTE_BITS
+    u64::from(found.trailing_zeros()) / BYTE_BITS
 }
 
 // ---- bits
@@ -162,13 +122,13 @@ pub fn within(word: u64, n: u64) -> bool
     (word >> (n - 1)) >> 1 == 0
 }
 
-// The members of a set of bits, upward: those that are still to come.
+// The members of a set of bits, upward: `rest` has those that are still to come.
 #[derive(Clone, Copy)]
 pub struct Members {
     pub rest: u64,
 }
 
-// A walk over the members of a set of bits.
+// The members of a set of bits, from the lowest on.
 pub fn bits(set: u64) -> Members
     ensures { result.rest ≡ set }
 {
@@ -189,7 +149,7 @@ impl Iterator for Members {
         if self.rest == 0 {
             return None;
         }
-        let lowest = u64::trailing_zeros(self.rest) as usize;
+        let lowest = self.rest.trailing_zeros() as usize;
         self.rest &= self.rest - 1;
         Some(lowest)
     }

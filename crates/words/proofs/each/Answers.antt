@@ -5,4 +5,4 @@ use Rattle.words.proofs.ByteLaws.{each_byte}
 use Rattle.words.proofs.each.Goals as goal
 
 pub returns : goal.returns
-returns c = each_byte c.wide.result ∙ ap (λ (b : ℕ). word_of (λ k. b) 0) c.wide.ensures.0
+returns c = each_byte c.from.result ∙ ap (λ (b : ℕ). word_of (λ k. b) 0) c.from.ensures

@@ -4,4 +4,4 @@ use Rattle.words.proofs.join.Goals as goal
 
 pub returns : goal.returns
 unfolding word_of little_endian
-returns c = omega arith
+returns c = omega (arith, c.from_le_bytes.ensures)
