@@ -1,33 +1,28 @@
 -- Laws of the records as a value: what is loaded is what was lent, so the code's tests on it are the tests on the records; and what is
 -- stored back is what a call leaves.
-use Prim.Native.Nat.{ℕ, zero, suc, ◌+◌, ◌-◌, ◌≤◌, ◌<◌, min}
+use Prim.Native.Nat.{ℕ, zero, suc, ◌+◌, ◌≤◌, ◌<◌, min}
 use mathlib.Core.Path.{◌≡◌, refl, sym, ap, ap₂, ◌∙◌}
 use mathlib.Core.Bool.{Bool, true, false, cond, ◌||◌}
-use mathlib.Core.List.{[], ◌∷◌, ◌++◌, map, append-nil}
+use mathlib.Core.List.{List}
 use native.Mathlib.Omega.{arith}
 use native.Mathlib.Decide.{dec_lt, ℕ_discrete}
 use native.Mathlib.Numerals.{add-one}
 use lib.Dec.{ltb, eqb}
-use lib.ListN.{length, set, length-set, length-replicate, get_or-replicate, get_or-eq_default}
-use lib.Seq.{get_or-set_same, get_or-set_other, set-get_or, set_out, take-length, drop-length}
+use lib.ListN.{length, take, set, length-set, length-replicate, get_or, get_or-replicate, get_or-eq_default}
+use lib.Seq.{get_or-set_same, get_or-set_other, set-get_or, set_out}
 use borrow.Author.Tests.{lt-ltb, le-ltb, le-leb, lt-leb}
+use Rattle.std.proofs.lemmas.List.{ext_get_or, length-take, get_or-take}
+use Rattle.std.specs.Array.{IsFromFnResultFrom}
+use denote.Param.Members.{Mut, Called}
 use Rattle.model.specs.declared.Layout.{Layout}
 use Rattle.model.specs.declared.Client.{Client}
 use Rattle.model.specs.Range.{any_b, sum_to}
-use Rattle.model.specs.Clients.{Clients, most_clients, no_client, client_at, with_used, charged, cleared, unused, unused_of_others, reserved_total, client_bad, clients_bad, quota_reached}
+use Rattle.model.specs.Clients.{Clients, most_clients, no_client, client_at, with_used, charged, unused, unused_of_others, reserved_total, client_bad, clients_bad, quota_reached}
 use Rattle.model.proofs.Laws.Range.{or_left, or_right, any_at, any_ext, sum_ext}
 use Rattle.clients.specs.declared.Run.{Run}
-use Rattle.clients.specs.Run.{no_clients, copied, loaded, cleared_from}
+use Rattle.clients.specs.Run.{no_clients, copied, run_of, loaded}
 
 -- ---- what is loaded
-
-pub copied_none : (R : Clients) → copied 0 R ≡ no_clients
-unfolding copied
-copied_none R = refl
-
-pub copied_more : (i : ℕ) (R : Clients) → copied (i + 1) R ≡ set (copied i R) i (client_at R i)
-unfolding copied
-copied_more i R = ap (λ (k : ℕ). copied k R) (add-one i)
 
 pub copied-length : (i : ℕ) (R : Clients) → length (copied i R) ≡ most_clients
 unfolding copied no_clients
@@ -56,6 +51,24 @@ loaded_at R i h =
       | no l ↦ copied_past (min (length R) most_clients) R i (omega arith) h ∙ sym (get_or-eq_default R no_client (omega arith))
     ]
 
+-- eight records that are those of R, and none after its last
+pub loaded_same : (n : ℕ) (xs R : Clients) → n ≡ length R → length xs ≡ most_clients → ((i : ℕ) → i < most_clients → client_at xs i ≡ client_at R i) → run_of n xs ≡ loaded R
+loaded_same n xs R count eight same =
+    let m = min (length R) most_clients in
+    ap₂ run_of count
+    (ext_get_or no_client xs (copied m R) (omega (arith, copied-length m R)) (λ i h. same i (omega arith) ∙ sym (loaded_at R i (omega arith))))
+
+-- an array that a closure fills, which stays as it was: the element at each place is what a call there answers
+pub filled_at : {F B : Type 0} (g : Mut F (ℕ × Unit {0}) B) (v : ℕ → B) (f : F) → ((i : ℕ) (y : B) (q : F) → Called g f (i, tt) y q → (y ≡ v i) × (q ≡ f))
+    → (ys : List B) (i n : ℕ) → IsFromFnResultFrom g f ys i n → (k : ℕ) (d : B) → i ≤ k → k < i + n → get_or ys k d ≡ v k
+filled_at g v f keeps ys i zero h k d a b = let z : ⊥ = omega arith in absurd z
+filled_at g v f keeps ys i (suc n) (q, y, at, call, rest) k d a b =
+    let w = keeps i y q call in
+    elim (ℕ_discrete k i) [
+      | yes e ↦ rw e (at.1 d ∙ w.0)
+      | no e ↦ filled_at g v f keeps ys (i + 1) n (rw w.1 at rest) k d (omega arith) (omega arith)
+    ]
+
 -- the same of a value that is loaded, as a contract has it
 module _ (run : Run) (R : Clients) (e : run ≡ loaded R) where
   pub run_count : run.count ≡ length R
@@ -70,6 +83,12 @@ module _ (run : Run) (R : Clients) (e : run ≡ loaded R) where
 
   sum-run : (f : Client → ℕ) (n : ℕ) → n ≤ most_clients → sum_to n (λ j. f (client_at run.clients j)) ≡ sum_to n (λ j. f (client_at R j))
   sum-run f n h = sum_ext n (λ j. f (client_at run.clients j)) (λ j. f (client_at R j)) (λ i l. ap f (run_at i (omega arith)))
+
+-- a record of those that a value has, in the part of its array that holds them
+pub kept : (run : Run) (k : ℕ) → k < length (take run.count run.clients) → (k < run.count) × (client_at (take run.count run.clients) k ≡ client_at run.clients k)
+kept run k h =
+    let below : k < run.count = omega (arith, length-take run.count run.clients) in
+    (below, get_or-take run.count run.clients k no_client below)
 
 -- ---- refusal 13
 
@@ -155,59 +174,3 @@ pub put_used : (R : Clients) (k : ℕ) (b : Bool)
 unfolding charged
 put_used R k true = refl
 put_used R k false = set-get_or R k no_client
-
-pub cleared_all : (R : Clients) → cleared_from 0 R ≡ cleared R
-unfolding cleared_from
-cleared_all R = refl
-
-pub cleared_none : (R : Clients) → cleared_from (length R) R ≡ R
-unfolding cleared_from cleared
-cleared_none R = ap₂ ◌++◌ (take-length R) (ap (map (with_used 0)) (drop-length R)) ∙ append-nil R
-
--- ---- records cleared one after the other
-
--- the records with k of them cleared from number n on
-unfoldable pub wiped : ℕ → ℕ → Clients → Clients
-wiped n k [] = []
-wiped (suc n) k (c ∷ R) = c ∷ wiped n k R
-wiped zero zero (c ∷ R) = c ∷ R
-wiped zero (suc k) (c ∷ R) = with_used 0 c ∷ wiped zero k R
-
-pub wiped_length : (n k : ℕ) (R : Clients) → length (wiped n k R) ≡ length R
-unfolding wiped
-wiped_length zero k [] = refl
-wiped_length (suc n) k [] = refl
-wiped_length (suc n) k (c ∷ R) = ap suc (wiped_length n k R)
-wiped_length zero zero (c ∷ R) = refl
-wiped_length zero (suc k) (c ∷ R) = ap suc (wiped_length zero k R)
-
-pub wiped_none : (n : ℕ) (R : Clients) → wiped n 0 R ≡ R
-unfolding wiped
-wiped_none zero [] = refl
-wiped_none (suc n) [] = refl
-wiped_none zero (c ∷ R) = refl
-wiped_none (suc n) (c ∷ R) = ap (λ (l : Clients). c ∷ l) (wiped_none n R)
-
-wiped_suc : (n k p : ℕ) (R : Clients) → p ≡ n + k → set (wiped n k R) p (with_used 0 (client_at (wiped n k R) p)) ≡ wiped n (suc k) R
-unfolding wiped
-wiped_suc zero k p [] e = refl
-wiped_suc (suc n) k p [] e = refl
-wiped_suc (suc n) k zero (c ∷ R) e = let z : ⊥ = omega arith in absurd z
-wiped_suc (suc n) k (suc p) (c ∷ R) e = ap (λ (l : Clients). c ∷ l) (wiped_suc n k p R (omega arith))
-wiped_suc zero zero zero (c ∷ R) e = ap (λ (l : Clients). with_used 0 c ∷ l) (sym (wiped_none zero R))
-wiped_suc zero zero (suc p) (c ∷ R) e = let z : ⊥ = omega arith in absurd z
-wiped_suc zero (suc k) zero (c ∷ R) e = let z : ⊥ = omega arith in absurd z
-wiped_suc zero (suc k) (suc p) (c ∷ R) e = ap (λ (l : Clients). with_used 0 c ∷ l) (wiped_suc zero k p R (omega arith))
-
--- a turn of a loop that clears record i, and came from number n
-pub wiped_more : (n i : ℕ) (R : Clients) → n ≤ i
-    → set (wiped n (i - n) R) i (with_used 0 (client_at (wiped n (i - n) R) i)) ≡ wiped n (i + 1 - n) R
-wiped_more n i R h = let e : suc (i - n) ≡ i + 1 - n = omega arith in wiped_suc n (i - n) i R (omega arith) ∙ ap (λ (k : ℕ). wiped n k R) e
-
-pub wiped_all : (n k : ℕ) (R : Clients) → length R ≤ n + k → wiped n k R ≡ cleared_from n R
-unfolding wiped cleared_from cleared
-wiped_all zero k [] h = refl
-wiped_all (suc n) k [] h = refl
-wiped_all (suc n) k (c ∷ R) h = ap (λ (l : Clients). c ∷ l) (wiped_all n k R (omega arith))
-wiped_all zero zero (c ∷ R) h = let z : ⊥ = omega arith in absurd z
-wiped_all zero (suc k) (c ∷ R) h = ap (λ (l : Clients). with_used 0 c ∷ l) (wiped_all zero k R (omega arith))

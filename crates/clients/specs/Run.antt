@@ -1,6 +1,6 @@
--- The records of clients as a value, as the calls judge them, and what a call leaves of them. Assumes nothing.
-use Rattle.std.specs.Prelude.{ℕ, zero, suc, min, ◌++◌, length, take, drop, set, replicate}
-use Rattle.model.specs.Clients.{Clients, most_clients, no_client, client_at, cleared}
+-- The records of clients as a value, as the calls judge them. Assumes nothing.
+use Rattle.std.specs.Prelude.{ℕ, zero, suc, min, length, set, replicate}
+use Rattle.model.specs.Clients.{Clients, most_clients, no_client, client_at}
 use Rattle.clients.specs.declared.Run.{Run}
 
 -- eight records with nothing in them
@@ -18,7 +18,3 @@ run_of count clients = record { count = count; clients = clients }
 -- the records R as a value: how many there are, and the first eight
 abbrev pub loaded : Clients → Run
 loaded R = run_of (length R) (copied (min (length R) most_clients) R)
-
--- the records R, where the clients from number n on have taken nothing
-unfoldable pub cleared_from : ℕ → Clients → Clients
-cleared_from n R = take n R ++ cleared (drop n R)

@@ -4,7 +4,7 @@
 
 #![tactic(auto)]
 
-ghost use Rattle.std.specs.Prelude.{◌≡◌, cond, suc, ◌-◌, ◌≤◌, ◌<◌, List, map, leb, eqb, set, IfOk, length};
+ghost use Rattle.std.specs.Prelude.{◌≡◌, true, cond, suc, ◌-◌, ◌≤◌, ◌<◌, map, leb, eqb, set, IfOk};
 ghost use Rattle.model.specs.declared.Client.{Client};
 ghost use Rattle.model.specs.Range.{sum_to};
 ghost use Rattle.model.specs.Status.{code_of, first_error};
@@ -13,9 +13,17 @@ ghost use Rattle.clients.specs.Run.{loaded};
 ghost use Rattle.clients.specs.Words.{client_in};
 
 use model::{Client, Layout, Refusal};
+use std::array;
 
 // The most records that are lent.
 const MOST_CLIENTS: usize = 8;
+
+// A record with nothing in it.
+const NO_CLIENT: Client = Client {
+    reserved: 0,
+    quota: 0,
+    used: 0,
+};
 
 // ---- records as they are lent
 
@@ -64,12 +72,19 @@ impl Record for [u64; CLIENT_WORDS] {
     }
 }
 
+// The client of record i; past the last record, one with nothing in it.
+fn client_at<R: Record>(records: &[R], i: usize) -> Client
+    ensures { result ≡ client_at (map R.client_of records.now) i }
+{
+    records.get(i).map_or(NO_CLIENT, |record| record.client())
+}
+
 // Record i becomes one of this client; past the last record nothing changes.
 pub fn put<R: Record>(records: &mut [R], i: usize, client: Client)
     ensures { map R.client_of records.new ≡ set (map R.client_of records.old) i client }
 {
-    if let Some(record) = records.get_mut(i) {
-        *record = R::of(client);
+    if i < records.len() {
+        records[i] = R::of(client);
     }
 }
 
@@ -78,8 +93,10 @@ pub fn clear<R: Record>(records: &mut [R])
     ensures { map R.client_of records.new ≡ cleared (map R.client_of records.old) }
 {
     for record in records.iter_mut() {
-        let client = (*record).client();
-        *record = R::of(Client { used: 0, ..client });
+        *record = R::of(Client {
+            used: 0,
+            ..record.client()
+        });
     }
 }
 
@@ -97,17 +114,9 @@ impl Run {
     pub fn load<R: Record>(records: &[R]) -> Run
         ensures { result ≡ loaded (map R.client_of records.now) }
     {
-        let mut clients = [Client {
-            reserved: 0,
-            quota: 0,
-            used: 0,
-        }; MOST_CLIENTS];
-        for (client, record) in clients.iter_mut().zip(records) {
-            *client = (*record).client();
-        }
         Run {
             count: records.len(),
-            clients,
+            clients: array::from_fn(|i| client_at(records, i)),
         }
     }
 
@@ -119,19 +128,15 @@ impl Run {
         ensures result_value { (R : Clients) → self ≡ loaded R → code_of result ≡ first_error (clients_errors layout R) }
         ensures count_le_most_clients { IfOk result (λ _. self.count ≤ most_clients) }
     {
-        let count = self.count;
-        if MOST_CLIENTS < count {
+        if MOST_CLIENTS < self.count {
             return Err(Refusal::BadClients);
         }
         let mut left = layout.backups;
-        for c in &self.clients[..count] {
+        for c in &self.clients[..self.count] {
             if client_bad(*c) {
                 return Err(Refusal::BadClients);
             }
-            if left < c.reserved {
-                return Err(Refusal::BadClients);
-            }
-            left -= c.reserved;
+            left = left.checked_sub(c.reserved).ok_or(Refusal::BadClients)?;
         }
         Ok(())
     }
@@ -155,9 +160,8 @@ impl Run {
         requires { self.count ≤ most_clients }
         ensures { result ≡ leb free (sum_to self.count (λ j. cond (eqb j client) 0 (unused (client_at self.clients j)))) }
     {
-        let count = self.count;
         let mut left = free;
-        for (k, c) in self.clients[..count].iter().enumerate() {
+        for (k, c) in self.clients[..self.count].iter().enumerate() {
             left = left_after(left, *c, k as u64 == client);
         }
         left == 0
@@ -192,10 +196,7 @@ impl Run {
         ensures { (R : Clients) → self ≡ loaded R → result ≡ cond copying (suc (client_at R client).used) (client_at R client).used }
     {
         let c = self.clients[client as usize];
-        if copying {
-            return one_more(c);
-        }
-        c.used
+        if copying { c.used + 1 } else { c.used }
     }
 
     // The record of a client of the run, with another number taken.
@@ -212,7 +213,7 @@ impl Run {
 fn client_bad(c: Client) -> bool
     ensures { result ≡ client_bad c }
 {
-    (c.quota < c.reserved) | (c.quota < c.used)
+    c.quota < c.reserved || c.quota < c.used
 }
 
 // What is left of so many free backup segments after a client's unused share is set apart; nothing is set apart for the own one.
@@ -223,12 +224,4 @@ fn left_after(left: u64, c: Client, own: bool) -> u64
         return left;
     }
     left.saturating_sub(c.reserved.saturating_sub(c.used))
-}
-
-// One more than a client has taken, where it may take one.
-fn one_more(c: Client) -> u64
-    requires { c.used < c.quota }
-    ensures { result ≡ suc c.used }
-{
-    c.used + 1
 }
