@@ -16,26 +16,27 @@
 
 #![tactic(auto)]
 
-ghost use Rattle.std.specs.Prelude.{◌≡◌, [], ◌∷◌, ◌≤◌, get_or};
+ghost use Rattle.std.specs.Prelude.{◌≡◌, [], ◌∷◌, ◌≤◌};
+ghost use Rattle.model.specs.declared.Session.{Session};
 ghost use Rattle.model.specs.Words.{byte_at};
 ghost use Rattle.model.specs.Layout.{layout_of};
-ghost use Rattle.model.specs.Session.{adr};
+ghost use Rattle.model.specs.Session.{adr, zero_session};
 ghost use Rattle.model.specs.Clients.{client_of};
-ghost use Rattle.model.specs.Outcome.{Gives, lent};
+ghost use Rattle.model.specs.Outcome.{Gives, lent, told};
 ghost use Rattle.model.specs.Open.{open_outcome};
 ghost use Rattle.model.specs.Write.{write_args_of, write_outcome};
 ghost use Rattle.model.specs.Checkpoint.{checkpoint_outcome};
 ghost use Rattle.model.specs.Replay.{replay_outcome};
 
-use lends::Lend;
-use model::{Client, Layout, Session};
+use model::{Answer, Client, Layout, Place, Refusal, Session};
+use std::io;
 
 // The board's sizes: three levels, two spares, one frame each; and the bytes of its image.
-const MAINS: u64 = 3;
-
-const BACKUPS: u64 = 2;
-
-const BLOCKS: u64 = 1;
+const SIZES: Layout = Layout {
+    mains: 3,
+    backups: 2,
+    blocks: 1,
+};
 
 const IMAGE: usize = 1792;
 
@@ -45,55 +46,16 @@ const TAPE: usize = 327;
 // The byte of every write.
 const BYTES: [u8; 1] = [0xa1];
 
-// ---- printed lines
-
-// Prints bytes as they are.
-fn print(rt: &impl Print, bytes: &[u8]) {
-    let _ = rt.write_all(bytes);
-}
-
-// Prints a name and a number.
-fn print_number(rt: &impl Print, name: &[u8], n: u64) {
-    print(rt, name);
-    let _ = rt.print(n);
-}
-
-// Prints how a call ended, how many orders it reports, and how many spares each console has taken.
-fn print_lend(rt: &impl Print, name: &[u8], lend: Lend) {
-    let answer = lend.answer;
-    let status = answer.status;
-    let clients = lend.clients;
-    print_number(rt, name, status.code());
-    print_number(rt, b" orders=", answer.ops);
-    print_number(rt, b" taken=", clients[0].used);
-    print_number(rt, b",", clients[1].used);
-}
-
-// Prints the states of the three levels on the active line, and the pairs of the two spares.
-fn print_board(rt: &impl Print, image: &[u8]) {
-    let line = active_line(image);
-    print_number(rt, b" states=", byte_at(image, line));
-    print_number(rt, b",", byte_at(image, line + 1));
-    print_number(rt, b",", byte_at(image, line + 2));
-    print_number(rt, b" pairs=", byte_at(image, 256));
-    print_number(rt, b",", byte_at(image, 257));
-    print(rt, b"\n");
-}
+// The consoles: the stage and the gallery.
+const CONSOLES: usize = 2;
 
 // ---- small parts
 
-// A byte as a number.
-fn wide(byte: u8) -> u64
-    ensures { result ≡ byte }
-{
-    byte as u64
-}
-
 // A byte of an image, or 0 past its end.
-fn byte_at(image: &[u8], at: usize) -> u64
+fn byte_at(image: &[u8], at: usize) -> u8
     ensures { result ≡ byte_at image.now at }
 {
-    if at < image.len() { wide(image[at]) } else { 0 }
+    image.get(at).copied().unwrap_or(0)
 }
 
 // Where the active line of states stands, by the epoch's first byte.
@@ -104,7 +66,7 @@ fn active_line(image: &[u8]) -> usize
 }
 
 // The records of both consoles, which have taken nothing: a share and a limit of the stage, and those of the gallery.
-fn records(share: u64, limit: u64) -> [Client; lends::LENT]
+fn records(share: u64, limit: u64) -> [Client; CONSOLES]
     ensures { result ≡ client_of share limit 0 ∷ client_of 1 2 0 ∷ [] }
 {
     let stage = Client {
@@ -120,159 +82,205 @@ fn records(share: u64, limit: u64) -> [Client; lends::LENT]
     [stage, gallery]
 }
 
+// ---- printed lines
+
+// Prints how a call ended, how many orders it reports, and how many spares each console has taken.
+fn print_answer(
+    rt: &impl Print,
+    name: &str,
+    ended: Result<Answer, Refusal>,
+    clients: [Client; CONSOLES],
+) -> io::Result<()> {
+    let code = model::status_code(ended);
+    let orders = orders_of(ended);
+    let [stage, gallery] = clients;
+    print!(rt;
+        " {name}={code} orders={orders} taken={},{}",
+        stage.used, gallery.used
+    )
+}
+
+// Prints the states of the three levels on the active line, and the pairs of the two spares.
+fn print_board(rt: &impl Print, image: &[u8]) -> io::Result<()> {
+    let line = active_line(image);
+    let first = byte_at(image, line);
+    let second = byte_at(image, line + 1);
+    let third = byte_at(image, line + 2);
+    println!(rt;
+        " states={first},{second},{third} pairs={},{}",
+        byte_at(image, 256),
+        byte_at(image, 257)
+    )
+}
+
 // ---- calls with the records lent, and their orders played
 
-// An opening.
-fn play_open(image: &mut [u8], clients: [Client; lends::LENT], trace: &mut [u64]) -> Lend
-    ensures gives { Gives (open_outcome (layout_of 3 2 1) adr image.old (lent clients trace.old)) trace.old result.answer trace.new result.clients }
-    ensures image_after { image.new ≡ (replay_outcome image.old trace.new result.answer.ops).image }
+// How many orders a call reports: none where it is refused.
+fn orders_of(ended: Result<Answer, Refusal>) -> u64
+    ensures { (s : Session) → result ≡ (told s ended).ops }
 {
-    let lend = lends::lend_open(image, MAINS, BACKUPS, BLOCKS, Session::ADR, clients, trace);
-    let answer = lend.answer;
-    replay::crpm_replay(image, trace, answer.ops);
-    lend
+    match ended {
+        Ok(answer) => answer.ops,
+        Err(_) => 0,
+    }
+}
+
+// An opening.
+fn play_open(
+    image: &mut [u8],
+    clients: &mut [Client; CONSOLES],
+    trace: &mut [u64],
+) -> Result<Answer, Refusal>
+    ensures gives { Gives (open_outcome (layout_of 3 2 1) adr image.old (lent clients.old trace.old)) trace.old (told zero_session result) trace.new clients.new }
+    ensures image_after { image.new ≡ (replay_outcome image.old trace.new (told zero_session result).ops).image }
+{
+    let opened = crpm::crpm_open(image, SIZES, Session::ADR, &mut clients[..], trace);
+    let _ = replay::crpm_replay(image, trace, orders_of(opened));
+    opened
 }
 
 // A write of one byte at the start of a level, by a console.
 fn play_write(
     image: &mut [u8],
     session: Session,
-    clients: [Client; lends::LENT],
+    clients: &mut [Client; CONSOLES],
     console: u64,
     level: u64,
     trace: &mut [u64],
-) -> Lend
-    ensures gives { Gives (write_outcome session image.old (write_args_of console level 0 0 (161 ∷ [])) (lent clients trace.old)) trace.old result.answer trace.new result.clients }
-    ensures image_after { image.new ≡ (replay_outcome image.old trace.new result.answer.ops).image }
+) -> Result<Answer, Refusal>
+    ensures gives { Gives (write_outcome session image.old (write_args_of console level 0 0 (161 ∷ [])) (lent clients.old trace.old)) trace.old (told session result) trace.new clients.new }
+    ensures image_after { image.new ≡ (replay_outcome image.old trace.new (told session result).ops).image }
 {
+    let place = Place {
+        main: level,
+        block: 0,
+        offset: 0,
+    };
     let bytes = BYTES;
-    let lend = lends::lend_write(image, session, clients, console, level, 0, 0, &bytes, trace);
-    let answer = lend.answer;
-    replay::crpm_replay(image, trace, answer.ops);
-    lend
+    let written = crpm::crpm_write(
+        image,
+        session,
+        &mut clients[..],
+        console,
+        place,
+        &bytes,
+        trace,
+    );
+    let _ = replay::crpm_replay(image, trace, orders_of(written));
+    written
 }
 
 // A save.
 fn play_save(
     image: &mut [u8],
     session: Session,
-    clients: [Client; lends::LENT],
+    clients: &mut [Client; CONSOLES],
     trace: &mut [u64],
-) -> Lend
-    ensures gives { Gives (checkpoint_outcome session image.old (lent clients trace.old)) trace.old result.answer trace.new result.clients }
-    ensures image_after { image.new ≡ (replay_outcome image.old trace.new result.answer.ops).image }
+) -> Result<Answer, Refusal>
+    ensures gives { Gives (checkpoint_outcome session image.old (lent clients.old trace.old)) trace.old (told session result) trace.new clients.new }
+    ensures image_after { image.new ≡ (replay_outcome image.old trace.new (told session result).ops).image }
 {
-    let lend = lends::lend_checkpoint(image, session, clients, trace);
-    let answer = lend.answer;
-    replay::crpm_replay(image, trace, answer.ops);
-    lend
+    let saved = crpm::crpm_checkpoint(image, session, &mut clients[..], trace);
+    let _ = replay::crpm_replay(image, trace, orders_of(saved));
+    saved
 }
 
 // ---- the story
 
-// A call: an opening (0), a write (1) by a console to a level, or a save (2).
+// A call: an opening, a write by a console to a level, or a save.
 #[derive(Clone, Copy)]
-struct Call {
-    kind: u64,
-    console: u64,
-    level: u64,
+enum Call {
+    Open,
+    Write(u64, u64),
+    Save,
 }
 
 // The calls C1 to C21.
-const COUNT: usize = 21;
-
-const CALLS: [[u64; 3]; COUNT] = [
-    [0, 0, 0],
-    [1, 0, 0],
-    [1, 0, 1],
-    [1, 0, 2],
-    [2, 0, 0],
-    [1, 0, 0],
-    [1, 0, 1],
-    [1, 1, 1],
-    [1, 1, 2],
-    [2, 0, 0],
-    [1, 1, 2],
-    [0, 0, 0],
-    [1, 0, 0],
-    [2, 0, 0],
-    [1, 0, 0],
-    [1, 1, 1],
-    [0, 0, 0],
-    [1, 0, 2],
-    [2, 0, 0],
-    [1, 0, 2],
-    [1, 2, 0],
+const CALLS: [Call; 21] = [
+    Call::Open,
+    Call::Write(0, 0),
+    Call::Write(0, 1),
+    Call::Write(0, 2),
+    Call::Save,
+    Call::Write(0, 0),
+    Call::Write(0, 1),
+    Call::Write(1, 1),
+    Call::Write(1, 2),
+    Call::Save,
+    Call::Write(1, 2),
+    Call::Open,
+    Call::Write(0, 0),
+    Call::Save,
+    Call::Write(0, 0),
+    Call::Write(1, 1),
+    Call::Open,
+    Call::Write(0, 2),
+    Call::Save,
+    Call::Write(0, 2),
+    Call::Write(2, 0),
 ];
 
-// The call of a row of the table.
-fn call_of(row: [u64; 3]) -> Call
-    ensures { (result.kind ≡ get_or row 0 0) × (result.console ≡ get_or row 1 0) × (result.level ≡ get_or row 2 0) }
-{
-    Call {
-        kind: row[0],
-        console: row[1],
-        level: row[2],
-    }
-}
-
-// Makes a call with the card and the records that the last one left, plays its orders and prints its answer.
+// Makes a call with the card and the records that the last one left, plays its orders and prints its answer. The card afterwards, which
+// stays where the call is refused.
 fn make(
     rt: &impl Print,
     image: &mut [u8],
     session: Session,
-    clients: [Client; lends::LENT],
+    clients: &mut [Client; CONSOLES],
     trace: &mut [u64],
     call: Call,
-) -> Lend
-    ensures { image.new ≡ (replay_outcome image.old trace.new result.answer.ops).image }
-{
-    if call.kind == 0 {
-        let opened = play_open(image, clients, trace);
-        print_lend(rt, b" open=", opened);
-        return opened;
-    }
-    if call.kind == 2 {
-        let saved = play_save(image, session, clients, trace);
-        print_lend(rt, b" save=", saved);
-        return saved;
-    }
-    print_number(rt, b" console=", call.console);
-    print_number(rt, b" level=", call.level);
-    let written = play_write(image, session, clients, call.console, call.level, trace);
-    print_lend(rt, b" write=", written);
-    written
+) -> io::Result<Session> {
+    let ended = match call {
+        Call::Open => {
+            let opened = play_open(image, clients, trace);
+            print_answer(rt, "open", opened, *clients)?;
+            opened
+        }
+        Call::Write(console, level) => {
+            print!(rt; " console={console} level={level}")?;
+            let written = play_write(image, session, clients, console, level, trace);
+            print_answer(rt, "write", written, *clients)?;
+            written
+        }
+        Call::Save => {
+            let saved = play_save(image, session, clients, trace);
+            print_answer(rt, "save", saved, *clients)?;
+            saved
+        }
+    };
+    Ok(ended.map_or(session, |answer| answer.session))
 }
 
 // C1 to C21: each call is lent the records that the last one left. The card afterwards.
-fn history(rt: &impl Print, image: &mut [u8], trace: &mut [u64]) -> Session {
-    let mut session = Session::fresh(Layout::new(MAINS, BACKUPS, BLOCKS), Session::ADR);
+fn history(rt: &impl Print, image: &mut [u8], trace: &mut [u64]) -> io::Result<Session> {
+    let mut session = Session::fresh(SIZES, Session::ADR);
     let mut clients = records(1, 2);
-    let mut i = 0;
-    while i < COUNT {
-        print_number(rt, b"C", i as u64 + 1);
-        let lend = make(rt, image, session, clients, trace, call_of(CALLS[i]));
-        print_board(rt, image);
-        let answer = lend.answer;
-        session = answer.session;
-        clients = lend.clients;
-        i += 1;
+    for (i, call) in CALLS.iter().enumerate() {
+        print!(rt; "C{}", i + 1)?;
+        session = make(rt, image, session, &mut clients, trace, *call)?;
+        print_board(rt, image)?;
     }
-    session
+    Ok(session)
 }
 
 // C22: a save with records of which one has a share above its limit.
-fn bad_share(rt: &impl Print, image: &mut [u8], session: Session, trace: &mut [u64]) {
-    let lend = play_save(image, session, records(1, 0), trace);
-    print(rt, b"C22 share=1 limit=0");
-    print_lend(rt, b" save=", lend);
-    print_board(rt, image);
+fn bad_share(
+    rt: &impl Print,
+    image: &mut [u8],
+    session: Session,
+    trace: &mut [u64],
+) -> io::Result<()> {
+    let mut clients = records(1, 0);
+    let saved = play_save(image, session, &mut clients, trace);
+    print!(rt; "C22 share=1 limit=0")?;
+    print_answer(rt, "save", saved, clients)?;
+    print_board(rt, image)
 }
 
-fn main(rt: HostRuntime) {
+fn main(rt: HostRuntime) -> io::Result<()> {
     let mut image = [7u8; IMAGE];
     let mut trace = [0u64; TAPE];
-    format::crpm_format(&mut image, MAINS, BACKUPS, BLOCKS);
-    let session = history(&rt, &mut image, &mut trace);
-    bad_share(&rt, &mut image, session, &mut trace);
+    let _ = format::crpm_format(&mut image, SIZES);
+    let session = history(&rt, &mut image, &mut trace)?;
+    bad_share(&rt, &mut image, session, &mut trace)
 }
