@@ -39,6 +39,7 @@ pub fn backup_at(layout: Layout, j: u64) -> usize
 // ---- sizes
 
 // Whether a size is 1 to 64.
+#[tactic(auto, unfolding(model::specs::Layout::in_range))]
 fn in_range(n: u64) -> bool
     ensures { result ≡ in_range n }
 {
@@ -46,6 +47,7 @@ fn in_range(n: u64) -> bool
 }
 
 // Whether all three sizes are 1 to 64.
+#[tactic(auto, unfolding(model::specs::Layout::sizes_ok))]
 fn sizes_ok(layout: Layout) -> bool
     ensures { result ≡ sizes_ok layout }
 {
@@ -62,6 +64,7 @@ fn allowed_image_size(layout: Layout) -> usize
 }
 
 // The bytes of an image, or 0 where a size is not 1 to 64.
+#[tactic(auto, using(model::proofs::Laws::Container::sizes_ok_lem))]
 pub fn image_size(layout: Layout) -> usize
     ensures { (result ≡ cond (sizes_ok layout) (image_size layout) 0) × (result ≤ largest_image) }
 {
@@ -72,6 +75,7 @@ pub fn image_size(layout: Layout) -> usize
 }
 
 // Whether the image carries the sizes of the layout.
+#[tactic(auto, unfolding(model::specs::Container::header_ok))]
 fn header_ok(image: &[u8], layout: Layout) -> bool
     requires { header_end ≤ length image.now }
     ensures { result ≡ header_ok layout image.now }
@@ -87,6 +91,7 @@ fn header_ok(image: &[u8], layout: Layout) -> bool
 // ---- refusals
 
 // The first of refusals 1 and 2 that applies.
+#[tactic(auto, using(model::proofs::Laws::Container::sizes_ok_lem), unfolding(model::specs::Status::first_error))]
 pub fn size_status(image: &[u8], layout: Layout) -> Result<(), Refusal>
     ensures { code_of result ≡ first_error (size_errors layout image.now) }
 {
@@ -100,6 +105,7 @@ pub fn size_status(image: &[u8], layout: Layout) -> Result<(), Refusal>
 }
 
 // The first of refusals 1 to 3 that applies.
+#[tactic(auto, unfolding(model::specs::Status::first_error))]
 pub fn layout_status(image: &[u8], layout: Layout) -> Result<(), Refusal>
     ensures { code_of result ≡ first_error (layout_errors layout image.now) }
 {
@@ -111,6 +117,7 @@ pub fn layout_status(image: &[u8], layout: Layout) -> Result<(), Refusal>
 }
 
 // Refusal 6, for a call that names a main segment.
+#[tactic(auto, unfolding(model::specs::Status::first_error))]
 pub fn main_status(layout: Layout, main: u64) -> Result<(), Refusal>
     ensures { code_of result ≡ first_error (main_errors layout main) }
 {
@@ -121,6 +128,7 @@ pub fn main_status(layout: Layout, main: u64) -> Result<(), Refusal>
 }
 
 // The first of refusals 6 and 7 that applies, for a call that names a main segment and a block.
+#[tactic(auto, unfolding(model::specs::Status::first_error))]
 pub fn place_status(layout: Layout, main: u64, block: u64) -> Result<(), Refusal>
     ensures { code_of result ≡ first_error (main_errors layout main ++ block_errors layout block) }
 {
