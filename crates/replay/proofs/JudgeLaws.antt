@@ -1,76 +1,93 @@
--- Laws of the pass that judges a trace: no operation, one fewer, one that is ill formed; what is judged of a store and of
--- another operation; and where a store that passed stands.
-use Prim.Native.Nat.{ℕ, suc, ◌+◌, ◌*◌, ◌/◌, ◌%◌, ◌≤◌, ◌<◌}
-use mathlib.Core.Path.{◌≡◌, refl, sym, ap, ap₂, ◌∙◌}
-use mathlib.Core.Logic.{◌≢◌}
-use mathlib.Core.Bool.{Bool, true, false, ◌&&◌, ◌||◌, true≢false, false≢true}
+-- Laws of what is judged: a trace by its operations, and where a store that passed stands.
+use Prim.Native.Nat.{ℕ, zero, suc, ◌+◌, ◌*◌, ◌/◌, ◌%◌, ◌≤◌, ◌<◌}
+use mathlib.Core.Path.{◌≡◌, refl, sym, ap, ◌∙◌, subst}
+use mathlib.Core.Logic.{◌↔◌}
+use mathlib.Core.Bool.{Bool, true, false, ◌||◌, false≢true}
+use mathlib.Core.List.{List, [], ◌∷◌, map}
 use native.Mathlib.Omega.{arith}
 use native.Mathlib.Decide.{dec_lt}
+use native.Mathlib.Nat.{add-zero}
 use lib.Dec.{ltb, eqb}
-use lib.ListN.{get_or}
-use borrow.Author.Tests.{lt-ltb, le-ltb, ltb-true, eqb-true, ne_eqb}
+use lib.ListN.{length, get_or, take, drop}
+use borrow.Author.Tests.{lt-ltb, le-ltb, ltb-true, eqb-true}
+use Rattle.std.specs.Prelude.{IsTrue}
+use Rattle.std.specs.List.{AllPass}
+use Rattle.std.specs.Simd.{first_chunks}
+use Rattle.std.proofs.lemmas.List.{drop-drop}
+use Rattle.std.proofs.lemmas.Simd.{get_or-chunk}
 use Rattle.model.specs.Range.{all_b}
 use Rattle.model.specs.Layout.{word_size, line_size}
-use Rattle.model.specs.Ops.{Trace, op_numbers, op_store, op_clwb, op_sfence}
+use Rattle.model.specs.Ops.{Ops, Trace, op_store, op_of, decode}
 use Rattle.model.specs.Replay.{well_formed, all_well_formed}
-use Rattle.model.proofs.Laws.Range.{and_left, and_right, all_at}
+use Rattle.model.proofs.Laws.Range.{and_left, and_right, all_at, all_from, same_test}
+use Rattle.replay.specs.Numbers.{op_well_formed, op_given}
 
--- operation k of a trace is well formed
-abbrev pub well_formed_at : ℕ → Trace → ℕ → Bool
-well_formed_at lines t k = well_formed lines (get_or t (op_numbers * k) 0) (get_or t (op_numbers * k + 1) 0) (get_or t (op_numbers * k + 2) 0)
+-- ---- a trace in threes
+
+pub length_threes : (k : ℕ) (t : Trace) → length (first_chunks 3 k t) ≡ k
+length_threes zero t = refl
+length_threes (suc k) t = ap suc (length_threes k (drop 3 t))
+
+-- the first n of k
+pub first_threes : (n k : ℕ) (t : Trace) → n ≤ k → take n (first_chunks 3 k t) ≡ first_chunks 3 n t
+first_threes zero k t h = refl
+first_threes (suc n) zero t h = absurd (omega arith)
+first_threes (suc n) (suc k) t h = ap (λ O. take 3 t ∷ O) (first_threes n k (drop 3 t) (omega arith))
+
+three_at : (k : ℕ) (t : Trace) (i : ℕ) (d : List ℕ) → i < k → get_or (first_chunks 3 k t) i d ≡ take 3 (drop (3 * i) t)
+three_at zero t i d h = absurd (omega arith)
+three_at (suc k) t zero d h = refl
+three_at (suc k) t (suc i) d h =
+    three_at k (drop 3 t) i d (omega arith) ∙ ap (take 3) (drop-drop (3 * i) 3 t ∙ ap (λ n. drop n t) (omega arith))
+
+-- the operations that they are
+pub decoded : (k : ℕ) (t : Trace) → 3 * k ≤ length t → map op_given (first_chunks 3 k t) ≡ decode (take (3 * k) t)
+unfolding decode
+decoded zero t h = refl
+decoded (suc k) [] h = absurd (omega arith)
+decoded (suc k) (x ∷ []) h = absurd (omega arith)
+decoded (suc k) (x ∷ y ∷ []) h = absurd (omega arith)
+decoded (suc k) (x ∷ y ∷ z ∷ t) h =
+    let e : 3 * suc k ≡ suc (suc (suc (3 * k))) = omega arith in
+    rw e (ap (λ (O : Ops). op_of x y z ∷ O) (decoded k t (omega arith)))
 
 -- ---- the whole trace
 
-pub judged_none : (lines : ℕ) (t : Trace) → true ≡ all_well_formed lines t 0
-unfolding all_well_formed all_b
-judged_none lines t = refl
+module _ (lines : ℕ) (t : Trace) where
+  abbrev well_formed_at : ℕ → Bool
+  well_formed_at i = well_formed lines (get_or t (3 * i) 0) (get_or t (3 * i + 1) 0) (get_or t (3 * i + 2) 0)
 
--- a well-formed operation at the end decides nothing
-pub judged_less : (lines : ℕ) (t : Trace) (n k : ℕ) → n ≡ suc k → well_formed_at lines t k ≡ true → all_well_formed lines t n ≡ all_well_formed lines t k
-unfolding all_well_formed all_b
-judged_less lines t n k e h = rw (e, h) (go (all_b k (well_formed_at lines t)))
-  where
-    go : (b : Bool) → (b && true) ≡ b
-    go true = refl
-    go false = refl
+  op_at : (k i : ℕ) (d : List ℕ) → i < k → op_well_formed lines (get_or (first_chunks 3 k t) i d) ≡ well_formed_at i
+  op_at k i d l =
+      let x = get_or-chunk (3 * i) 3 t 0 0 (omega arith) in
+      let y = get_or-chunk (3 * i) 3 t 1 0 (omega arith) in
+      let z = get_or-chunk (3 * i) 3 t 2 0 (omega arith) in
+      rw (three_at k t i d l, x, y, z, add-zero)
 
-pub judged_at : (lines : ℕ) (t : Trace) (n : ℕ) → all_well_formed lines t n ≡ true → (k : ℕ) → k < n
-    → well_formed_at lines t k ≡ true
-unfolding all_well_formed
-judged_at lines t n h k l = all_at n _ h k l
+  -- each is well formed where the trace is
+  pub three_judged : (k i : ℕ) (d : List ℕ) → all_well_formed lines t k ≡ true → i < k → op_well_formed lines (get_or (first_chunks 3 k t) i d) ≡ true
+  unfolding all_well_formed
+  three_judged k i d e l = op_at k i d l ∙ all_at k well_formed_at e i l
 
--- one ill-formed operation is enough
-pub judged_stop : (lines : ℕ) (t : Trace) (n k : ℕ) → k < n → well_formed_at lines t k ≡ false → false ≡ all_well_formed lines t n
-judged_stop lines t n k l h = go (all_well_formed lines t n) refl
-  where
-    go : (b : Bool) → all_well_formed lines t n ≡ b → false ≡ all_well_formed lines t n
-    go true e = absurd (true≢false (sym (judged_at lines t n e k l) ∙ h))
-    go false e = sym e
+  -- the code's test of the operations is that of the trace
+  pub judged_threes : (k : ℕ) (r : Bool) {ops : List (List ℕ)} {good : Bool} → ops ≡ first_chunks 3 k t → (IsTrue r ↔ AllPass (op_well_formed lines) ops) → r ≡ good
+      → all_well_formed lines t k ≡ good
+  unfolding all_well_formed
+  judged_threes k r e h g =
+      let u = subst (λ (O : List (List ℕ)). IsTrue r ↔ AllPass (op_well_formed lines) O) e h in
+      sym (same_test r (all_b k well_formed_at)
+      (λ q. all_from k well_formed_at (λ i l. sym (op_at k i [] l) ∙ u.0 q i [] (rw (length_threes k t) l)))
+      (λ q. u.1 (λ i d l. three_judged k i d q (rw (length_threes k t) at l)))) ∙ g
 
 -- ---- one operation
 
 -- a place lies below so many lines exactly if its line does
-below_lines : (lines p : ℕ) → ltb p (line_size * lines) ≡ ltb (p / line_size) lines
+pub below_lines : (lines p : ℕ) → ltb p (line_size * lines) ≡ ltb (p / line_size) lines
 below_lines lines p =
     elim (dec_lt (p / line_size) lines) [
       | yes h ↦ lt-ltb p (line_size * lines) (omega arith) ∙ sym (lt-ltb (p / line_size) lines h)
       | no h ↦ le-ltb p (line_size * lines) (omega arith) ∙ sym (le-ltb (p / line_size) lines (omega arith))
     ]
-
-pub judged_store : (lines kind p w : ℕ) → kind ≡ op_store → (ltb p (line_size * lines) && eqb (p % word_size) 0) ≡ well_formed lines kind p w
-unfolding well_formed
-judged_store lines kind p w e = rw e (ap₂ ◌&&◌ (below_lines lines p) (go (eqb (p % word_size) 0)))
-  where
-    go : (b : Bool) → b ≡ (b || false || false)
-    go true = refl
-    go false = refl
-
-pub judged_other : (lines kind p w : ℕ) → kind ≢ op_store
-    → (ltb p (line_size * lines) && (eqb kind op_clwb && eqb (p % line_size) 0 && eqb w 0 || eqb kind op_sfence && eqb p 0 && eqb w 0)) ≡ well_formed lines kind p w
-unfolding well_formed
-judged_other lines kind p w h =
-    rw (ne_eqb kind op_store h)
-    (ap (λ (b : Bool). b && (eqb kind op_clwb && eqb (p % line_size) 0 && eqb w 0 || eqb kind op_sfence && eqb p 0 && eqb w 0)) (below_lines lines p))
 
 -- a well-formed store lies in the image
 pub store_inside : (size kind p w : ℕ) → kind ≡ op_store → size % line_size ≡ 0 → well_formed (size / line_size) kind p w ≡ true → p + word_size ≤ size

@@ -1,26 +1,19 @@
-use mathlib.Core.Path.{sym, ◌∙◌}
-use Rattle.model.specs.Replay.{replay_outcome}
-use borrow.Author.Tests.{eqb-true, eqb-false}
-use Rattle.replay.proofs.ReplayLaws.{judged, count_inside, refused, all_played}
+use Rattle.std.proofs.lemmas.List.{drop_all}
+use Rattle.model.specs.Ops.{replay}
+use Rattle.replay.proofs.JudgeLaws.{length_threes, three_judged}
+use Rattle.replay.proofs.ReplayLaws.{judged, played_more, all_played}
 use Rattle.replay.proofs.crpm_replay.Goals as goal
 
-pub returns-then-not-is_served : goal.returns-then-not-is_served
-unfolding replay_outcome
-returns-then-not-is_served c =
-    let s = c.replay_status-status.ensures in
-    let x = refused _ _ _ (λ e. eqb-false _ _ (sym c.is_served.ensures ∙ c.if-not-is_served.true) (s ∙ e)) in
-    record { status_value = s; played_value = x.0; image_after = x.1 }
+pub play_op-requires : goal.play_op-requires
+play_op-requires c =
+    let j = judged c.args.image.now c.args.trace.now c.args.n c.in_ok-replay_status.ensures in
+    record { line_size_len = rw c.loop-op.auto.image j.0; word_value = rw (c.first_ops-ops.ensures, c.loop-op.auto.image) (three_judged _ _ _ _ _ j.1 (rw (c.first_ops-ops.ensures, length_threes) at c.loop-op-test.true)) }
 
-pub play-requires : goal.play-requires
-play-requires c =
-    let z = eqb-true _ _ (sym c.is_served.ensures ∙ c.if-not-is_served.false) in
-    let x = judged _ _ _ (sym c.replay_status-status.ensures ∙ z) in
-    rw c.replay_count-count.ensures record { count_in_bounds = count_inside _ _; line_size_len = x.0; count_value = x.1 }
+pub loop-op-preserved : goal.loop-op-preserved
+loop-op-preserved c = played_more _ c.loop-op.op-index c.loop-op.image c.loop-op-test.true c.loop-op.invariant c.play_op.ensures
 
-pub returns : goal.returns
-unfolding replay_outcome
-returns c =
-    let s = c.replay_status-status.ensures in
-    let z = eqb-true _ _ (sym c.is_served.ensures ∙ c.if-not-is_served.false) in
-    let x = all_played _ _ _ (sym s ∙ z) c.replay_count-count.ensures c.play.ensures in
-    record { status_value = sym z ∙ s; played_value = x.0; image_after = x.1 }
+pub returns-clause-image_after : goal.returns-clause-image_after
+unfolding replay
+returns-clause-image_after c =
+    let p = rw (drop_all c.loop-op.op-index c.first_ops-ops.result.now c.loop-op-test.false) at c.loop-op.invariant in
+    all_played c.args.image.now c.args.trace.now c.args.n c.in_ok-replay_status.ensures (rw c.first_ops-ops.ensures at p)
