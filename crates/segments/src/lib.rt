@@ -46,7 +46,7 @@ pub fn put_segment_zero(layout: Layout, to: usize, out: &mut Writer)
 // ---- dirty blocks
 
 // Copies the dirty blocks of the segment at one place to that at another, upward, and writes them back if they are to be flushed; bit b
-// of the word says that block b is dirty, and `rest` has those that are left.
+// of the word says that block b is dirty.
 pub fn put_dirty_copies(
     image: &[u8],
     blocks: u64,
@@ -75,7 +75,7 @@ pub fn put_dirty_copies(
 }
 
 // Fills the dirty blocks of the segment at a place with zeros, upward, which are not written back; bit b of the word says that block b is
-// dirty, and `rest` has those that are left.
+// dirty.
 pub fn put_dirty_zeros(blocks: u64, word: u64, to: usize, out: &mut Writer)
     requires blocks_le_most { (blocks ≤ most) × (word < 2 ^ blocks) }
     requires blocks_bound { to + block_size * blocks < 2 ^ 64 }
@@ -88,8 +88,7 @@ pub fn put_dirty_zeros(blocks: u64, word: u64, to: usize, out: &mut Writer)
     }
 }
 
-// Writes back the dirty blocks of the segment at a place, upward; bit b of the word `dirty` says that block b is, and `rest` has
-// those that are left.
+// Writes back the dirty blocks of the segment at a place, upward; bit b of the word `dirty` says that block b is.
 pub fn put_dirty_clwbs(blocks: u64, dirty: u64, at: usize, out: &mut Writer)
     requires blocks_le_most { (blocks ≤ most) × (dirty < 2 ^ blocks) }
     requires blocks_bound { at + block_size * blocks < 2 ^ 64 }

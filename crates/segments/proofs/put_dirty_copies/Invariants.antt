@@ -1,6 +1,4 @@
 use Prim.Native.Nat.{ℕ, ◌+◌, ◌*◌}
-use mathlib.Core.Path.{◌≡◌}
-use lib.ListN.{length}
 use Rattle.model.specs.Words.{word_at}
 use Rattle.model.specs.Layout.{word_size, block_size}
 use Rattle.model.specs.Ops.{put_block, each_dirty}
@@ -8,9 +6,6 @@ use Rattle.trace.specs.Emit.{Emitted}
 use Rattle.words.proofs.WalkLaws.{Walk}
 use Rattle.segments.proofs.put_dirty_copies.Given as goal
 
-abbrev pub invariant-loop-rest : goal.invariant-loop-rest
-invariant-loop-rest l = (length l.trace ≡ length l.initial.trace)
-    × ((k : ℕ) × (Walk l.word l.blocks l.rest k × Emitted l.domain l.initial.trace l.n (each_dirty l.word k (λ b. put_block l.flush (l.to + block_size * b) (λ j. word_at l.image (l.from + block_size * b + word_size * j)))) l.trace l.next))
-
-abbrev pub decreases-loop-rest : goal.decreases-loop-rest
-decreases-loop-rest l = l.rest
+abbrev pub invariant-loop-b : goal.invariant-loop-b
+invariant-loop-b l =
+    (k : ℕ) × (Walk l.word l.blocks l.b-iterator.rest k × Emitted l.initial.out (each_dirty l.word k (λ b. put_block l.flush (l.to + block_size * b) (λ j. word_at l.image (l.from + block_size * b + word_size * j)))) l.out)

@@ -1,20 +1,19 @@
-use Rattle.blocks.proofs.PartLaws.{length_part, copy_part}
-use Rattle.trace.proofs.EmitLaws.{fits_as, fits_each, emitted_as, emitted_none, emitted_each}
-use Rattle.model.specs.Ops.{persist_copy, copy_segment}
-use Rattle.model.specs.Layout.{block_size}
-use native.Mathlib.Omega.{arith}
+use Prim.Native.Nat.{◌+◌, ◌*◌}
 use mathlib.Core.Path.{◌≡◌, sym}
 use mathlib.Core.Bool.{true}
-use Prim.Native.Nat.{◌+◌, ◌*◌}
-use borrow.Author.Rules.{rules}
+use native.Mathlib.Omega.{arith}
+use Rattle.model.specs.Layout.{block_size}
+use Rattle.model.specs.Ops.{persist_copy, copy_segment}
+use Rattle.trace.proofs.EmitLaws.{fits_as, fits_each, emitted_as, emitted_none, emitted_each}
+use Rattle.blocks.proofs.PartLaws.{length_part, copy_part}
 use Rattle.segments.proofs.put_segment_copy.Goals as goal
 
 pub loop-b-init : goal.loop-b-init
-loop-b-init c = (search rules, search rules, emitted_none _)
+loop-b-init c = emitted_none _
 
-pub put_copy-next-requires : goal.put_copy-next-requires
+pub put_copy-requires : goal.put_copy-requires
 unfolding copy_segment persist_copy
-put_copy-next-requires c =
+put_copy-requires c =
     let l = c.loop-b in
     let g = c.args in
     let e = length_part g.image.now (g.from + block_size * l.b) (omega arith) in record {
@@ -22,7 +21,7 @@ put_copy-next-requires c =
       block_size_bound = omega arith;
       fits =
           fits_as (sym (copy_part g.image.now (g.from + block_size * l.b) (g.to + block_size * l.b) true))
-          (fits_each l.b g.layout.blocks _ (omega arith) c.requires.fits l.invariant.2);
+          (fits_each l.b g.layout.blocks _ (omega arith) c.requires.fits l.invariant);
     }
 
 pub loop-b-preserved : goal.loop-b-preserved
@@ -30,11 +29,9 @@ unfolding persist_copy
 loop-b-preserved c =
     let l = c.loop-b in
     let g = c.args in
-    let w = emitted_as c.put_copy-next.ensures (copy_part g.image.now (g.from + block_size * l.b) (g.to + block_size * l.b) true) in
-    (search rules, search rules, emitted_each l.b _ l.invariant.2 w)
+    emitted_each l.b _ l.invariant
+    (emitted_as c.put_copy.ensures (copy_part g.image.now (g.from + block_size * l.b) (g.to + block_size * l.b) true))
 
 pub returns : goal.returns
 unfolding copy_segment
-returns c =
-    let e : c.loop-b.b ≡ c.args.layout.blocks = omega arith in
-    rw e at c.loop-b.invariant.2
+returns c = let e : c.loop-b.b ≡ c.args.layout.blocks = omega arith in rw e at c.loop-b.invariant
