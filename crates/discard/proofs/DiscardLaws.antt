@@ -1,6 +1,6 @@
 -- Laws of a discard: what its refusals leave, its operations as the code has them, and what a refused call gives.
 use Prim.Native.Nat.{ℕ, ◌+◌, ◌*◌, ◌^◌, ◌<◌}
-use mathlib.Core.Path.{◌≡◌, refl}
+use mathlib.Core.Path.{◌≡◌, refl, ap, ◌∙◌}
 use mathlib.Core.Bool.{Bool, true, false, cond}
 use mathlib.Core.List.{[], ◌++◌}
 use native.Mathlib.Omega.{arith}
@@ -8,24 +8,23 @@ use lib.ListN.{length}
 use lib.Pow.{pow_pos}
 use borrow.Author.Tests.{leb-false, not-false}
 use Rattle.model.specs.declared.Layout.{Layout}
-use Rattle.std.specs.Prelude.{Option, None, Some}
+use Rattle.std.specs.Prelude.{Option, None, Some, Err}
+use Rattle.model.specs.declared.Refusal.{Refusal}
 use Rattle.model.specs.declared.Session.{Session}
-use Rattle.model.specs.declared.Status.{Status}
 use Rattle.model.specs.Words.{Image, word_at}
 use Rattle.model.specs.Layout.{word_size, block_size, SizesOk, image_size, main_at}
-use Rattle.model.specs.Status.{code_of, first_error, served}
+use Rattle.model.specs.Status.{refusal_number, first_error}
 use Rattle.model.specs.Container.{active_state, active_line, backup_to_main, Valid, checkpoint_located, main_errors}
 use Rattle.model.specs.Session.{is_dirty, dirty_segment, dirty_word, context_errors}
-use Rattle.model.specs.Ops.{Trace, put_block, each_dirty}
+use Rattle.model.specs.Ops.{Ops, Trace, for_domain, put_block, each_dirty}
 use Rattle.model.specs.Clients.{Clients}
-use Rattle.model.specs.Outcome.{lent, Gives}
+use Rattle.model.specs.Outcome.{lent, told, Gives}
 use Rattle.model.specs.Discard.{restore_dirty, discard_ops, discard_status, discard_outcome}
 use Rattle.model.proofs.Laws.Status.{served_condition}
 use Rattle.model.proofs.Laws.Container.{container_then}
 use Rattle.trace.proofs.CallLaws.{gives_refused}
 use Rattle.session.proofs.SessionLaws.{words_within}
 use Rattle.segments.proofs.DirtyLaws.{none_dirty}
-use Rattle.discard.specs.Discarded.{discarded_answer}
 
 -- ---- refusals 1 to 6
 
@@ -70,6 +69,12 @@ module _ (s : Session) (I : Image) (i word : ℕ) (e : word ≡ cond (is_dirty s
       go true = refl
       go false = unfold restore_dirty in (none_dirty s.layout.blocks _)
 
+  -- a number n that the code found for them
+  pub discarded_length : Discardable s I i → (n : ℕ)
+      → ((d : ℕ) (l : Layout) (J : Image) (j : ℕ) (from : Option ℕ) → word < 2 ^ l.blocks → n ≡ length (for_domain d (restore_dirty l J word j from)))
+      → n ≡ length (for_domain s.domain (discard_ops s I i))
+  discarded_length d n k = k s.domain s.layout I i _ (discarded_within d) ∙ ap (λ (O : Ops). length (for_domain s.domain O)) discard_ops_lem
+
 -- from and to the places that the code found: zeros, or from where the checkpoint stands
 module _ (l : Layout) (I : Image) (word i to : ℕ) (x : Option ℕ) (place : to ≡ main_at l i) where
   pub zero_ops : None ≡ x → each_dirty word l.blocks (λ b. put_block false (to + block_size * b) (λ _. 0)) ≡ restore_dirty l I word i x
@@ -83,8 +88,7 @@ module _ (l : Layout) (I : Image) (word i to : ℕ) (x : Option ℕ) (place : to
 
 -- ---- a refused discard
 
-pub refused_parts : (s : Session) (I : Image) (i : ℕ) (R : Clients) (t : Trace) (k : Status) → code_of k ≡ discard_status s I i (lent R t) → served (code_of k) ≡ false
-    → Gives (discard_outcome s I i (lent R t)) t (discarded_answer s (record { status = k; ops = 0 })) t R
+pub refused_discard : (s : Session) (I : Image) (i : ℕ) (R : Clients) (t : Trace) (r : Refusal) → refusal_number r ≡ discard_status s I i (lent R t)
+    → Gives (discard_outcome s I i (lent R t)) t (told s (Err r)) t R
 unfolding discard_outcome
-refused_parts s I i R t k p n =
-    gives_refused (discard_status s I i (lent R t)) s s R R s.domain (discard_ops s I i) t (record { status = k; session = s; ops = 0 }) (refl, refl, refl) p n refl
+refused_discard s I i R t r p = gives_refused _ s s R R s.domain (discard_ops s I i) t r p

@@ -28,7 +28,7 @@ use trace::Writer;
 
 // The first of refusals 1 to 6 that applies.
 fn discard_status(image: &[u8], session: SessionView, main: u64) -> Result<(), Refusal>
-    ensures { code_of result ≡ first_error (context_errors (viewed session) image.now ++ main_errors session.layout main) }
+    ensures { code_of result ≡ first_error (context_errors (viewed session.entry) image.now ++ main_errors session.entry.layout main) }
 {
     session.judge(image)?;
     places::main_status(session.layout, main)
@@ -39,7 +39,7 @@ fn discard_status(image: &[u8], session: SessionView, main: u64) -> Result<(), R
 // The blocks that are stored again, as bits of a word: the dirty ones of a main segment that is dirty, and none of one that is not.
 fn discarded_blocks(session: SessionView, main: u64) -> u64
     requires { main < most }
-    ensures { result ≡ cond (is_dirty session.dirty_segments main) (get_or session.dirty_blocks.now main 0) 0 }
+    ensures { result ≡ cond (is_dirty session.entry.dirty_segments main) (get_or session.entry.dirty_blocks.now main 0) 0 }
 {
     let word = session.dirty_blocks[main as usize];
     if !words::has_bit(session.dirty_segments, main) {
@@ -84,7 +84,7 @@ pub fn discard_parts(
     main: u64,
     trace: &mut [u64],
 ) -> Result<u64, Refusal>
-    ensures { (R : Clients) → Gives (discard_outcome (viewed session) image.now main (lent R trace.old)) trace.old (told (viewed session) (discarded_answer (viewed session) result)) trace.new R }
+    ensures { (R : Clients) → Gives (discard_outcome (viewed session.entry) image.now main (lent R trace.old)) trace.old (told (viewed session.entry) (discarded_answer (viewed session.entry) result)) trace.new R }
 {
     discard_status(image, session, main)?;
     let word = discarded_blocks(session, main);

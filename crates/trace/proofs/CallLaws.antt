@@ -45,7 +45,8 @@ module _ (e : ℕ) (kept next : Session) (R R' : Clients) (d : ℕ) (O : Ops) (t
   unfolding outcome_of written encode
   gives_refused r p = rw (sym (ap served p) ∙ refusal_refuses r) (p, refl, refl, refl, refl)
 
-  pub gives_served : {a : Answer} {b w : Writer} → e ≡ 0 → a.session ≡ next → a.ops ≡ length (for_domain d O)
-      → Begun d t b → Fits b O → Emitted b O w → Gives (outcome_of e kept next R R' d O) t (told kept (Ok a)) w.trace.now R'
+  pub gives_served : {a : Answer} {after : Trace} {b w : Writer} → e ≡ 0 → a.session ≡ next → a.ops ≡ length (for_domain d O)
+      → Begun d t b → 0 ≡ first_error (trace_errors (for_domain d O) t) → Emitted b O w → after ≡ w.trace.now
+      → Gives (outcome_of e kept next R R' d O) t (told kept (Ok a)) after R'
   unfolding outcome_of
-  gives_served z q m s f w = let on = emitted_whole O s f w in rw z (refl, q, m, on, refl)
+  gives_served z q m s p w u = let on = u ∙ emitted_whole O s (fits_whole O s p) w in rw z (refl, q, m, on, refl)

@@ -12,8 +12,8 @@ pub active_at-active-requires : goal.active_at-active-requires
 active_at-active-requires c =
     omega (arith, c.requires.main_lt_mains.2, metadata_inside c.args.layout)
 
-pub checkpoint_located-located-requires-clause-main_lt_mains : goal.checkpoint_located-located-requires-clause-main_lt_mains
-checkpoint_located-located-requires-clause-main_lt_mains c =
+pub checkpoint_located-requires-clause-main_lt_mains : goal.checkpoint_located-requires-clause-main_lt_mains
+checkpoint_located-requires-clause-main_lt_mains c =
     let g = c.args in
     let inside = metadata_inside g.layout in
     (c.requires.main_lt_mains.0, c.requires.main_lt_mains.1, omega (arith, c.requires.main_lt_mains.2, inside), omega (arith, c.requires.main_lt_mains.2, c.active_at-active.ensures, inside))
@@ -21,31 +21,31 @@ checkpoint_located-located-requires-clause-main_lt_mains c =
 pub put_dirty_zeros-requires-clause-fits : goal.put_dirty_zeros-requires-clause-fits
 put_dirty_zeros-requires-clause-fits c =
     let g = c.args in
-    let e = sym c.in-Nowhere.is ∙ c.checkpoint_located-located.ensures ∙ ap (λ (n : ℕ). checkpoint_located g.layout g.image.now n g.main) c.active_at-active.ensures.0 in
+    let e = c.in-None.ensures ∙ ap (λ (n : ℕ). checkpoint_located g.layout g.image.now n g.main) c.active_at-active.ensures.0 in
     let ops = zero_ops g.layout g.image.now g.word g.main _ _ c.main_at-to.ensures.0 e in
     fits_as (sym ops) c.requires.fits
 
 pub put_dirty_copies-requires-clause-fits : goal.put_dirty_copies-requires-clause-fits
 put_dirty_copies-requires-clause-fits c =
     let g = c.args in
-    let e = sym c.in-At.is ∙ c.checkpoint_located-located.ensures ∙ ap (λ (n : ℕ). checkpoint_located g.layout g.image.now n g.main) c.active_at-active.ensures.0 in
-    let ops = copy_ops_lem g.layout g.image.now g.word g.main _ _ c.main_at-to.ensures.0 c.in-At.from e in
+    let e = c.in-Some.ensures ∙ ap (λ (n : ℕ). checkpoint_located g.layout g.image.now n g.main) c.active_at-active.ensures.0 in
+    let ops = copy_ops_lem g.layout g.image.now g.word g.main _ _ c.main_at-to.ensures.0 c.in-Some.from e in
     fits_as (sym ops) c.requires.fits
 
 pub put_dirty_copies-requires-clause-blocks_in_bounds : goal.put_dirty_copies-requires-clause-blocks_in_bounds
 put_dirty_copies-requires-clause-blocks_in_bounds c =
     let g = c.args in
-    let e = sym c.in-At.is ∙ c.checkpoint_located-located.ensures ∙ ap (λ (n : ℕ). checkpoint_located g.layout g.image.now n g.main) c.active_at-active.ensures.0 in
+    let e = c.in-Some.ensures ∙ ap (λ (n : ℕ). checkpoint_located g.layout g.image.now n g.main) c.active_at-active.ensures.0 in
     subst (Inside g.layout g.image.now) (sym e) (located_inside g.layout g.image.now (active_line g.image.now) g.main c.requires.valid c.requires.main_lt_mains.0 c.requires.main_lt_mains.2)
 
-pub returns-in-Nowhere : goal.returns-in-Nowhere
-returns-in-Nowhere c =
+pub returns-in-None : goal.returns-in-None
+returns-in-None c =
     let g = c.args in
-    let e = sym c.in-Nowhere.is ∙ c.checkpoint_located-located.ensures ∙ ap (λ (n : ℕ). checkpoint_located g.layout g.image.now n g.main) c.active_at-active.ensures.0 in
+    let e = c.in-None.ensures ∙ ap (λ (n : ℕ). checkpoint_located g.layout g.image.now n g.main) c.active_at-active.ensures.0 in
     emitted_as c.put_dirty_zeros.ensures (zero_ops g.layout g.image.now g.word g.main _ _ c.main_at-to.ensures.0 e)
 
-pub returns-in-At : goal.returns-in-At
-returns-in-At c =
+pub returns-in-Some : goal.returns-in-Some
+returns-in-Some c =
     let g = c.args in
-    let e = sym c.in-At.is ∙ c.checkpoint_located-located.ensures ∙ ap (λ (n : ℕ). checkpoint_located g.layout g.image.now n g.main) c.active_at-active.ensures.0 in
-    emitted_as c.put_dirty_copies.ensures (copy_ops_lem g.layout g.image.now g.word g.main _ _ c.main_at-to.ensures.0 c.in-At.from e)
+    let e = c.in-Some.ensures ∙ ap (λ (n : ℕ). checkpoint_located g.layout g.image.now n g.main) c.active_at-active.ensures.0 in
+    emitted_as c.put_dirty_copies.ensures (copy_ops_lem g.layout g.image.now g.word g.main _ _ c.main_at-to.ensures.0 c.in-Some.from e)
