@@ -22,13 +22,13 @@ fn op_well_formed(lines: u64, op: &[u64; trace::OP_NUMBERS]) -> bool
     ensures { result ≡ op_well_formed lines op.now }
 {
     let [kind, place, word] = *op;
-    let fits = match kind {
-        trace::OP_STORE => place % Layout::WORD_SIZE == 0,
-        trace::OP_CLWB => (place % Layout::LINE_SIZE == 0) & (word == 0),
-        trace::OP_SFENCE => (place == 0) & (word == 0),
-        _ => false,
-    };
-    (place < Layout::LINE_SIZE * lines) & fits
+    let size = Layout::LINE_SIZE * lines;
+    if kind == trace::OP_STORE {
+        return (place < size) & (place % Layout::WORD_SIZE == 0);
+    }
+    let clwb = (kind == trace::OP_CLWB) & (place % Layout::LINE_SIZE == 0) & (word == 0);
+    let sfence = (kind == trace::OP_SFENCE) & (place == 0) & (word == 0);
+    (place < size) & (clwb | sfence)
 }
 
 // Whether operations are well formed on an image of so many lines. They are judged downward, so that the first of them are still
