@@ -2,7 +2,7 @@
 use Prim.Native.Nat.{ℕ, ◌+◌, ◌-◌, ◌≤◌, ◌<◌}
 use mathlib.Core.Path.{◌≡◌, refl, sym, ap, ◌∙◌}
 use mathlib.Core.Logic.{⊎_elim}
-use mathlib.Core.Bool.{Bool, true, false, true≢false}
+use mathlib.Core.Bool.{Bool, true, false}
 use native.Mathlib.Omega.{arith}
 use native.Mathlib.Decide.{dec_lt}
 use lib.Dec.{ltb, eqb}
@@ -16,7 +16,7 @@ use Rattle.model.proofs.Laws.Range.{any_first, first_some, first_none, first_fou
 use Rattle.model.proofs.Laws.Words.{word_moved}
 use Rattle.model.proofs.Laws.Container.{unpaired_none}
 use Rattle.model.proofs.Laws.NewBackup.{new_alone, new_unused}
-use Rattle.std.specs.Prelude.{Option, None, Some}
+use Rattle.std.specs.Prelude.{Option, None, Some, MatchOption}
 use Rattle.metadata.specs.Find.{found_below}
 
 -- a main segment is paired exactly if the search for its backup segment finds one
@@ -25,14 +25,6 @@ unfolding is_paired paired_backup
 is_paired_lem l pr i = any_first l.backups (λ (j : ℕ). eqb (pr j) i)
 
 -- ---- what a search answers
-
-number : Option ℕ → ℕ
-number None = 0
-number (Some j) = j
-
-is_backup : Option ℕ → Bool
-is_backup None = false
-is_backup (Some j) = true
 
 module _ (n k : ℕ) where
   pub found_at : (j : ℕ) → j < n → k ≡ j → Some j ≡ found_below n k
@@ -44,20 +36,25 @@ module _ (n k : ℕ) where
   found_none h = rw (le-ltb k n h)
 
   pub found_backup : (j : ℕ) → Some j ≡ found_below n k → (j ≡ k) × (k < n)
-  unfolding number is_backup
   found_backup j h = go (dec_lt k n)
     where
       go : Dec (k < n) → (j ≡ k) × (k < n)
-      go (yes b) = (ap number (h ∙ sym (found_at k b refl)), b)
-      go (no b) = absurd (true≢false (ap is_backup (h ∙ sym (found_none (omega arith)))))
+      go (yes b) = let e = found_at k b refl in (cc, b)
+      go (no b) = let e = found_none (omega arith) in absurd (cc)
 
   pub found_missing : None ≡ found_below n k → n ≤ k
-  unfolding is_backup
   found_missing h = go (dec_lt k n)
     where
       go : Dec (k < n) → n ≤ k
-      go (yes b) = absurd (true≢false (sym (ap is_backup (h ∙ sym (found_at k b refl)))))
+      go (yes b) = let e = found_at k b refl in absurd (cc)
       go (no b) = omega arith
+
+-- the first number below n that passes, as an iterator finds it, is what a search below n finds
+pub found_first : (n : ℕ) (P : ℕ → Bool) (r : Option ℕ)
+    → MatchOption r ((k : ℕ) → 0 ≤ k → k < n → P k ≡ false) (λ j. (0 ≤ j) × (j < n) × (P j ≡ true) × ((k : ℕ) → 0 ≤ k → k < j → P k ≡ false))
+    → r ≡ found_below n (first_b n P)
+found_first n P None h = found_none _ _ (omega (arith, first_none n P (λ k l. h k (omega arith) l)))
+found_first n P (Some j) h = found_at _ _ j h.1 (first_found n P j h.1 (λ k l. h.3 k (omega arith) l) h.2)
 
 -- ---- a search by words
 

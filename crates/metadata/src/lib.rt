@@ -50,6 +50,7 @@ pub fn inactive_at(image: &[u8]) -> usize
 // ---- backup segments
 
 // What a search answers that found this number: a backup segment, or none if it is beyond the last.
+#[tactic(auto, unfolding(crate::specs::Find::found_below))]
 fn found_below(backups: u64, j: u64) -> Option<u64>
     ensures { result ≡ found_below backups j }
 {
@@ -86,12 +87,9 @@ fn find_unused_backup(image: &[u8], layout: Layout, line: usize) -> Option<u64>
     requires by_index { (j : ℕ) → j < layout.backups → backup_to_main image.now j < most }
     ensures { result ≡ found_below layout.backups (first_b layout.backups (λ j. eqb (seg_state image.now line (backup_to_main image.now j)) ss_main)) }
 {
-    for j in 0..layout.backups {
-        if paired_state(image, line, image[(Layout::PAIRS_AT + j) as usize]) == Layout::SS_MAIN {
-            return Some(j);
-        }
-    }
-    None
+    (0..layout.backups).find(|j| {
+        paired_state(image, line, image[(Layout::PAIRS_AT + *j) as usize]) == Layout::SS_MAIN
+    })
 }
 
 // The new backup segment by the active line of states (SPECIFICATION 3.4): the lowest that is unpaired; if all are paired, the lowest
