@@ -1,20 +1,17 @@
--- Laws of format: the bytes that its steps leave are the formatted image, and what each status leaves.
+-- Laws of format: the bytes that its steps leave are the formatted image, and what a served call goes by.
 use Prim.Native.Nat.{ℕ, ◌+◌, ◌*◌}
-use mathlib.Core.Path.{◌≡◌, refl}
-use mathlib.Core.Logic.{◌≢◌}
+use mathlib.Core.Path.{◌≡◌, sym}
 use mathlib.Core.List.{◌++◌}
 use native.Mathlib.Omega.{arith}
 use lib.ListN.{length, take, drop, replicate, replicate-append-replicate}
-use borrow.Author.Tests.{eqb-true, ne_eqb, not-false}
+use borrow.Author.Tests.{eqb-true, not-false}
 use Rattle.model.specs.declared.Layout.{Layout}
 use Rattle.model.specs.Words.{Image, bytes_of, store_word}
 use Rattle.model.specs.Layout.{segment_size, image_size}
 use Rattle.model.specs.Status.{first_error}
 use Rattle.model.specs.Container.{size_errors}
-use Rattle.model.specs.Format.{container, formatted, format_outcome}
+use Rattle.model.specs.Format.{container, formatted}
 use Rattle.model.proofs.Laws.Status.{served_condition}
-
--- ---- filling
 
 -- the steps of format: zeros, the three sizes, and P in the place of the 64 pair bytes
 pub steps_format : (l : Layout) (I₀ : Image) {I₁ I₂ I₃ I₄ P : Image} → length I₀ ≡ image_size l → I₁ ≡ replicate (length I₀) 0
@@ -24,21 +21,6 @@ unfolding image_size formatted container store_word bytes_of
 steps_format l I₀ h zeros mains backups blocks pairs =
     rw (pairs, blocks, backups, mains, zeros, h, ← replicate-append-replicate {A = ℕ} 512 (segment_size l * (l.mains + l.backups)) 0)
 
--- ---- the call
-
-module _ (l : Layout) (I : Image) where
-  pub status_given : first_error (size_errors l I) ≡ (format_outcome l I).status
-  unfolding format_outcome
-  status_given = refl
-
-  -- what the call leaves, refused or served
-  pub refused : first_error (size_errors l I) ≢ 0 → I ≡ (format_outcome l I).image
-  unfolding format_outcome
-  refused h = rw (ne_eqb (first_error (size_errors l I)) 0 h)
-
-  pub served-sizes : first_error (size_errors l I) ≡ 0 → length I ≡ image_size l
-  served-sizes h = eqb-true (length I) (image_size l) (not-false _ (served_condition (size_errors l I) (omega arith) h 2))
-
-  pub served_image : first_error (size_errors l I) ≡ 0 → formatted l ≡ (format_outcome l I).image
-  unfolding format_outcome
-  served_image h = rw h
+-- a served call has an image of the right length
+pub served_sizes : (l : Layout) (I : Image) → 0 ≡ first_error (size_errors l I) → length I ≡ image_size l
+served_sizes l I h = eqb-true (length I) (image_size l) (not-false _ (served_condition (size_errors l I) (omega arith) (sym h) 2))

@@ -10,6 +10,7 @@ ghost use Rattle.model.specs.Format.{formatted, format_outcome};
 use model::{Layout, Refusal};
 
 // Writes an image with no checkpoint yet.
+#[tactic(auto, unfolding(model::specs::Layout::image_size))]
 fn write_formatted(image: &mut [u8], layout: Layout)
     requires { length image.old ≡ image_size layout }
     ensures { image.new ≡ formatted layout }
@@ -24,6 +25,7 @@ fn write_formatted(image: &mut [u8], layout: Layout)
 }
 
 // Formats an image with these sizes. A refusal changes nothing.
+#[tactic(auto, using(model::proofs::Laws::Status::refusal_refuses, crate::proofs::FormatLaws::served_sizes), unfolding(model::specs::Format::format_outcome))]
 pub fn crpm_format(image: &mut [u8], layout: Layout) -> Result<(), Refusal>
     ensures result_value { code_of result ≡ (format_outcome layout image.old).status }
     ensures image_after { image.new ≡ (format_outcome layout image.old).image }
