@@ -1,3 +1,1 @@
-pub mod KeyLaws
-pub mod ValueLaws
 pub mod LineLaws

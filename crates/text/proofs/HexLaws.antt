@@ -1,49 +1,35 @@
--- Laws of hexadecimal digits: which bytes are one, pairs of them, and the bytes that pairs give.
-use Prim.Native.Nat.{ℕ, zero, suc, ◌+◌, ◌*◌, ◌/◌, ◌≤◌, ◌<◌}
+-- Laws of hexadecimal digits: which values are pairs of them, and the bytes that pairs give.
+use Prim.Native.Nat.{ℕ, suc, ◌+◌, ◌*◌, ◌/◌, ◌%◌, ◌≤◌, ◌<◌}
 use mathlib.Core.Path.{◌≡◌, refl, sym, ap, ◌∙◌}
-use mathlib.Core.Bool.{Bool, true, false, ◌&&◌}
-use mathlib.Core.List.{List, [], ◌∷◌}
+use mathlib.Core.Bool.{Bool, true, false, ◌&&◌, true≢false}
+use mathlib.Core.List.{List, [], ◌∷◌, ◌++◌, append_assoc, append-nil}
 use native.Mathlib.Omega.{arith}
 use native.Mathlib.Numerals.{add-one}
-use lib.ListN.{length, get_or, take, drop, set}
-use lib.Seq.{drop-cons, drop-length, drop-drop, drop-set-lt, take_all, take-suc, take-suc-set}
+use lib.Dec.{eqb}
+use lib.ListN.{length, get_or, take, drop, set, length-set, length-append}
+use lib.Seq.{drop-drop, drop-set-lt, take-suc-set}
+use Rattle.std.specs.List.{list_all}
 use Rattle.model.proofs.Laws.Range.{and_left, and_right}
 use Rattle.text.specs.Text.{is_hex_digit, hex_digit_of, hex_pairs, hex_bytes}
 use Rattle.text.specs.Read.{Decodes}
 
 -- ---- hexadecimal digits
 
-pub pairs_done : (v : List ℕ) (i : ℕ) → i ≡ length v → true ≡ hex_pairs (drop i v)
+in_order : (x y e z : Bool) → (x && y && (e && z)) ≡ (e && (x && (y && z)))
+in_order true true e z = refl
+in_order true false true z = refl
+in_order true false false z = refl
+in_order false y true z = refl
+in_order false y false z = refl
+
+-- pairs are an even count of digits
+pub pairs_all : (v : List ℕ) → hex_pairs v ≡ (eqb (length v % 2) 0 && list_all is_hex_digit v)
 unfolding hex_pairs
-pairs_done v i e = rw (e, drop-length)
-
-module _ (v : List ℕ) (i : ℕ) where
-  pub pairs_odd : i + 1 ≡ length v → false ≡ hex_pairs (drop i v)
-  unfolding hex_pairs
-  pairs_odd e =
-      let h : i < length v = omega arith in
-      let s : suc i ≡ length v = omega arith in
-      rw (drop-cons v i 0 h, s, drop-length)
-
-  pairs_more : i + 1 < length v → hex_pairs (drop i v) ≡ (is_hex_digit (get_or v i 0) && is_hex_digit (get_or v (i + 1) 0) && hex_pairs (drop (i + 2) v))
-  unfolding hex_pairs
-  pairs_more h =
-      let g : i < length v = omega arith in
-      let k : suc i < length v = omega arith in
-      let a : i + 1 ≡ suc i = omega arith in
-      let b : i + 2 ≡ suc (suc i) = omega arith in
-      rw (a, b, drop-cons v i 0 g, drop-cons v (suc i) 0 k)
-
-  pub pairs_first : {p : Bool} → i + 1 < length v → p ≡ is_hex_digit (get_or v i 0) → p ≡ false → false ≡ hex_pairs (drop i v)
-  pairs_first {p} h e n = sym (pairs_more h ∙ rw (← e, n))
-
-  pub pairs_second : {p q : Bool} → i + 1 < length v → p ≡ is_hex_digit (get_or v i 0) → p ≡ true
-      → q ≡ is_hex_digit (get_or v (i + 1) 0) → q ≡ false → false ≡ hex_pairs (drop i v)
-  pairs_second {p} {q} h e n f m = sym (pairs_more h ∙ rw (← e, n, ← f, m))
-
-  pub pairs_on : {p q : Bool} → i + 1 < length v → p ≡ is_hex_digit (get_or v i 0) → p ≡ true
-      → q ≡ is_hex_digit (get_or v (i + 1) 0) → q ≡ true → hex_pairs (drop i v) ≡ hex_pairs (drop (i + 2) v)
-  pairs_on {p} {q} h e n f m = pairs_more h ∙ rw (← e, n, ← f, m)
+pairs_all [] = refl
+pairs_all (a ∷ []) = refl
+pairs_all (a ∷ b ∷ v) =
+    let e : suc (suc (length v)) % 2 ≡ length v % 2 = omega arith in
+    rw (e, pairs_all v) (in_order (is_hex_digit a) (is_hex_digit b) (eqb (length v % 2) 0) (list_all is_hex_digit v))
 
 -- ---- bytes
 
@@ -53,50 +39,70 @@ length_hex [] = refl
 length_hex (a ∷ []) = refl
 length_hex (a ∷ b ∷ d) = omega (arith, length_hex d)
 
-hex_at : (d : List ℕ) (i : ℕ) → 2 * i + 1 < length d → get_or (hex_bytes d) i 0 ≡ 16 * hex_digit_of (get_or d (2 * i) 0) + hex_digit_of (get_or d (2 * i + 1) 0)
-unfolding hex_bytes
-hex_at [] i h = let z : ⊥ = omega arith in absurd z
-hex_at (a ∷ []) i h = let z : ⊥ = omega arith in absurd z
-hex_at (a ∷ b ∷ d) zero h = refl
-hex_at (a ∷ b ∷ d) (suc i) h =
-    let e : 2 * suc i ≡ suc (suc (2 * i)) = omega arith in
-    let f : 2 * suc i + 1 ≡ suc (suc (2 * i + 1)) = omega arith in
-    rw (f, e) (hex_at d i (omega arith))
-
-pub pair_at : (d : List ℕ) (i : ℕ) → hex_pairs d ≡ true → 2 * i + 1 < length d
-    → (is_hex_digit (get_or d (2 * i) 0) ≡ true) × (is_hex_digit (get_or d (2 * i + 1) 0) ≡ true)
-unfolding hex_pairs
-pair_at [] i t h = let z : ⊥ = omega arith in absurd z
-pair_at (a ∷ []) i t h = let z : ⊥ = omega arith in absurd z
-pair_at (a ∷ b ∷ d) zero t h =
-    let q = and_left (is_hex_digit a && is_hex_digit b) (hex_pairs d) t in
-    (and_left (is_hex_digit a) (is_hex_digit b) q, and_right (is_hex_digit a) (is_hex_digit b) q)
-pair_at (a ∷ b ∷ d) (suc i) t h =
-    let e : 2 * suc i ≡ suc (suc (2 * i)) = omega arith in
-    let f : 2 * suc i + 1 ≡ suc (suc (2 * i + 1)) = omega arith in
-    rw (f, e) (pair_at d i (and_right (is_hex_digit a && is_hex_digit b) (hex_pairs d) t) (omega arith))
-
--- one byte more
-pub decoded_more : (d bs : List ℕ) (i v : ℕ) → 2 * i + 1 < length d → i < length bs
-    → v ≡ 16 * hex_digit_of (get_or d (2 * i) 0) + hex_digit_of (get_or d (2 * i + 1) 0) → take i bs ≡ take i (hex_bytes d)
-    → take (i + 1) (set bs i v) ≡ take (i + 1) (hex_bytes d)
-decoded_more d bs i v h k e t =
-    let l : i < length (hex_bytes d) = omega (arith, length_hex d) in
-    rw (add-one, take-suc-set bs i v k, take-suc (hex_bytes d) i 0 l, t, e, hex_at d i h)
-
-pub left_more : (start bs : List ℕ) (i v : ℕ) → drop i bs ≡ drop i start → drop (i + 1) (set bs i v) ≡ drop (i + 1) start
+left_more : (start bs : List ℕ) (i v : ℕ) → drop i bs ≡ drop i start → drop (i + 1) (set bs i v) ≡ drop (i + 1) start
 left_more start bs i v t =
     ap (λ (n : ℕ). drop n (set bs i v)) (add-one i) ∙ drop-set-lt (suc i) bs i v (omega arith) ∙ ap (λ (n : ℕ). drop n bs) (sym (add-one i))
     ∙ sym (drop-drop 1 i bs) ∙ ap (drop 1) t ∙ drop-drop 1 i start
 
-pub decoded : (d start bs : List ℕ) (i n : ℕ) → i ≡ n → n ≡ length d / 2 → length d ≤ 2 * length start → length bs ≡ length start
-    → take i bs ≡ take i (hex_bytes d) → drop i bs ≡ drop i start → Decodes d start bs n
-decoded d start bs i n e q h k t u =
-    let c : n ≡ length (hex_bytes d) = omega (arith, length_hex d) in
+-- i bytes are decoded, and the digits of the rest are left
+pub record Decoding (digits before rest after : List ℕ) (i : ℕ) : Type 0 where
+  pub pairs : hex_pairs rest ≡ true
+  pub count : 2 * i + length rest ≡ length digits
+  pub bytes : take i after ++ hex_bytes rest ≡ hex_bytes digits
+  pub behind : drop i after ≡ drop i before
+  pub long : length after ≡ length before
+
+-- none are
+pub decoded_none : {d rest : List ℕ} (start : List ℕ) {i : ℕ} → hex_pairs d ≡ true → rest ≡ d → i ≡ 0 → Decoding d start rest start i
+decoded_none {d} start h e z = rw (e, z) (record { pairs = h; count = omega arith; bytes = refl; behind = refl; long = refl })
+
+-- what the first two digits of the rest are
+module _ (d start bs p rest' : List ℕ) {rest : List ℕ} {i : ℕ} (s : Decoding d start rest bs i) (e : rest ≡ p ++ rest') (two : length p ≡ 2) where
+  pub first_pair : (is_hex_digit (get_or p 0 0) ≡ true) × (is_hex_digit (get_or p 1 0) ≡ true)
+  unfolding hex_pairs
+  first_pair = go p two (rw e at s.pairs)
+    where
+      go : (p : List ℕ) → length p ≡ 2 → hex_pairs (p ++ rest') ≡ true → (is_hex_digit (get_or p 0 0) ≡ true) × (is_hex_digit (get_or p 1 0) ≡ true)
+      go [] e h = let z : ⊥ = omega arith in absurd z
+      go (a ∷ []) e h = let z : ⊥ = omega arith in absurd z
+      go (a ∷ b ∷ []) e h =
+          let q = and_left (is_hex_digit a && is_hex_digit b) (hex_pairs rest') h in
+          (and_left (is_hex_digit a) (is_hex_digit b) q, and_right (is_hex_digit a) (is_hex_digit b) q)
+      go (a ∷ b ∷ c ∷ p) e h = let z : ⊥ = omega arith in absurd z
+
+  -- its byte has room
+  pub byte_fits : length d ≤ 2 * length start → i < length bs
+  byte_fits h = omega (arith, s.count, s.long, ap length e, length-append p rest')
+
+  -- one byte more
+  pub decoded_more : (v : ℕ) {j : ℕ} → j ≡ i + 1 → i < length bs → v ≡ 16 * hex_digit_of (get_or p 0 0) + hex_digit_of (get_or p 1 0) → Decoding d start rest' (set bs i v) j
+  unfolding hex_pairs hex_bytes
+  decoded_more v f k h = rw f (go p two h (rw e at s))
+    where
+      go : (p : List ℕ) → length p ≡ 2 → v ≡ 16 * hex_digit_of (get_or p 0 0) + hex_digit_of (get_or p 1 0) → Decoding d start (p ++ rest') bs i → Decoding d start rest' (set bs i v) (i + 1)
+      go [] e h s = let z : ⊥ = omega arith in absurd z
+      go (a ∷ []) e h s = let z : ⊥ = omega arith in absurd z
+      go (a ∷ b ∷ []) e h s =
+          record {
+            pairs = and_right (is_hex_digit a && is_hex_digit b) (hex_pairs rest') s.pairs;
+            count = omega (arith, s.count);
+            bytes = rw (add-one, take-suc-set bs i v k, append_assoc, h) s.bytes;
+            behind = left_more start bs i v s.behind;
+            long = simp length-set s.long;
+          }
+      go (a ∷ b ∷ c ∷ p) e h s = let z : ⊥ = omega arith in absurd z
+
+-- no pair is left
+pub decoded : (d start rest bs : List ℕ) (i : ℕ) → length rest < 2 → length d ≤ 2 * length start → Decoding d start rest bs i → Decodes d start bs (length d / 2)
+unfolding hex_pairs hex_bytes
+decoded d start [] bs i h q s =
+    let e : i ≡ length d / 2 = omega (arith, s.count) in
     record {
-      count = c;
+      count = sym (length_hex d);
       inside = omega arith;
-      bytes = rw e at t ∙ take_all n (hex_bytes d) (omega arith);
-      rest = rw e at u;
-      long = k;
+      bytes = rw e at (sym (append-nil (take i bs)) ∙ s.bytes);
+      rest = rw e at s.behind;
+      long = s.long;
     }
+decoded d start (a ∷ []) bs i h q s = absurd (true≢false (sym s.pairs))
+decoded d start (a ∷ b ∷ rest) bs i h q s = let z : ⊥ = omega arith in absurd z

@@ -1,19 +1,33 @@
 -- Laws of the lines of an input: the first one is a part of it, the others are the lines of the rest, and no byte is lost.
-use Prim.Native.Nat.{ℕ, suc, ◌+◌, ◌-◌, ◌≤◌, ◌<◌}
+use Prim.Native.Nat.{ℕ, suc, ◌+◌, ◌-◌, ◌≤◌, ◌<◌, min}
 use mathlib.Core.Path.{◌≡◌, refl, sym, ap, ◌∙◌}
-use mathlib.Core.Logic.{◌≢◌}
-use mathlib.Core.Bool.{Bool, true, false, cond, true≢false}
+use mathlib.Core.Bool.{Bool, true, false, cond, not, true≢false}
 use mathlib.Core.List.{List, [], ◌∷◌, ◌++◌}
 use native.Mathlib.Omega.{arith}
-use native.Mathlib.Nat.{add-sub_cancel_left}
-use lib.Dec.{eqb}
-use lib.ListN.{length, get_or, take, drop, length-drop}
-use lib.Seq.{drop-cons, drop-drop, drop-length}
-use borrow.Author.Tests.{ne_eqb}
+use lib.Dec.{eqb, ltb}
+use Rattle.std.specs.List.{position_or_len, IsFirstMatchOrLen}
+use Rattle.std.proofs.lemmas.List.{take-append-drop, get_or_past}
+use Rattle.std.proofs.Math.Seq.{take-append_seam, drop-append_seam}
+use Rattle.std.proofs.lemmas.List.Sums.{position_or_len_is}
+use native.Mathlib.Decide.{dec_lt}
+use lib.ListN.{length, get_or, take, drop, length-append}
+use Rattle.std.specs.Prelude.{Option, None, Some}
+use Rattle.std.proofs.lemmas.Bool.Decides.{nat_tests}
 use Rattle.text.specs.Text.{Line, before, lines_of}
-use Rattle.text.specs.Read.{line_length}
+use Rattle.text.specs.Read.{line_length, SplitsLine}
 
 -- ---- the first line
+
+-- it ends behind its byte 10, or where the bytes do
+pub line_length_is : (bs : List ℕ) → line_length bs ≡ min (position_or_len (λ b. eqb b 10) bs + 1) (length bs)
+unfolding line_length
+line_length_is [] = refl
+line_length_is (b ∷ bs) = go (eqb b 10) (line_length_is bs)
+  where
+    go : (t : Bool) → line_length bs ≡ min (position_or_len (λ c. eqb c 10) bs + 1) (length bs)
+        → cond t 1 (suc (line_length bs)) ≡ min (cond (not t) (1 + position_or_len (λ c. eqb c 10) bs) 0 + 1) (suc (length bs))
+    go true e = omega arith
+    go false e = omega (arith, e)
 
 pub line_some : (bs : List ℕ) → 0 < length bs → 1 ≤ line_length bs
 unfolding line_length
@@ -23,6 +37,16 @@ line_some (b ∷ bs) h = go (eqb b 10)
     go : (t : Bool) → 1 ≤ cond t 1 (suc (line_length bs))
     go true = omega arith
     go false = omega arith
+
+-- where a byte 10 is found, and where none is
+abbrev pub found : List ℕ → Option ℕ
+found bs = cond (ltb (position_or_len (λ b. eqb b 10) bs) (length bs)) (Some (position_or_len (λ b. eqb b 10) bs)) None
+
+pub line_found : (bs : List ℕ) (e : ℕ) → Some e ≡ found bs → (e + 1 ≡ line_length bs) × (e + 1 ≤ length bs)
+line_found bs e q = grind (arith, nat_tests, line_length_is)
+
+pub line_unfound : (bs : List ℕ) → None ≡ found bs → length bs ≡ line_length bs
+line_unfound bs q = grind (arith, nat_tests, line_length_is)
 
 before_first : (b : ℕ) (ls : List Line) → b ∷ get_or ls 0 [] ≡ get_or (before b ls) 0 []
 before_first b [] = refl
@@ -96,40 +120,39 @@ first_then (b ∷ bs) rest h = go (eqb b 10) refl (lines_of bs) (first_then bs r
     go false e ([] ∷ ls) ih h = absurd (true≢false (sym (ap (λ (n : ℕ). eqb n 10) h) ∙ e))
     go false e ((c ∷ l) ∷ ls) ih h = rw (e, ih (sym (last_before b c l) ∙ h)) refl
 
--- ---- the line that starts at a place
+-- ---- an input split behind its first line
 
-module _ (input : List ℕ) («at» r : ℕ) (e : r ≡ «at» + line_length (drop «at» input)) where
-  pub next_after : «at» < length input → «at» < r
-  next_after h = omega (arith, line_some (drop «at» input) (omega (arith, length-drop «at» input)))
+pub split_at_end : (input line rest : List ℕ) → line ≡ take (line_length input) input → rest ≡ drop (line_length input) input → SplitsLine input line rest
+split_at_end input line rest e f =
+    rw (e, f) (record { joined = sym (take-append-drop (line_length input) input); first = first_of input; others = rest_of input })
 
-  pub next_rest : lines_of (drop r input) ≡ drop 1 (lines_of (drop «at» input))
-  next_rest = rw (e, ← drop-drop (line_length (drop «at» input)) «at» input) (rest_of (drop «at» input))
+-- the first place of a byte 10 tells where that is
+pub split_behind : (input line rest : List ℕ) (i : ℕ) → input ≡ line ++ rest → length line ≡ min (i + 1) (length input)
+    → IsFirstMatchOrLen (λ b. eqb b 10) input i → SplitsLine input line rest
+split_behind input line rest i j n f =
+    rw j (split_at_end (line ++ rest) line rest (rw size (sym (take-append_seam line rest))) (rw size (sym (drop-append_seam line rest))))
+  where
+    short : i ≤ length input
+    short =
+        elim (dec_lt (length input) i) [
+          | yes d ↦ let e : eqb (get_or input (length input) 10) 10 ≡ false = f.0 (length input) 10 (omega arith) d in
+              absurd (true≢false (sym (ap (λ (n : ℕ). eqb n 10) (get_or_past input (length input) 10 (omega arith))) ∙ e))
+          | no d ↦ omega arith
+        ]
 
-  pub next_part : take (r - «at») (drop «at» input) ≡ get_or (lines_of (drop «at» input)) 0 []
-  next_part = rw (e, add-sub_cancel_left) (first_of (drop «at» input))
+    place : position_or_len (λ b. eqb b 10) input ≡ i
+    place = position_or_len_is (λ b. eqb b 10) input i 0 short (λ k h. f.0 k 0 (omega arith) h) (λ h. f.1 h 0)
 
-  -- where bytes are left, the lines are this one and the others
-  pub next_lines : «at» < length input → lines_of (drop «at» input) ≡ take (r - «at») (drop «at» input) ∷ lines_of (drop r input)
-  next_lines h = rw (next_part, next_rest) (lines_some (drop «at» input) (omega (arith, length-drop «at» input)))
+    size : line_length (line ++ rest) ≡ length line
+    size = rw (sym j) (omega (arith, line_length_is input, place, n))
 
--- where no byte is left there is no line
-pub lines_none : (input : List ℕ) («at» : ℕ) → «at» ≡ length input → lines_of (drop «at» input) ≡ []
-unfolding lines_of
-lines_none input «at» e = rw (e, drop-length)
+-- where bytes are left, the lines are the first and the others, and the rest is shorter
+module _ (input line rest : List ℕ) (s : SplitsLine input line rest) (h : 0 < length input) where
+  pub split_lines : lines_of input ≡ line ∷ lines_of rest
+  split_lines = rw (s.first, s.others) (lines_some input h)
 
--- ---- the search for the end of a line, a byte at a time
-
-pub line_ends : (input : List ℕ) (i : ℕ) → i < length input → get_or input i 0 ≡ 10 → line_length (drop i input) ≡ 1
-unfolding line_length
-line_ends input i h e = rw (drop-cons input i 0 h, e)
-
-pub line_goes_on : (input : List ℕ) (i : ℕ) → i < length input → get_or input i 0 ≢ 10 → line_length (drop i input) ≡ suc (line_length (drop (suc i) input))
-unfolding line_length
-line_goes_on input i h n = rw (drop-cons input i 0 h, ne_eqb (get_or input i 0) 10 n)
-
-pub line_stops : (input : List ℕ) (i : ℕ) → i ≡ length input → line_length (drop i input) ≡ 0
-unfolding line_length
-line_stops input i e = rw (e, drop-length)
+  pub split_less : length rest < length input
+  split_less = omega (arith, line_some input h, first_length input, ap length s.first, ap length s.joined, length-append line rest)
 
 -- ---- every byte stands in a line
 

@@ -58,8 +58,7 @@ digit_of b = b - code0
 
 -- a number that is taken, or none
 abbrev pub number_if : Bool → ℕ → Option ℕ
-number_if true n = Some n
-number_if false n = None
+number_if taken n = cond taken (Some n) None
 
 -- a number of one to three digits; more than one have no leading zero
 unfoldable pub number_of : List ℕ → Option ℕ

@@ -1,144 +1,67 @@
-// What any text of lines has: where a line ends, what it starts with, and the values in it (a number of one to three decimal
-// digits, bytes in pairs of hexadecimal digits). Every function works on the caller's bytes.
+// What any text of lines has: its first line, and the values in a line (a number of one to three decimal digits, bytes in pairs of
+// hexadecimal digits). Every function works on the caller's bytes.
 
 #![tactic(auto)]
 
-ghost use Rattle.std.specs.Prelude.{◌≡◌, true, [], ◌∷◌, ◌+◌, ◌*◌, ◌≤◌, ◌<◌, length, drop};
-ghost use Rattle.text.specs.Text.{starts_with, is_digit, digit_of, number_if, number_of, is_hex_digit, hex_digit_of, hex_pairs};
-ghost use Rattle.text.specs.Read.{line_length, Decodes};
+ghost use Rattle.std.specs.Prelude.{◌≡◌, true, ◌+◌, ◌*◌, ◌≤◌, ◌<◌, length};
+ghost use Rattle.text.specs.Text.{is_digit, digit_of, number_if, number_of, is_hex_digit, hex_digit_of, hex_pairs};
+ghost use Rattle.text.specs.Read.{line_length, SplitsLine, Decodes};
 
 // The byte that ends a line.
-pub const LINE_END: u8 = 10;
+pub const LINE_END: u8 = b'\n';
 
-// The end of the line that starts at a place: behind its byte 10, or where the input ends.
-pub fn next_line(input: &[u8], at: usize) -> usize
-    requires { at ≤ length input.now }
-    ensures { (result ≡ at + line_length (drop at input.now)) × (result ≤ length input.now) }
+// How many bytes the first line of an input has: up to its byte 10, or to where the input ends.
+fn line_len(input: &[u8]) -> usize
+    ensures { (result ≡ line_length input.now) × (result ≤ length input.now) }
 {
-    let mut end = at;
-    while end < input.len() {
-        let byte = input[end];
-        end += 1;
-        if byte == LINE_END {
-            return end;
-        }
+    match input.iter().position(|b| *b == LINE_END) {
+        Some(end) => end + 1,
+        None => input.len(),
     }
-    end
 }
 
-// Whether a line starts with a name.
-pub fn starts_with(line: &[u8], name: &[u8]) -> bool
-    ensures { result ≡ starts_with name.now line.now }
+// The first line of an input, its byte 10 among it, and the rest of the input.
+pub fn split_line(input: &[u8]) -> (&[u8], &[u8])
+    ensures { SplitsLine input.now result.0.now result.1.now }
 {
-    if line.len() < name.len() {
-        return false;
+    input.split_at(line_len(input))
+}
+
+// The number of a decimal digit.
+fn digit(b: u8) -> Option<u64>
+    ensures { result ≡ number_if (is_digit b) (digit_of b) }
+{
+    match b {
+        b'0'..=b'9' => Some(u64::from(b - b'0')),
+        _ => None,
     }
-    let mut i = 0;
-    while i < name.len() {
-        if line[i] != name[i] {
-            return false;
-        }
-        i += 1;
-    }
-    true
-}
-
-// What a value gives that is to be a number.
-#[derive(Clone, Copy)]
-pub enum Number {
-    None,
-    Is(u64),
-}
-
-// A number that is taken, or none.
-fn number_if(taken: bool, n: u64) -> Number
-    ensures { result ≡ number_if taken n }
-{
-    if !taken {
-        return Number::None;
-    }
-    Number::Is(n)
-}
-
-// Whether a byte is a decimal digit.
-fn is_digit(b: u8) -> bool
-    ensures { result ≡ is_digit b }
-{
-    (b'0' <= b) & (b <= b'9')
-}
-
-// The number of a decimal digit, and of any other byte one that fits a byte.
-fn digit_of(b: u8) -> u64
-    ensures { (result ≡ digit_of b) × (result ≤ 255) }
-{
-    if b < b'0' {
-        return 0;
-    }
-    (b - b'0') as u64
-}
-
-// The numbers that one, two and three bytes give.
-fn one_digit(a: u8) -> Number
-    ensures { result ≡ number_of (a ∷ []) }
-{
-    number_if(is_digit(a), digit_of(a))
-}
-
-fn two_digits(a: u8, b: u8) -> Number
-    ensures { result ≡ number_of (a ∷ b ∷ []) }
-{
-    let taken = is_digit(a) & is_digit(b) & (a != b'0');
-    number_if(taken, 10 * digit_of(a) + digit_of(b))
-}
-
-fn three_digits(a: u8, b: u8, c: u8) -> Number
-    ensures { result ≡ number_of (a ∷ b ∷ c ∷ []) }
-{
-    let taken = is_digit(a) & is_digit(b) & is_digit(c) & (a != b'0');
-    number_if(taken, 100 * digit_of(a) + 10 * digit_of(b) + digit_of(c))
 }
 
 // The number that a value gives.
-pub fn number_of(value: &[u8]) -> Number
+#[tactic(auto, using(crate::proofs::NumberLaws::number_cases, std::proofs::lemmas::Bool::Decides::nat_tests))]
+pub fn number_of(value: &[u8]) -> Option<u64>
     ensures { result ≡ number_of value.now }
 {
-    if value.len() == 1 {
-        return one_digit(value[0]);
+    match value {
+        [a] => digit(*a),
+        [a, b] if *a != b'0' => Some(10 * digit(*a)? + digit(*b)?),
+        [a, b, c] if *a != b'0' => Some(100 * digit(*a)? + 10 * digit(*b)? + digit(*c)?),
+        _ => None,
     }
-    if value.len() == 2 {
-        return two_digits(value[0], value[1]);
-    }
-    if value.len() == 3 {
-        return three_digits(value[0], value[1], value[2]);
-    }
-    Number::None
 }
 
 // Whether a byte is a lower-case hexadecimal digit.
 fn is_hex_digit(b: u8) -> bool
     ensures { result ≡ is_hex_digit b }
 {
-    is_digit(b) | ((b'a' <= b) & (b <= b'f'))
+    matches!(b, b'0'..=b'9' | b'a'..=b'f')
 }
 
 // Whether a value is an even count of them.
 pub fn hex_pairs(value: &[u8]) -> bool
     ensures { result ≡ hex_pairs value.now }
 {
-    let mut i = 0;
-    while i < value.len() {
-        if i + 1 == value.len() {
-            return false;
-        }
-        if !is_hex_digit(value[i]) {
-            return false;
-        }
-        if !is_hex_digit(value[i + 1]) {
-            return false;
-        }
-        i += 2;
-    }
-    true
+    value.len() % 2 == 0 && value.iter().all(|b| is_hex_digit(*b))
 }
 
 // The number of a hexadecimal digit.
@@ -146,10 +69,7 @@ fn hex_digit_of(b: u8) -> u8
     requires { is_hex_digit b ≡ true }
     ensures { (result ≡ hex_digit_of b) × (result < 16) }
 {
-    if b <= b'9' {
-        return b - b'0';
-    }
-    b - b'a' + 10
+    if b <= b'9' { b - b'0' } else { b - b'a' + 10 }
 }
 
 // The byte that two hexadecimal digits give.
@@ -166,11 +86,8 @@ pub fn decode_bytes(digits: &[u8], bytes: &mut [u8]) -> usize
     requires digits_value { hex_pairs digits.now ≡ true }
     ensures { Decodes digits.now bytes.old bytes.new result }
 {
-    let count = digits.len() / 2;
-    let mut i = 0;
-    while i < count {
-        bytes[i] = hex_byte(digits[2 * i], digits[2 * i + 1]);
-        i += 1;
+    for (i, pair) in digits.chunks_exact(2).enumerate() {
+        bytes[i] = hex_byte(pair[0], pair[1]);
     }
-    count
+    digits.len() / 2
 }

@@ -1,11 +1,10 @@
-use Rattle.text.specs.Text.{hex_bytes}
-use lib.ListN.{length, take, drop}
-use mathlib.Core.Path.{◌≡◌}
-use Prim.Native.Nat.{◌-◌, ◌≤◌}
+use Rattle.std.proofs.Common.{◌≡◌}
+use Rattle.std.specs.Iterator.Adapters.{enumerate_source, enumerate_count}
+use Rattle.std.specs.Slice.Iter.{chunks_exact_rest, chunks_exact_size}
+use Rattle.text.proofs.HexLaws.{Decoding}
 use Rattle.text.proofs.decode_bytes.Given as goal
 
 abbrev pub invariant-loop-i : goal.invariant-loop-i
-invariant-loop-i l = (l.i ≤ l.count) × (length l.bytes ≡ length l.initial.bytes) × (take l.i l.bytes ≡ take l.i (hex_bytes l.digits)) × (drop l.i l.bytes ≡ drop l.i l.initial.bytes)
-
-abbrev pub decreases-loop-i : goal.decreases-loop-i
-decreases-loop-i l = l.count - l.i
+invariant-loop-i l =
+    (goal.iterator-loop-i).can_next l.i-iterator × (goal.iterator-loop-i).is_finite l.i-iterator × (chunks_exact_size (enumerate_source l.i-iterator) ≡ 2)
+    × Decoding l.digits l.initial.bytes (chunks_exact_rest (enumerate_source l.i-iterator)) l.bytes (enumerate_count l.i-iterator)
