@@ -1,119 +1,97 @@
--- What is read of an input line by line: the sizes, and the group that starts at a place.
-use Prim.Native.Nat.{ℕ, suc, ◌+◌, ◌-◌, ◌≤◌}
+-- What is read of an input line by line: the sizes, and the first group.
+use Prim.Native.Nat.{ℕ, suc}
 use mathlib.Core.Path.{◌≡◌, refl, sym, ap, ◌∙◌}
 use mathlib.Core.Bool.{Bool, true, false}
 use mathlib.Core.List.{List, []}
-use native.Mathlib.Omega.{arith}
 use native.Mathlib.Nat.{add-zero}
 use native.Mathlib.Numerals.{add-one}
 use lib.Dec.{eqb}
-use lib.ListN.{length, take, drop}
+use lib.ListN.{drop}
 use lib.Seq.{drop-drop, get_or-drop}
-use Rattle.model.specs.declared.Layout.{Layout}
 use Rattle.model.specs.Layout.{layout_of}
 use Rattle.text.specs.Text.{Line, lines_of}
-use Rattle.text.specs.Read.{line_length, line_after, line_start}
+use Rattle.text.specs.Read.{SplitsLine}
+use Rattle.lines.specs.declared.Key.{Key}
+use Rattle.lines.specs.declared.Key.TheVariants.{Mains, Backups, Blocks, Main, Block, Offset, Bytes, Checkpoint}
 use Rattle.lines.specs.Line.{named, value_of, number_in}
-use Rattle.lines.specs.Read.{ReadsValue}
 use Rattle.parser.specs.Script.{line_at, group_of, default_backups, blocks_line, sizes_of}
-use Rattle.lines.specs.declared.ValueAt.{ValueAt}
+use Rattle.parser.specs.declared.HeaderAt.{HeaderAt}
+use Rattle.parser.specs.declared.GroupAt.{GroupAt}
 use Rattle.parser.specs.Read.{ReadsHeader, ReadsGroup}
-use Rattle.text.proofs.LineLaws.{next_rest, next_part}
-use Rattle.lines.proofs.ValueLaws.{value_part, value_inside}
-
--- a line of the input that starts at p ends at r
-abbrev pub Ends : List ℕ → ℕ → ℕ → Type 0
-Ends input p r = (r ≡ p + line_length (drop p input)) × (r ≤ length input)
 
 -- ---- line i of some lines, where the lines before it are passed
 
-module _ (input : List ℕ) (ls : List Line) (i p r : ℕ) (h : lines_of (drop p input) ≡ drop i ls) (e : Ends input p r) where
-  pub past_line : lines_of (drop r input) ≡ drop (suc i) ls
-  past_line = next_rest input p r e.0 ∙ ap (drop 1) h ∙ drop-drop 1 i ls ∙ ap (λ (n : ℕ). drop n ls) (add-one i)
+module _ {input line rest : List ℕ} (ls : List Line) (i : ℕ) (h : lines_of input ≡ drop i ls) (s : SplitsLine input line rest) where
+  pub past_line : lines_of rest ≡ drop (suc i) ls
+  past_line = s.others ∙ ap (drop 1) h ∙ drop-drop 1 i ls ∙ ap (λ (n : ℕ). drop n ls) (add-one i)
 
-  pub line_part : take (r - p) (drop p input) ≡ line_at ls i
-  line_part = next_part input p r e.0 ∙ ap (λ (l : List Line). line_at l 0) h ∙ get_or-drop i ls 0 [] ∙ ap (line_at ls) (add-zero i)
+  pub line_is : line ≡ line_at ls i
+  line_is = s.first ∙ ap (λ (l : List Line). line_at l 0) h ∙ get_or-drop i ls 0 [] ∙ ap (line_at ls) (add-zero i)
 
   -- the number in it
-  pub line_number : (k : ℕ) {n : ℕ} → n ≡ number_in k (take (r - p) (drop p input)) → n ≡ number_in k (line_at ls i)
-  line_number k q = q ∙ ap (number_in k) line_part
+  line_number : (k : Key) {n : ℕ} → n ≡ number_in k line → n ≡ number_in k (line_at ls i)
+  line_number k q = q ∙ ap (number_in k) line_is
 
 -- ---- the sizes
 
-module _ (input : List ℕ) (s t m : ℕ) (es : Ends input 0 s) (et : Ends input s t)
-    (em : m ≡ number_in 0 (take (s - 0) (drop 0 input))) {p : Bool} (ep : p ≡ named 1 (take (t - s) (drop s input))) where
+module _ (input : List ℕ) {a b r₁ r₂ : List ℕ} (s₁ : SplitsLine input a r₁) (s₂ : SplitsLine r₁ b r₂) {m : ℕ} (em : m ≡ number_in Mains a) {p : Bool} (ep : p ≡ named Backups b) where
   abbrev ls : List Line
   ls = lines_of input
 
-  second : lines_of (drop s input) ≡ drop 1 ls
-  second = past_line input ls 0 0 s refl es
+  second : lines_of r₁ ≡ drop 1 ls
+  second = past_line ls 0 refl s₁
 
-  third : lines_of (drop t input) ≡ drop 2 ls
-  third = past_line input ls 1 s t second et
+  third : lines_of r₂ ≡ drop 2 ls
+  third = past_line ls 1 second s₂
 
-  mains : m ≡ number_in 0 (line_at ls 0)
-  mains = line_number input ls 0 0 s refl es 0 em
+  mains : m ≡ number_in Mains (line_at ls 0)
+  mains = line_number ls 0 refl s₁ Mains em
 
-  name : p ≡ named 1 (line_at ls 1)
-  name = ep ∙ ap (named 1) (line_part input ls 1 s t second et)
+  has : p ≡ named Backups (line_at ls 1)
+  has = ep ∙ ap (named Backups) (line_is ls 1 second s₂)
 
   -- without a line of backups
-  pub header_short : {d n : ℕ} {l : Layout} → p ≡ false → d ≡ default_backups m → n ≡ number_in 2 (take (t - s) (drop s input))
-      → l ≡ layout_of m d n → ReadsHeader input (record { layout = l; next = t })
+  pub header_short : {d n : ℕ} {r : HeaderAt} → p ≡ false → d ≡ default_backups m → n ≡ number_in Blocks b → r.layout ≡ layout_of m d n → r.rest.now ≡ r₂ → ReadsHeader input r
   unfolding sizes_of blocks_line
-  header_short {n = n} h ed en el =
-      let b : named 1 (line_at ls 1) ≡ false = sym name ∙ h in
-      let q : n ≡ number_in 2 (line_at ls 1) = line_number input ls 1 s t second et 2 en in
+  header_short {n = n} h ed en el er =
+      let e : named Backups (line_at ls 1) ≡ false = sym has ∙ h in
+      let q : n ≡ number_in Blocks (line_at ls 1) = line_number ls 1 second s₂ Blocks en in
       record {
-        layout = el ∙ rw (b, ed, ← mains, ← q);
-        inside = et.1;
-        rest = rw b third;
+        layout = el ∙ rw (e, ed, ← mains, ← q);
+        rest = rw e (ap lines_of er ∙ third);
       }
 
   -- with one
-  pub header_long : (u : ℕ) {a n : ℕ} {l : Layout} → p ≡ true → Ends input t u → a ≡ number_in 1 (take (t - s) (drop s input))
-      → n ≡ number_in 2 (take (u - t) (drop t input)) → l ≡ layout_of m a n → ReadsHeader input (record { layout = l; next = u })
+  pub header_long : {c r₃ : List ℕ} {x n : ℕ} {r : HeaderAt} → p ≡ true → SplitsLine r₂ c r₃ → x ≡ number_in Backups b → n ≡ number_in Blocks c
+      → r.layout ≡ layout_of m x n → r.rest.now ≡ r₃ → ReadsHeader input r
   unfolding sizes_of blocks_line
-  header_long u {a} {n} h eu ea en el =
-      let b : named 1 (line_at ls 1) ≡ true = sym name ∙ h in
-      let x : a ≡ number_in 1 (line_at ls 1) = line_number input ls 1 s t second et 1 ea in
-      let y : n ≡ number_in 2 (line_at ls 2) = line_number input ls 2 t u third eu 2 en in
+  header_long {x = x} {n = n} h s₃ ex en el er =
+      let e : named Backups (line_at ls 1) ≡ true = sym has ∙ h in
+      let y : x ≡ number_in Backups (line_at ls 1) = line_number ls 1 second s₂ Backups ex in
+      let z : n ≡ number_in Blocks (line_at ls 2) = line_number ls 2 third s₃ Blocks en in
       record {
-        layout = el ∙ rw (b, ← mains, ← x, ← y);
-        inside = eu.1;
-        rest = rw b (past_line input ls 2 t u third eu);
+        layout = el ∙ rw (e, ← mains, ← y, ← z);
+        rest = rw e (ap lines_of er ∙ past_line ls 2 third s₃);
       }
 
 -- ---- a group
 
-pub group_read : (input : List ℕ) («at» s t u v w : ℕ) {m b o x : ℕ} {d : ValueAt}
-    → Ends input «at» s → Ends input s t → Ends input t u → Ends input u v → Ends input v w
-    → m ≡ number_in 3 (take (s - «at») (drop «at» input))
-    → b ≡ number_in 4 (take (t - s) (drop s input))
-    → o ≡ number_in 5 (take (u - t) (drop t input))
-    → ReadsValue 6 u v d
-    → x ≡ number_in 7 (take (w - v) (drop v input))
-    → ReadsGroup input «at» (record { main = m; block = b; offset = o; digits = d.start; digits_end = d.end; checkpoint = eqb x 1; next = w })
-unfolding group_of line_start
-group_read input «at» s t u v w {d = d} es et eu ev ew em eb eo ed ex =
-    let ls = lines_of (drop «at» input) in
-    let h1 : lines_of (drop s input) ≡ drop 1 ls = past_line input ls 0 «at» s refl es in
-    let h2 : lines_of (drop t input) ≡ drop 2 ls = past_line input ls 1 s t h1 et in
-    let h3 : lines_of (drop u input) ≡ drop 3 ls = past_line input ls 2 t u h2 eu in
-    let h4 : lines_of (drop v input) ≡ drop 4 ls = past_line input ls 3 u v h3 ev in
-    let i = value_inside 6 u v d (omega (arith, ev.0)) ed in
-    let p1 : s ≡ line_start input «at» 1 = es.0 in
-    let p2 : t ≡ line_start input «at» 2 = et.0 ∙ ap (line_after input) p1 in
-    let p3 : u ≡ line_start input «at» 3 = eu.0 ∙ ap (line_after input) p2 in
-    let p4 : v ≡ line_start input «at» 4 = ev.0 ∙ ap (line_after input) p3 in
+pub group_read : (input : List ℕ) {a b c d e r₁ r₂ r₃ r₄ r₅ : List ℕ} (r : GroupAt)
+    → SplitsLine input a r₁ → SplitsLine r₁ b r₂ → SplitsLine r₂ c r₃ → SplitsLine r₃ d r₄ → SplitsLine r₄ e r₅
+    → r.place.main ≡ number_in Main a → r.place.block ≡ number_in Block b → r.place.offset ≡ number_in Offset c → r.digits.now ≡ value_of Bytes d
+    → r.checkpoint ≡ eqb (number_in Checkpoint e) 1 → r.rest.now ≡ r₅ → ReadsGroup input r
+unfolding group_of
+group_read input r s₁ s₂ s₃ s₄ s₅ em eb eo ed ec er =
+    let ls = lines_of input in
+    let h1 = past_line ls 0 refl s₁ in
+    let h2 = past_line ls 1 h1 s₂ in
+    let h3 = past_line ls 2 h2 s₃ in
+    let h4 = past_line ls 3 h3 s₄ in
     record {
-      main = line_number input ls 0 «at» s refl es 3 em;
-      block = line_number input ls 1 s t h1 et 4 eb;
-      offset = line_number input ls 2 t u h2 eu 5 eo;
-      checkpoint = ap (λ (n : ℕ). eqb n 1) (line_number input ls 4 v w h4 ew 7 ex);
-      place = rw (p3, p4) at ed;
-      digits = value_part 6 input u v d (omega (arith, ev.0)) ev.1 ed ∙ ap (value_of 6) (line_part input ls 3 u v h3 ev);
-      ordered = (i.1, omega (arith, i.2, ew.0));
-      inside = ew.1;
-      rest = past_line input ls 4 v w h4 ew;
+      main = line_number ls 0 refl s₁ Main em;
+      block = line_number ls 1 h1 s₂ Block eb;
+      offset = line_number ls 2 h2 s₃ Offset eo;
+      digits = ed ∙ ap (value_of Bytes) (line_is ls 3 h3 s₄);
+      checkpoint = ec ∙ ap (λ (l : Line). eqb (number_in Checkpoint l) 1) (line_is ls 4 h4 s₅);
+      rest = ap lines_of er ∙ past_line ls 4 h4 s₅;
     }

@@ -5,7 +5,8 @@ use Rattle.std.specs.Prelude.{ℕ, ◌≡◌, Bool, true, false, ◌&&◌, List,
 use Prim.Native.String.{String}
 use Rattle.model.specs.Layout.{layout_of}
 use Rattle.text.specs.Text.{text, line_end, lines_of}
-use Rattle.lines.specs.Line.{mains_key, is_bytes}
+use Rattle.lines.specs.declared.Key.TheVariants.{Mains}
+use Rattle.lines.specs.Line.{is_bytes, or_zero}
 use Rattle.parser.specs.Script.{first_bad, Group, bad, good, parse}
 
 pub record Corner : Type 0 where
@@ -18,7 +19,7 @@ corner s n = record { sheet = s; line = n }
 -- whether the definitions give the number of each
 unfoldable pub all_given : List Corner → Bool
 all_given [] = true
-all_given (c ∷ cs) = eqb (first_bad mains_key 0 (lines_of (text c.sheet))) c.line && all_given cs
+all_given (c ∷ cs) = eqb (or_zero (first_bad Mains 0 (lines_of (text c.sheet)))) c.line && all_given cs
 
 -- sheets of sizes alone
 abbrev pub size_corners : List Corner

@@ -1,12 +1,13 @@
 -- The language of the bench sheet (SPECIFICATION 16): key=value lines in fixed order, which of them is the first
 -- bad or missing one, and what a good sheet says. Assumes nothing.
-use Rattle.std.specs.Prelude.{ℕ, zero, suc, ◌+◌, ◌/◌, Bool, not, cond, ◌&&◌, List, [], ◌∷◌, ltb, eqb, length, get_or, drop}
+use Rattle.std.specs.Prelude.{ℕ, zero, suc, ◌+◌, ◌/◌, Bool, true, false, cond, List, [], ◌∷◌, ltb, eqb, length, get_or, drop}
 use Rattle.model.specs.declared.Layout.{Layout}
 use Rattle.model.specs.Layout.{layout_of}
 use Rattle.text.specs.Text.{Line, lines_of, hex_bytes}
 use Rattle.std.specs.Prelude.{Option, None, Some}
-pub use Rattle.lines.specs.Line.{group_key}
-use Rattle.lines.specs.Line.{mains_key, backups_key, blocks_key, block_key, offset_key, bytes_key, checkpoint_key, named, value_of, good_line, number_in}
+use Rattle.lines.specs.declared.Key.{Key}
+use Rattle.lines.specs.declared.Key.TheVariants.{Mains, Backups, Blocks, Main, Block, Offset, Bytes, Checkpoint}
+use Rattle.lines.specs.Line.{named, value_of, good_line, number_in}
 
 -- the most bytes of a sheet
 abbrev pub most_bytes : ℕ
@@ -19,26 +20,41 @@ abbrev pub group_lines : ℕ
 group_lines = 5
 
 -- the key that is looked for in a line where key k is next: the line of spares may be left out
-abbrev pub key_for : ℕ → Line → ℕ
-key_for k l = cond (eqb k backups_key && not (named backups_key l)) blocks_key k
+abbrev pub key_for : Key → Line → Key
+key_for Mains l = Mains
+key_for Backups l = cond (named Backups l) Backups Blocks
+key_for Blocks l = Blocks
+key_for Main l = Main
+key_for Block l = Block
+key_for Offset l = Offset
+key_for Bytes l = Bytes
+key_for Checkpoint l = Checkpoint
 
 -- the key that comes after key k
-abbrev pub following : ℕ → ℕ
-following k = cond (eqb k checkpoint_key) group_key (suc k)
+abbrev pub following : Key → Key
+following Mains = Backups
+following Backups = Blocks
+following Blocks = Main
+following Main = Block
+following Block = Offset
+following Offset = Bytes
+following Bytes = Checkpoint
+following Checkpoint = Main
 
--- the number of the first bad or missing line where n lines are read and key k is next, or 0 if there is none;
+-- whether key k is the first of a group
+abbrev pub starts_group : Key → Bool
+starts_group Main = true
+starts_group _ = false
+
+-- the number of the first bad or missing line where n lines are read and key k is next, or none if there is none;
 -- a sheet may end where a group may start
-unfoldable pub first_bad : ℕ → ℕ → List Line → ℕ
-first_bad k n [] = cond (eqb k group_key) 0 (suc n)
-first_bad k n (l ∷ ls) = cond (good_line (key_for k l) l) (first_bad (following (key_for k l)) (suc n) ls) (suc n)
+unfoldable pub first_bad : Key → ℕ → List Line → Option ℕ
+first_bad k n [] = cond (starts_group k) None (Some (suc n))
+first_bad k n (l ∷ ls) = cond (good_line (key_for k l) l) (first_bad (following (key_for k l)) (suc n) ls) (Some (suc n))
 
--- the verdict on a sheet: the number that a bad one prints, 0 if it is too long; none on a good one (`first_bad` has 0 for none)
-abbrev pub numbered : ℕ → Option ℕ
-numbered zero = None
-numbered (suc n) = Some (suc n)
-
+-- the verdict on a sheet: the number that a bad one prints, 0 if it is too long; none on a good one
 unfoldable pub verdict : List ℕ → Option ℕ
-verdict input = cond (ltb most_bytes (length input)) (Some 0) (numbered (first_bad mains_key 0 (lines_of input)))
+verdict input = cond (ltb most_bytes (length input)) (Some 0) (first_bad Mains 0 (lines_of input))
 
 -- ---- what a good sheet says
 
@@ -57,11 +73,11 @@ line_at ls i = get_or ls i []
 -- the group of the first five lines
 unfoldable pub group_of : List Line → Group
 group_of ls = record {
-  main = number_in group_key (line_at ls 0);
-  block = number_in block_key (line_at ls 1);
-  offset = number_in offset_key (line_at ls 2);
-  bytes = hex_bytes (value_of bytes_key (line_at ls 3));
-  checkpoint = eqb (number_in checkpoint_key (line_at ls 4)) 1;
+  main = number_in Main (line_at ls 0);
+  block = number_in Block (line_at ls 1);
+  offset = number_in Offset (line_at ls 2);
+  bytes = hex_bytes (value_of Bytes (line_at ls 3));
+  checkpoint = eqb (number_in Checkpoint (line_at ls 4)) 1;
 }
 
 -- the first n groups, and all
@@ -78,7 +94,7 @@ default_backups mains = (mains + 1) / 2
 
 -- whether there is a line of backups, which is the second; and the place of the line of blocks, which comes after it or in its place
 abbrev pub has_backups : List Line → Bool
-has_backups ls = named backups_key (line_at ls 1)
+has_backups ls = named Backups (line_at ls 1)
 
 unfoldable pub blocks_line : List Line → ℕ
 blocks_line ls = cond (has_backups ls) 2 1
@@ -86,8 +102,8 @@ blocks_line ls = cond (has_backups ls) 2 1
 -- the three sizes, where a line of backups that is left out means what `rule` makes of the main segments
 unfoldable pub sizes_of : (ℕ → ℕ) → List Line → Layout
 sizes_of rule ls =
-    let mains : ℕ = number_in mains_key (line_at ls 0) in
-    layout_of mains (cond (has_backups ls) (number_in backups_key (line_at ls 1)) (rule mains)) (number_in blocks_key (line_at ls (blocks_line ls)))
+    let mains : ℕ = number_in Mains (line_at ls 0) in
+    layout_of mains (cond (has_backups ls) (number_in Backups (line_at ls 1)) (rule mains)) (number_in Blocks (line_at ls (blocks_line ls)))
 
 -- a sheet: bad, with the number that it prints, or good
 pub data Script : Type 0 where

@@ -2,149 +2,135 @@
 
 #![tactic(auto)]
 
-ghost use Rattle.std.specs.Prelude.{◌≡◌, ◌≤◌, length};
+ghost use Rattle.std.specs.Prelude.{◌≡◌};
 ghost use Rattle.text.specs.Text.{lines_of};
-ghost use Rattle.lines.specs.Line.{mains_key, checkpoint_key};
+ghost use Rattle.lines.specs.declared.Key.TheVariants.{Mains};
 ghost use Rattle.parser.specs.Script.{key_for, following, first_bad, verdict, default_backups};
 ghost use Rattle.parser.specs.Read.{ReadsHeader, ReadsGroup};
 
-use model::Layout;
-use text::Number;
+use lines::Key;
+use model::{Layout, Place};
 
 // The most bytes of a sheet.
 pub const MOST_BYTES: usize = 4096;
 
-// The key that is looked for in a line where key k is next: the line of backups may be left out.
-fn key_for(k: u64, line: &[u8]) -> u64
-    ensures { result ≡ key_for k line.now }
+// The key that is looked for in a line where a key is next: the line of backups may be left out.
+fn key_for(next: Key, line: &[u8]) -> Key
+    ensures { result ≡ key_for next line.now }
 {
-    if k != lines::BACKUPS {
-        return k;
+    match next {
+        Key::Backups if !next.is_named(line) => Key::Blocks,
+        _ => next,
     }
-    if !lines::is_named(lines::BACKUPS, line) {
-        return lines::BLOCKS;
-    }
-    k
 }
 
-// The key that comes after key k.
-fn key_after(k: u64) -> u64
-    requires { k ≤ checkpoint_key }
-    ensures { (result ≡ following k) × (result ≤ checkpoint_key) }
+// The key that comes after a key.
+fn key_after(key: Key) -> Key
+    ensures { result ≡ following key }
 {
-    if k == lines::CHECKPOINT {
-        return lines::MAIN;
+    match key {
+        Key::Mains => Key::Backups,
+        Key::Backups => Key::Blocks,
+        Key::Blocks => Key::Main,
+        Key::Main => Key::Block,
+        Key::Block => Key::Offset,
+        Key::Offset => Key::Bytes,
+        Key::Bytes => Key::Checkpoint,
+        Key::Checkpoint => Key::Main,
     }
-    k + 1
 }
 
-// The number of the first bad or missing line, or 0 if there is none.
-fn first_bad(input: &[u8]) -> u64
-    ensures { result ≡ first_bad mains_key 0 (lines_of input.now) }
+// The number of the first bad or missing line.
+fn first_bad(input: &[u8]) -> Option<u64>
+    ensures { result ≡ first_bad Mains 0 (lines_of input.now) }
 {
-    let mut key = lines::MAINS;
+    let mut next = Key::Mains;
     let mut count: u64 = 0;
-    let mut at = 0;
-    while at < input.len() {
-        let end = text::next_line(input, at);
-        let found = key_for(key, &input[at..end]);
-        if !lines::good_line(found, &input[at..end]) {
-            return count + 1;
+    for line in input.split_inclusive(|b| *b == text::LINE_END) {
+        let key = key_for(next, line);
+        if !key.is_good(line) {
+            return Some(count + 1);
         }
-        key = key_after(found);
+        next = key_after(key);
         count += 1;
-        at = end;
     }
-    if key == lines::MAIN {
-        return 0;
+    if next == Key::Main {
+        return None;
     }
-    count + 1
+    Some(count + 1)
 }
 
 // The verdict on a sheet: the number that a bad one prints, none on a good one.
-pub fn verdict(input: &[u8]) -> Number
+#[tactic(auto, using(crate::proofs::VerdictLaws::verdict_long, crate::proofs::VerdictLaws::verdict_short))]
+pub fn verdict(input: &[u8]) -> Option<u64>
     ensures { result ≡ verdict input.now }
 {
     if MOST_BYTES < input.len() {
-        return Number::Is(0);
+        return Some(0);
     }
-    let bad = first_bad(input);
-    if bad == 0 {
-        return Number::None;
-    }
-    Number::Is(bad)
-}
-
-// The sizes that a sheet gives, and where its groups start.
-#[derive(Clone, Copy)]
-pub struct HeaderAt {
-    pub layout: Layout,
-    pub next: usize,
+    first_bad(input)
 }
 
 // The number of backup segments where the sheet has no line of them: half of the main segments, rounded up.
+#[tactic(auto, unfolding(crate::specs::Script::default_backups))]
 fn default_backups(mains: u64) -> u64
     ensures { result ≡ default_backups mains }
 {
-    mains / 2 + mains % 2
+    mains.div_ceil(2)
+}
+
+// The sizes that a sheet gives, and the rest of it, where its groups start.
+#[derive(Clone, Copy)]
+pub struct HeaderAt<'a> {
+    pub layout: Layout,
+    pub rest: &'a [u8],
 }
 
 // The sizes of a sheet.
-pub fn header(input: &[u8]) -> HeaderAt
+pub fn header(input: &[u8]) -> HeaderAt<'_>
     ensures { ReadsHeader input.now result }
 {
-    let second = text::next_line(input, 0);
-    let third = text::next_line(input, second);
-    let mains = lines::number_at(lines::MAINS, input, 0, second);
-    if !lines::is_named(lines::BACKUPS, &input[second..third]) {
-        let blocks = lines::number_at(lines::BLOCKS, input, second, third);
+    let (first, rest) = text::split_line(input);
+    let (second, rest) = text::split_line(rest);
+    let mains = Key::Mains.number_in(first);
+    if !Key::Backups.is_named(second) {
+        let blocks = Key::Blocks.number_in(second);
         let layout = Layout::new(mains, default_backups(mains), blocks);
-        return HeaderAt {
-            layout: layout,
-            next: third,
-        };
+        return HeaderAt { layout, rest };
     }
-    let end = text::next_line(input, third);
-    let backups = lines::number_at(lines::BACKUPS, input, second, third);
-    let blocks = lines::number_at(lines::BLOCKS, input, third, end);
+    let (third, rest) = text::split_line(rest);
+    let backups = Key::Backups.number_in(second);
+    let blocks = Key::Blocks.number_in(third);
     let layout = Layout::new(mains, backups, blocks);
-    HeaderAt {
-        layout: layout,
-        next: end,
-    }
+    HeaderAt { layout, rest }
 }
 
-// A group: a write whose bytes stand in hexadecimal digits from `digits` to `digits_end`, whether a checkpoint follows, and
-// where the next group starts.
+// A group: where a write starts, its bytes in hexadecimal digits, whether a checkpoint follows, and the rest of the sheet.
 #[derive(Clone, Copy)]
-pub struct GroupAt {
-    pub main: u64,
-    pub block: u64,
-    pub offset: u64,
-    pub digits: usize,
-    pub digits_end: usize,
+pub struct GroupAt<'a> {
+    pub place: Place,
+    pub digits: &'a [u8],
     pub checkpoint: bool,
-    pub next: usize,
+    pub rest: &'a [u8],
 }
 
-// The group of the five lines from a place on.
-pub fn group_at(input: &[u8], at: usize) -> GroupAt
-    requires { at ≤ length input.now }
-    ensures { ReadsGroup input.now at result }
+// The group of the first five lines.
+pub fn group_at(input: &[u8]) -> GroupAt<'_>
+    ensures { ReadsGroup input.now result }
 {
-    let second = text::next_line(input, at);
-    let third = text::next_line(input, second);
-    let fourth = text::next_line(input, third);
-    let fifth = text::next_line(input, fourth);
-    let next = text::next_line(input, fifth);
-    let digits = lines::value_at(lines::BYTES, fourth, fifth);
+    let (first, rest) = text::split_line(input);
+    let (second, rest) = text::split_line(rest);
+    let (third, rest) = text::split_line(rest);
+    let (fourth, rest) = text::split_line(rest);
+    let (fifth, rest) = text::split_line(rest);
     GroupAt {
-        main: lines::number_at(lines::MAIN, input, at, second),
-        block: lines::number_at(lines::BLOCK, input, second, third),
-        offset: lines::number_at(lines::OFFSET, input, third, fourth),
-        digits: digits.start,
-        digits_end: digits.end,
-        checkpoint: lines::number_at(lines::CHECKPOINT, input, fifth, next) == 1,
-        next: next,
+        place: Place {
+            main: Key::Main.number_in(first),
+            block: Key::Block.number_in(second),
+            offset: Key::Offset.number_in(third),
+        },
+        digits: Key::Bytes.value_of(fourth),
+        checkpoint: Key::Checkpoint.number_in(fifth) == 1,
+        rest,
     }
 }

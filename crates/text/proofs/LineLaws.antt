@@ -154,6 +154,12 @@ module _ (input line rest : List ℕ) (s : SplitsLine input line rest) (h : 0 < 
   pub split_less : length rest < length input
   split_less = omega (arith, line_some input h, first_length input, ap length s.first, ap length s.joined, length-append line rest)
 
+-- where no byte is left there is no line
+pub lines_none : (bs : List ℕ) → length bs ≡ 0 → lines_of bs ≡ []
+unfolding lines_of
+lines_none [] e = refl
+lines_none (b ∷ bs) e = let z : ⊥ = omega arith in absurd z
+
 -- ---- every byte stands in a line
 
 unfoldable pub total : List Line → ℕ

@@ -1,11 +1,12 @@
-use Rattle.std.proofs.Common.{◌≡◌, ◌-◌, ◌≤◌, length, drop}
+use Rattle.std.proofs.Common.{◌≡◌, ◌+◌, ◌≤◌, length}
+use Rattle.std.specs.Slice.Iter.{split_inclusive_rest}
 use Rattle.text.specs.Text.{lines_of}
+use Rattle.lines.specs.declared.Key.TheVariants.{Mains}
 use Rattle.parser.specs.Script.{first_bad}
 use Rattle.parser.proofs.first_bad.Given as goal
 
-abbrev pub invariant-loop-at : goal.invariant-loop-at
-invariant-loop-at l =
-    (l.at ≤ length l.input) × (l.key ≤ 7) × (l.count ≤ l.at) × (first_bad 0 0 (lines_of l.input) ≡ first_bad l.key l.count (lines_of (drop l.at l.input)))
-
-abbrev pub decreases-loop-at : goal.decreases-loop-at
-decreases-loop-at l = length l.input - l.at
+abbrev pub invariant-loop-line : goal.invariant-loop-line
+invariant-loop-line l =
+    (goal.iterator-loop-line).can_next l.line-iterator × (goal.iterator-loop-line).is_finite l.line-iterator
+    × (l.count + length (split_inclusive_rest l.line-iterator) ≤ length l.input)
+    × (first_bad Mains 0 (lines_of l.input) ≡ first_bad l.next l.count (lines_of (split_inclusive_rest l.line-iterator)))

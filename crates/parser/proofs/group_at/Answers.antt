@@ -1,8 +1,9 @@
+use Rattle.std.proofs.Common.{refl, ap}
+use lib.Dec.{eqb}
 use Rattle.parser.proofs.ReadLaws.{group_read}
 use Rattle.parser.proofs.group_at.Goals as goal
 
 pub returns : goal.returns
 returns c =
-    group_read _ _ _ _ _ _ _ c.next_line-second.ensures c.next_line-third.ensures c.next_line-fourth.ensures
-    c.next_line-fifth.ensures c.next_line-next.ensures c.number_at.ensures c.number_at-2.ensures
-    c.number_at-3.ensures c.value_at-digits.ensures c.number_at-4.ensures
+    group_read _ _ c.split_line.ensures c.split_line-2.ensures c.split_line-3.ensures c.split_line-4.ensures c.split_line-5.ensures
+    c.number_in.ensures c.number_in-2.ensures c.number_in-3.ensures c.value_of.ensures (ap (λ n. eqb n 1) c.number_in-4.ensures) refl
