@@ -21,23 +21,22 @@ use clients::Run;
 use model::{Action, Answer, Layout, Refusal, Session};
 use trace::Writer;
 
-// What recovery does, by the state of a main segment and whether it is paired; the two cells that cannot be do nothing.
-const RECOVERY_ACTION: [[Action; 2]; 3] = [
-    [Action::ZeroMain, Action::Nothing],
-    [Action::Nothing, Action::CopyToBackup],
-    [Action::Nothing, Action::CopyToMain],
-];
-
-// The action for a state, and whether the main segment is paired.
+// The action for a state, and whether the main segment is paired; the two cases that cannot be do nothing.
+#[tactic(auto, unfolding(model::specs::Open::recovery_action, model::specs::Container::by_state))]
 fn recovery_action(state: u8, paired: bool) -> Action
     requires { state ≤ ss_backup }
     ensures { result ≡ recovery_action state paired }
 {
-    let row = RECOVERY_ACTION[state as usize];
-    if paired { row[1] } else { row[0] }
+    match (state, paired) {
+        (Layout::SS_INITIAL, false) => Action::ZeroMain,
+        (Layout::SS_MAIN, true) => Action::CopyToBackup,
+        (Layout::SS_BACKUP, true) => Action::CopyToMain,
+        _ => Action::Nothing,
+    }
 }
 
 // 1 for an action that treats a segment, else 0.
+#[tactic(auto, unfolding(model::specs::Counts::acts))]
 fn treats(action: Action) -> u64
     ensures { (result ≡ acts action) × (result ≤ 1) }
 {
@@ -135,6 +134,7 @@ fn put_recovery(image: &[u8], layout: Layout, line: usize, paired: u64, out: &mu
 // ---- the call
 
 // Refusal 5 of an opening, which is given the kind of module alone: there is no such kind.
+#[tactic(auto, unfolding(model::specs::Status::first_error))]
 fn domain_status(domain: u64) -> Result<(), Refusal>
     ensures { code_of result ≡ first_error (domain_errors domain) }
 {

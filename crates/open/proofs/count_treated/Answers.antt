@@ -1,7 +1,6 @@
 use Prim.Native.Nat.{ℕ}
-use mathlib.Core.Path.{◌≡◌, ap, ◌∙◌}
+use mathlib.Core.Path.{◌≡◌, sym, ap, ◌∙◌}
 use native.Mathlib.Omega.{arith}
-use borrow.Author.Rules.{rules}
 use Rattle.model.specs.declared.Layout.{Layout}
 use Rattle.model.specs.Words.{Image}
 use Rattle.model.specs.Container.{seg_state, backup_to_main, is_paired}
@@ -15,12 +14,11 @@ abbrev turn : Layout → Image → ℕ → ℕ → ℕ
 turn layout image line i = acts (recovery_action (seg_state image line i) (is_paired layout (backup_to_main image) i))
 
 pub loop-i-init : goal.loop-i-init
-loop-i-init c = (search rules, sum_none _, search rules)
+loop-i-init c = (sum_none _, omega arith)
 
 pub loop-i-preserved : goal.loop-i-preserved
 loop-i-preserved c =
     let g = c.args in (
-      omega arith,
       omega (arith, c.treats-sum.ensures.0 ∙ ap acts c.segment_action.ensures, sum_more c.loop-i.i (turn g.layout g.image.now g.line)),
       omega (arith, c.treats-sum.ensures.1),
     )
@@ -29,4 +27,4 @@ pub returns : goal.returns
 unfolding treated
 returns c =
     let e : c.loop-i.i ≡ c.args.layout.mains = omega arith in
-    (rw e at c.loop-i.invariant.1, omega arith)
+    (rw e at c.loop-i.invariant.0, omega arith)

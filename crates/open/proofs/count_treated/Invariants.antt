@@ -1,4 +1,4 @@
-use Prim.Native.Nat.{◌-◌, ◌≤◌}
+use Prim.Native.Nat.{◌≤◌}
 use mathlib.Core.Path.{◌≡◌}
 use Rattle.model.specs.Container.{seg_state, backup_to_main, is_paired}
 use Rattle.model.specs.Open.{recovery_action}
@@ -7,7 +7,4 @@ use Rattle.model.specs.Counts.{acts}
 use Rattle.open.proofs.count_treated.Given as goal
 
 abbrev pub invariant-loop-i : goal.invariant-loop-i
-invariant-loop-i l = (l.i ≤ l.mains) × (l.sum ≡ sum_to l.i (λ j. acts (recovery_action (seg_state l.image l.line j) (is_paired l.layout (backup_to_main l.image) j)))) × (l.sum ≤ l.i)
-
-abbrev pub decreases-loop-i : goal.decreases-loop-i
-decreases-loop-i l = l.mains - l.i
+invariant-loop-i l = (l.sum ≡ sum_to l.i (λ j. acts (recovery_action (seg_state l.image l.line j) (is_paired l.layout (backup_to_main l.image) j)))) × (l.sum ≤ l.i)

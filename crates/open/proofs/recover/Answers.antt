@@ -1,6 +1,8 @@
-use mathlib.Core.Path.{refl, sym, ◌∙◌}
+use mathlib.Core.Path.{◌≡◌, refl, sym, ◌∙◌}
 use native.Mathlib.Omega.{arith}
-use borrow.Author.Tests.{eqb-true}
+use Rattle.std.proofs.Common.{rules}
+use Rattle.std.proofs.lemmas.Result.{err_from_is_err_and}
+use Rattle.model.specs.declared.Refusal.TheVariants.{Invalid}
 use Rattle.model.specs.Session.{fresh_session, zero_session}
 use Rattle.model.specs.Ops.{for_domain}
 use Rattle.model.specs.Clients.{cleared}
@@ -9,59 +11,67 @@ use Rattle.model.specs.Open.{recovery_ops}
 use Rattle.model.proofs.Laws.Layout.{metadata_inside}
 use Rattle.trace.proofs.CallLaws.{fits_whole, gives_served}
 use Rattle.open.specs.Recovery.{recovery_outcome}
-use Rattle.open.proofs.RecoveryLaws.{recovers_by, recovery_invalid, recovery_no_domain, recovery_judged, recovery_left, refused_gives, served_gives}
+use Rattle.open.proofs.RecoveryLaws.{recovers_by, recovery_invalid, recovery_no_domain, recovery_judged, recovery_left, refused_gives}
 use Rattle.open.proofs.recover.Goals as goal
 
-pub examine-found-requires : goal.examine-found-requires
-examine-found-requires c = omega (arith, metadata_inside c.args.layout)
+pub examine-requires : goal.examine-requires
+examine-requires c = omega (arith, metadata_inside c.args.layout)
 
-pub returns-then-not-found : goal.returns-then-not-found
+pub returns-in_err-paired : goal.returns-in_err-paired
 unfolding recovery_outcome
-returns-then-not-found c = λ R y.
+returns-in_err-paired c = λ R y.
     let g = c.args in
-    let p = recovery_invalid g.layout g.domain g.image.now g.line _ c.examine-found.ensures.valid (lent R g.trace.now) c.if-not-found.true in
-    refused_gives _ g.layout R g.domain (recovery_ops g.layout g.image.now g.line) g.trace.now _ c.refused.ensures p refl
+    let p = err_from_is_err_and c.from_residual.result c.from_residual.ensures.1 in
+    let h = c.in_err-paired.ensures in
+    let v = rw h.ok_part at h.value in
+    let q : c.in_err-paired.field-0.0 ≡ Invalid = cc in
+    rw (p.1, p.2, q) (refused_gives _ g.layout R g.domain (recovery_ops g.layout g.image.now g.line) g.trace.now Invalid
+    (recovery_invalid g.layout g.domain g.image.now g.line (lent R g.trace.now) (rw h.ok_part at c.examine.ensures)))
 
-pub returns-then-not-is_served : goal.returns-then-not-is_served
+pub returns-in_err-domain_status : goal.returns-in_err-domain_status
 unfolding recovery_outcome
-returns-then-not-is_served c = λ R y.
+returns-in_err-domain_status c = λ R y.
     let g = c.args in
-    let r = sym c.is_served.ensures ∙ c.if-not-is_served.true in
-    let p = recovery_no_domain g.layout g.domain g.image.now g.line _ c.examine-found.ensures.valid R g.trace.now c.if-not-found.false _ c.domain_status-kind.ensures r in
-    refused_gives _ g.layout R g.domain (recovery_ops g.layout g.image.now g.line) g.trace.now _ c.refused-then-not-is_served.ensures p r
+    let v = rw c.in_ok-paired.ensures.ok_part at c.examine.ensures in
+    let p = err_from_is_err_and c.from_residual-in_err-domain_status.result c.from_residual-in_err-domain_status.ensures.1 in
+    rw (p.1, p.2) (refused_gives _ g.layout R g.domain (recovery_ops g.layout g.image.now g.line) g.trace.now _
+    (recovery_no_domain g.layout g.domain g.image.now g.line R g.trace.now v.valid _ c.in_err-domain_status.ensures))
 
-pub returns-then-not-is_served-2 : goal.returns-then-not-is_served-2
+pub returns-in_err-judged : goal.returns-in_err-judged
 unfolding recovery_outcome
-returns-then-not-is_served-2 c = λ R y.
+returns-in_err-judged c = λ R y.
     let g = c.args in
-    let r = sym c.is_served-2.ensures ∙ c.if-not-is_served-2.true in
-    let z = sym c.is_served.ensures ∙ c.if-not-is_served.false in
-    let p = recovery_judged g.layout g.domain g.image.now g.line _ c.examine-found.ensures.valid R g.trace.now c.if-not-found.false _ c.domain_status-kind.ensures z _ y r in
-    refused_gives _ g.layout R g.domain (recovery_ops g.layout g.image.now g.line) g.trace.now _ c.refused-then-not-is_served-2.ensures p r
+    let v = rw c.in_ok-paired.ensures.ok_part at c.examine.ensures in
+    let p = err_from_is_err_and c.from_residual-in_err-judged.result c.from_residual-in_err-judged.ensures.1 in
+    let x = rw c.in_err-judged.was at y in
+    rw (p.1, p.2) (refused_gives _ g.layout R g.domain (recovery_ops g.layout g.image.now g.line) g.trace.now _
+    (recovery_judged g.layout g.domain g.image.now g.line R g.trace.now v.valid c.in_ok-domain_status.ensures _ x))
 
 pub recovery_length-ops-requires : goal.recovery_length-ops-requires
 recovery_length-ops-requires c =
-    recovers_by c.args.layout c.args.image.now c.args.line _ c.requires.0 c.requires.1 c.requires.2 c.examine-found.ensures c.if-not-found.false
+    let v = rw c.in_ok-paired.ensures.ok_part at c.examine.ensures in
+    recovers_by c.args.layout c.args.image.now c.args.line c.requires.0 c.requires.1 c.requires.2 v
 
-pub returns-then-not-is_served-3 : goal.returns-then-not-is_served-3
+pub returns-in_err-trace_status : goal.returns-in_err-trace_status
 unfolding recovery_outcome
-returns-then-not-is_served-3 c = λ R y.
+returns-in_err-trace_status c = λ R y.
     let g = c.args in
     let O = recovery_ops g.layout g.image.now g.line in
-    let z = sym c.is_served.ensures ∙ c.if-not-is_served.false in
-    let p = recovery_left g.layout g.domain g.image.now g.line _ c.examine-found.ensures.valid R g.trace.now c.if-not-found.false _ c.domain_status-kind.ensures z _ y
-    (sym c.is_served-2.ensures ∙ c.if-not-is_served-2.false) in
-    let e = c.trace_status-room.ensures (for_domain g.domain O) g.trace.now (sym c.recovery_length-ops.ensures.0) refl in
-    refused_gives _ g.layout R g.domain O g.trace.now _ c.refused-then-not-is_served-3.ensures (e ∙ sym p) (sym c.is_served-3.ensures ∙ c.if-not-is_served-3.true)
+    let v = rw c.in_ok-paired.ensures.ok_part at c.examine.ensures in
+    let x = rw c.in_ok-judged.was at y in
+    let p = err_from_is_err_and c.from_residual-in_err-trace_status.result c.from_residual-in_err-trace_status.ensures.1 in
+    let e = c.in_err-trace_status.ensures (for_domain g.domain O) g.trace.now (sym c.recovery_length-ops.ensures.0) refl in
+    rw (p.1, p.2) (refused_gives _ g.layout R g.domain O g.trace.now _
+    (e ∙ sym (recovery_left g.layout g.domain g.image.now g.line R g.trace.now v.valid c.in_ok-domain_status.ensures x)))
 
 pub put_recovery-requires : goal.put_recovery-requires
 put_recovery-requires c =
     let g = c.args in
-    let z = eqb-true _ 0 (sym c.is_served-3.ensures ∙ c.if-not-is_served-3.false) in
+    let v = rw c.in_ok-paired.ensures.ok_part at c.examine.ensures in
     record {
-      valid_by = recovers_by g.layout g.image.now g.line _ c.requires.0 c.requires.1 c.requires.2 c.examine-found.ensures c.if-not-found.false;
-      fits = fits_whole (recovery_ops g.layout g.image.now g.line) g.trace.now
-          (sym z ∙ c.trace_status-room.ensures _ _ (sym c.recovery_length-ops.ensures.0) refl);
+      valid_by = recovers_by g.layout g.image.now g.line c.requires.0 c.requires.1 c.requires.2 v;
+      fits = fits_whole (recovery_ops g.layout g.image.now g.line) c.new-out.ensures.begun
+          (c.in_ok-trace_status.ensures _ g.trace.now (sym c.recovery_length-ops.ensures.0) refl);
     }
 
 pub returns : goal.returns
@@ -72,9 +82,8 @@ returns c = λ R y.
     let t = g.trace.now in
     let O = recovery_ops l g.image.now g.line in
     let m = c.recovery_length-ops.ensures.0 in
-    let s = sym c.is_served.ensures ∙ c.if-not-is_served.false in
-    let p = recovery_left l g.domain g.image.now g.line _ c.examine-found.ensures.valid R t c.if-not-found.false _ c.domain_status-kind.ensures s _ y
-    (sym c.is_served-2.ensures ∙ c.if-not-is_served-2.false) in
-    let z = sym (eqb-true _ 0 (sym c.is_served-3.ensures ∙ c.if-not-is_served-3.false)) ∙ c.trace_status-room.ensures (for_domain g.domain O) t (sym m) refl in
-    served_gives _ R t _ _ c.served.ensures.0
-    (gives_served _ zero_session (fresh_session l g.domain) R (cleared R) g.domain O t _ c.served.ensures (p ∙ sym z) c.fresh.ensures m (fits_whole O t z) c.put_recovery.ensures)
+    let v = rw c.in_ok-paired.ensures.ok_part at c.examine.ensures in
+    let x = rw c.in_ok-judged.was at y in
+    let z = c.in_ok-trace_status.ensures (for_domain g.domain O) t (sym m) refl in
+    gives_served _ zero_session (fresh_session l g.domain) R (cleared R) g.domain O t
+    (recovery_left l g.domain g.image.now g.line R t v.valid c.in_ok-domain_status.ensures x ∙ sym z) c.fresh.ensures m c.new-out.ensures.begun z c.put_recovery.ensures (search rules)
