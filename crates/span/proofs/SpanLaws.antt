@@ -8,41 +8,42 @@ use mathlib.Core.List.{List, [], ◌∷◌, ◌++◌}
 use native.Mathlib.Omega.{arith}
 use native.Mathlib.Nat.{zero-add}
 use native.Mathlib.Decide.{dec_lt, ℕ_discrete}
-use lib.Dec.{ltb, eqb}
+use lib.Dec.{eqb}
 use lib.ListN.{length, get_or, set, take, drop, length-drop}
 use lib.Seq.{get_or-set_same, get_or-set_other, get_or-drop, take_all}
-use borrow.Author.Tests.{lt-ltb, le-ltb, eq-eqb, ne_eqb}
+use borrow.Author.Tests.{eq-eqb, ne_eqb}
 use Rattle.model.specs.Words.{Image, byte_at, word_of, word_at, overlay}
 use Rattle.model.specs.Range.{cat}
-use Rattle.model.specs.Session.{adr}
-use Rattle.model.specs.Ops.{store, Ops, Trace, for_domain, stores, word_place}
+use Rattle.model.specs.Ops.{store, Ops, for_domain, stores, word_place}
 use Rattle.model.specs.Write.{span_words, span_stores}
 use Rattle.model.proofs.Laws.Range.{cat_ext}
 use Rattle.model.proofs.Laws.Words.{word_moved, word_cong, overlay_in, overlay-before, overlay-after, overlay_inside}
 use Rattle.model.proofs.Laws.Domain.{domain_stores}
 use Rattle.model.proofs.Laws.Counts.{length-stores}
+use Rattle.trace.specs.declared.Writer.{Writer}
 use Rattle.trace.specs.Emit.{Fits, word_stores}
 use Rattle.span.specs.Steps.{overlaid_store, first_stores}
 
 -- ---- room on a trace: a span meets a word, and no fewer words than lie whole among its bytes
 
-length-written : (n a : ℕ) (w : ℕ → ℕ) → length (for_domain adr (stores n a w)) ≡ n
-length-written n a w = ap length (domain_stores adr n a w) ∙ length-stores n a w
+length-written : (d n a : ℕ) (v : ℕ → ℕ) → length (for_domain d (stores n a v)) ≡ n
+length-written d n a v = ap length (domain_stores d n a v) ∙ length-stores n a v
 
-module _ {t : Trace} {n : ℕ} (I : Image) (a : ℕ) (bs : List ℕ) (h : Fits adr t n (span_stores I a bs)) where
-  span_room : 3 * (n + span_words a (length bs)) ≤ length t
-  span_room = omega (arith, length-written (span_words a (length bs)) (word_place a) (λ k. word_of (overlay (byte_at I) a bs) (word_place a + 8 * k)))
+module _ {w : Writer} (I : Image) (a : ℕ) (bs : List ℕ) (h : Fits w (span_stores I a bs)) where
+  span_room : 3 * (w.next + span_words a (length bs)) ≤ length w.trace.now
+  span_room =
+      omega (arith, h.room, length-written w.domain (span_words a (length bs)) (word_place a) (λ k. word_of (overlay (byte_at I) a bs) (word_place a + 8 * k)))
 
-  pub first_fits : Fits adr t n (first_stores I a bs)
+  pub first_fits : Fits w (first_stores I a bs)
   unfolding for_domain
   first_fits = go (eqb (a % 8) 0)
     where
-      go : (b : Bool) → Fits adr t n (cond (not b) (overlaid_store I a bs (word_place a) ∷ []) [])
+      go : (b : Bool) → Fits w (cond (not b) (overlaid_store I a bs (word_place a) ∷ []) [])
       go true = record { room = omega (arith, span_room) }
       go false = record { room = omega (arith, span_room) }
 
-  pub words_fit : Fits adr t n (word_stores a bs)
-  words_fit = record { room = omega (arith, span_room, length-written (length bs / 8) a (λ k. word_at bs (8 * k))) }
+  pub words_fit : Fits w (word_stores a bs)
+  words_fit = record { room = omega (arith, span_room, length-written w.domain (length bs / 8) a (λ k. word_at bs (8 * k))) }
 
 -- ---- a word of the image with bytes laid over it, made byte by byte
 
@@ -172,13 +173,3 @@ first_and_later I a s bs x h =
     go : Dec (a % 8 ≡ 0) → first_stores I a bs ++ span_stores I (a + s) (drop s bs) ≡ span_stores I a bs
     go (yes y) = let z : s ≡ 0 = omega arith in let e : a + 0 ≡ a = omega arith in rw (eq-eqb (a % 8) 0 y, z, e) refl
     go (no y) = rw (ne_eqb (a % 8) 0 y) (later_words I a s bs (omega arith) h)
-
--- ---- the limits
-
--- the span's end, tested without a sum: `room` bytes are there from the start of its block on
-pub span_over : (room offset len : ℕ) → offset ≤ room → ltb (room - offset) len ≡ ltb room (offset + len)
-span_over room offset len h = go (dec_lt room (offset + len))
-  where
-    go : Dec (room < offset + len) → ltb (room - offset) len ≡ ltb room (offset + len)
-    go (yes l) = lt-ltb (room - offset) len (omega arith) ∙ sym (lt-ltb _ _ l)
-    go (no l) = le-ltb (room - offset) len (omega arith) ∙ sym (le-ltb room (offset + len) (omega arith))

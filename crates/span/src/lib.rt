@@ -27,18 +27,15 @@ pub struct Span {
 
 impl Span {
     // Whether a span is empty, has an offset that is not in its block, or leaves its main segment (refusal 8).
+    #[tactic(auto, unfolding(model::specs::Write::span_bad))]
     pub fn is_bad(self, layout: Layout) -> bool
         requires { (self.place.block < layout.blocks) × (layout.blocks ≤ most) }
         ensures { (client : ℕ) (bytes : List ℕ) → length bytes ≡ self.len → result ≡ span_bad layout (args_of client self.place bytes) }
     {
         let Place { block, offset, .. } = self.place;
-        if self.len == 0 {
-            return true;
-        }
-        if Layout::BLOCK_SIZE <= offset {
-            return true;
-        }
-        Layout::BLOCK_SIZE * (layout.blocks - block) - offset < self.len as u64
+        self.len == 0
+            || Layout::BLOCK_SIZE <= offset
+            || Layout::BLOCK_SIZE * (layout.blocks - block) - offset < self.len as u64
     }
 
     // Where a span starts in the image.
@@ -119,10 +116,9 @@ fn put_first(image: &[u8], at: usize, bytes: &[u8], out: &mut Writer)
     requires fits { Fits out.old (first_stores image.now at bytes.now) }
     ensures { Emitted out.old (first_stores image.now at bytes.now) out.new }
 {
-    if at % WORD_SIZE == 0 {
-        return;
+    if at % WORD_SIZE != 0 {
+        put_overlaid(image, at, bytes, WORD_SIZE * (at / WORD_SIZE), out);
     }
-    put_overlaid(image, at, bytes, WORD_SIZE * (at / WORD_SIZE), out);
 }
 
 // Stores the words that bytes meet which start a word, upward: those that lie whole among the bytes straight from them, and the
@@ -134,11 +130,10 @@ fn put_aligned(image: &[u8], at: usize, bytes: &[u8], out: &mut Writer)
     ensures { Emitted out.old (span_stores image.now at bytes.now) out.new }
 {
     out.store_words(at as u64, bytes);
-    if bytes.len() % WORD_SIZE == 0 {
-        return;
+    if bytes.len() % WORD_SIZE != 0 {
+        let last = at + WORD_SIZE * (bytes.len() / WORD_SIZE);
+        put_overlaid(image, at, bytes, last, out);
     }
-    let last = at + WORD_SIZE * (bytes.len() / WORD_SIZE);
-    put_overlaid(image, at, bytes, last, out);
 }
 
 // Stores the words that bytes at a place meet, upward, with the bytes laid over what stands there; they are not written back. At

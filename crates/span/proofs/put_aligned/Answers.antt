@@ -4,24 +4,24 @@ use Rattle.trace.proofs.EmitLaws.{emitted_as, emitted_then, fits_as, fits_then}
 use Rattle.span.proofs.SpanLaws.{words_fit, whole_words, words_and_rest}
 use Rattle.span.proofs.put_aligned.Goals as goal
 
-pub put_words-next-requires-clause-fits : goal.put_words-next-requires-clause-fits
-put_words-next-requires-clause-fits c =
+pub store_words-requires-clause-fits : goal.store_words-requires-clause-fits
+store_words-requires-clause-fits c =
     let a = c.args in
     words_fit a.image.now a.at a.bytes.now c.requires.fits
-
-pub returns-then-bytes-eq0 : goal.returns-then-bytes-eq0
-returns-then-bytes-eq0 c =
-    let a = c.args in
-    emitted_as c.put_words-next.ensures (whole_words a.image.now a.at a.bytes.now (omega arith) (omega arith) (omega arith))
 
 pub put_overlaid-requires-clause-fits : goal.put_overlaid-requires-clause-fits
 put_overlaid-requires-clause-fits c =
     let a = c.args in
-    let e = words_and_rest a.image.now a.at a.bytes.now (omega arith) c.if-bytes-eq0.false in
-    fits_then (fits_as (sym e) c.requires.fits) c.put_words-next.ensures
+    let e = words_and_rest a.image.now a.at a.bytes.now (omega arith) c.if-bytes-ne0.true in
+    fits_then (fits_as (sym e) c.requires.fits) c.store_words.ensures
 
-pub returns : goal.returns
-returns c =
+pub returns-then-bytes-ne0 : goal.returns-then-bytes-ne0
+returns-then-bytes-ne0 c =
     let a = c.args in
-    let e = words_and_rest a.image.now a.at a.bytes.now (omega arith) c.if-bytes-eq0.false in
-    emitted_as (emitted_then c.put_words-next.ensures c.put_overlaid.ensures) e
+    let e = words_and_rest a.image.now a.at a.bytes.now (omega arith) c.if-bytes-ne0.true in
+    emitted_as (emitted_then c.store_words.ensures c.put_overlaid.ensures) e
+
+pub returns-else-bytes-ne0 : goal.returns-else-bytes-ne0
+returns-else-bytes-ne0 c =
+    let a = c.args in
+    emitted_as c.store_words.ensures (whole_words a.image.now a.at a.bytes.now (omega arith) (omega arith) (omega arith))

@@ -8,9 +8,9 @@ use Rattle.model.specs.Ops.{word_place, for_domain}
 use Rattle.span.proofs.SpanLaws.{byte_laid}
 use Rattle.span.proofs.put_byte.Goals as goal
 
-pub put_store-requires : goal.put_store-requires
+pub store-requires : goal.store-requires
 unfolding for_domain
-put_store-requires c = record { room = c.requires.fits.room }
+store-requires c = record { room = c.requires.fits.room }
 
 pub returns : goal.returns
 returns c =
@@ -20,4 +20,4 @@ returns c =
     let n : length b.result ≡ 8 = search rules in
     let w : j.result ≡ word_at (set b.result (a.at % 8) a.byte) 0 = j.ensures in
     let e : j.result ≡ word_of (overlay (byte_at a.image.now) a.at (a.byte ∷ [])) (word_place a.at) = w ∙ byte_laid (byte_at a.image.now) b.result a.at a.byte n b.ensures in
-    rw e at c.put_store.ensures
+    rw e at c.store.ensures
