@@ -10,12 +10,11 @@ use std::io;
 const BUFFER_SIZE: usize = parser::MOST_BYTES + 1;
 
 fn main(rt: HostRuntime) -> io::Result<()> {
-    let mut buffer = [0u8; BUFFER_SIZE];
-    let input = stdin::read_input(&mut rt.stdin(), &mut buffer);
-    if input.failed {
+    let mut buffer = [0; BUFFER_SIZE];
+    let Ok(count) = stdin::read_input(&mut rt.stdin(), &mut buffer) else {
         return Ok(());
-    }
-    let mut out = [0u8; script::MOST_TEXT];
-    let end = script::run_sheet(&buffer[..input.count], &mut out);
+    };
+    let mut out = [0; script::MOST_TEXT];
+    let end = script::run_sheet(&buffer[..count], &mut out);
     rt.write_all(&out[..end])
 }
