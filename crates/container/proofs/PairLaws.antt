@@ -1,18 +1,24 @@
 -- Laws of pairs laid one over the other: which main segments the set has, and that there are as many of them as pairs exactly if all
 -- pairs name main segments below 64, and no two the same one.
-use Rattle.std.proofs.Common.{◌≡◌, ℕ, zero, suc, ◌+◌, ◌*◌, ◌/◌, ◌%◌, ◌^◌, ◌<◌, ◌≤◌, Bool, true, false, cond, not, ◌||◌, eqb, ltb, ◌≢◌, ◌⊎◌, sym, refl, ap, ◌∙◌, subst, ap₂, inl, inr, ⊎_elim, true≢false, arith, pow_pos, ltb-true, le-ltb, lt-ltb, eq-eqb, ne_eqb, eqb-true}
+use Rattle.std.proofs.Common.{◌≡◌, List, ℕ, zero, suc, ◌+◌, ◌*◌, ◌/◌, ◌%◌, ◌^◌, ◌<◌, ◌≤◌, Bool, true, false, cond, not, ◌||◌, eqb, ltb, ◌≢◌, ◌⊎◌, sym, refl, ap, ◌∙◌, subst, ap₂, inl, inr, ⊎_elim, true≢false, arith, pow_pos, ltb-true, le-ltb, lt-ltb, eq-eqb, ne_eqb, eqb-true}
 use native.Mathlib.Decide.{dec_lt, ℕ_discrete}
 use lib.Bits.{bit_and, bit_or, and_block, or_lt}
 use lib.Count.{ones}
+use lib.ListN.{length, get_or, take}
 use lib.Pow.{pow-lt}
+use lib.Seq.{take_all}
 use Rattle.model.specs.Range.{all_b, any_b, first_b, one_if}
 use Rattle.model.specs.Counts.{dirty_count}
-use Rattle.model.specs.Words.{little_endian, word_of}
+use Rattle.std.specs.List.{fold}
+use Rattle.std.proofs.lemmas.List.Sums.{fold_more}
+use Rattle.std.specs.Int.{w64, to_le_bytes}
+use Rattle.model.specs.Words.{little_endian, word_of, bytes_of}
 use Rattle.model.specs.Session.{bit, is_dirty, set_bit}
 use Rattle.model.proofs.Laws.Counts.{dirty_ones}
 use Rattle.model.proofs.Laws.Range.{both, and_left, and_right, all_at, any_none, first_some, or_else, or_right, sum_change}
 use Rattle.model.proofs.Laws.Session.{bit_lt, bit_zero, bit_set_same, bit_set_other}
 use Rattle.words.proofs.BitLaws.{shifted_one}
+use Rattle.words.proofs.WordLaws.{word_parts}
 use Rattle.container.specs.declared.Paired.{Paired}
 use Rattle.container.specs.Scan.{lay_pair, lay_bytes, low_bytes, lay_pairs}
 
@@ -204,14 +210,19 @@ pub lay_nothing : (p : Paired) → lay_bytes 8 p 0xffffffffffffffff ≡ p
 unfolding lay_bytes lay_pair
 lay_nothing p = refl
 
--- one byte more; and once all are laid
-pub lay_more : (n d : ℕ) (p q s : Paired) (w : ℕ) → d ≡ suc n → q ≡ lay_pair p (w % 256) → lay_bytes d p w ≡ s → lay_bytes n q (w / 256) ≡ s
-unfolding lay_bytes
-lay_more n d p q s w e f h = rw f (ap (λ (m : ℕ). lay_bytes m p w) (sym e) ∙ h)
+-- the bytes of a word laid one after the other
+lay_bytes_one : (n : ℕ) (p : Paired) (w : ℕ) → fold lay_pair p (bytes_of n w) ≡ lay_bytes n p w
+unfolding lay_bytes bytes_of
+lay_bytes_one zero p w = refl
+lay_bytes_one (suc n) p w = lay_bytes_one n (lay_pair p (w % 256)) (w / 256)
 
-pub lay_done : (d : ℕ) (p s : Paired) (w : ℕ) → d ≡ 0 → lay_bytes d p w ≡ s → p ≡ s
-unfolding lay_bytes
-lay_done d p s w e h = ap (λ (m : ℕ). lay_bytes m p w) (sym e) ∙ h
+-- those of a word as the library takes them: all eight, and one more
+module _ (p : Paired) (w : ℕ) {bs : List ℕ} (e : bs ≡ to_le_bytes w64 w) where
+  pub lay_parts : (i : ℕ) → 8 ≤ i → fold lay_pair p (take i bs) ≡ lay_bytes 8 p w
+  lay_parts i h = ap (fold lay_pair p) (take_all i bs (omega (arith, ap length e)) ∙ e ∙ word_parts w) ∙ lay_bytes_one 8 p w
+
+  pub lay_part : (i : ℕ) → i < 8 → lay_pair (fold lay_pair p (take i bs)) (get_or bs i 0) ≡ fold lay_pair p (take (i + 1) bs)
+  lay_part i h = sym (fold_more lay_pair p bs i 0 (omega (arith, ap length e)))
 
 pub lay_count : (p : Paired) (q : ℕ) → (lay_pair p q).count ≤ p.count + 1
 unfolding lay_pair
@@ -242,15 +253,12 @@ full_word w e =
     let mask : little_endian 8 (λ k. 192) 0 ≡ 0xc0c0c0c0c0c0c0c0 = unfold little_endian in refl in
     low_bytes_lem 8 0 w (ap (bit_and w) mask ∙ e)
 
--- of a number whose bytes are below 64 the lowest, and the rest
-pub low_first : (n d w : ℕ) → d ≡ suc n → low_bytes d w ≡ true → (w % 256 < 64) × (low_bytes n (w / 256) ≡ true)
-unfolding low_bytes
-low_first n d w e h =
-    let k : low_bytes (suc n) w ≡ true = ap (λ (m : ℕ). low_bytes m w) (sym e) ∙ h in
-    (ltb-true _ _ (and_left (ltb (w % 256) 64) (low_bytes n (w / 256)) k), and_right (ltb (w % 256) 64) (low_bytes n (w / 256)) k)
+-- the bytes of such a number
+low_at : (n w i : ℕ) → low_bytes n w ≡ true → i < n → get_or (bytes_of n w) i 0 < 64
+unfolding low_bytes bytes_of
+low_at zero w i h l = absurd (omega arith)
+low_at (suc n) w zero h l = ltb-true _ _ (and_left (ltb (w % 256) 64) (low_bytes n (w / 256)) h)
+low_at (suc n) w (suc i) h l = low_at n (w / 256) i (and_right (ltb (w % 256) 64) (low_bytes n (w / 256)) h) (omega arith)
 
--- such a byte laid as the code does: `set | (1 << (rest % 64))`
-pub lay_low : (p : Paired) (q : ℕ) → q % 256 < 64 → ◌≡◌ {A = Paired} (record { set = bit_or p.set (1 * 2 ^ (q % 64) % 18446744073709551616); count = p.count + 1 }) (lay_pair p (q % 256))
-lay_low p q h =
-    let e : q % 64 ≡ q % 256 = omega arith in
-    ap (λ (n : ℕ). record { set = bit_or p.set (1 * 2 ^ n % 18446744073709551616); count = p.count + 1 }) e ∙ lay_below p (q % 256) (ne_eqb (q % 256) 255 (λ z. omega arith)) h
+pub low_parts : (w i : ℕ) {bs : List ℕ} → bs ≡ to_le_bytes w64 w → low_bytes 8 w ≡ true → i < 8 → get_or bs i 0 < 64
+low_parts w i e h l = omega (arith, ap (λ (bs : List ℕ). get_or bs i 0) (e ∙ word_parts w), low_at 8 w i h l)

@@ -24,9 +24,6 @@ const HALF_LINE: usize = 32;
 
 const HALF_WORDS: usize = 4;
 
-// The values of a byte.
-const BYTE: u64 = 256;
-
 // A word of eight backup segments that are all unpaired.
 const ALL_UNPAIRED: u64 = 0xffffffffffffffff;
 
@@ -34,14 +31,6 @@ const ALL_UNPAIRED: u64 = 0xffffffffffffffff;
 const EACH_TOP_TWO: u64 = 0xc0c0c0c0c0c0c0c0;
 
 const EACH_HIGH: u64 = 0xfefefefefefefefe;
-
-// How many words hold the first n bytes of a line.
-fn word_count(n: usize) -> usize
-    requires { n ≤ most }
-    ensures { (n ≤ word_size * result) × (word_size * result < n + word_size) × (result ≤ line_words) }
-{
-    n.div_ceil(WORD_SIZE)
-}
 
 // ---- pairs
 
@@ -58,6 +47,7 @@ impl Paired {
     const NONE: Paired = Paired { set: 0, count: 0 };
 
     // One pair more.
+    #[tactic(auto, using(crate::proofs::PairLaws::lay_unpaired, crate::proofs::PairLaws::lay_below, crate::proofs::PairLaws::lay_beyond))]
     fn with(self, pair: u8) -> Paired
         requires { self.count < 2 ^ 32 }
         ensures { result ≡ lay_pair self pair }
@@ -188,9 +178,9 @@ pub fn examine(image: &[u8], layout: Layout, line: usize) -> Option<u64>
 {
     let mains = layout.mains as usize;
     let backups = layout.backups as usize;
-    let Paired { set, count } = Paired::of_words(image, word_count(backups));
+    let Paired { set, count } = Paired::of_words(image, backups.div_ceil(WORD_SIZE));
     let pairs_ok = (u64::from(set.count_ones()) == count) & words::within(set, layout.mains);
-    let states_ok = states_fit(image, line, word_count(mains), set);
+    let states_ok = states_fit(image, line, mains.div_ceil(WORD_SIZE), set);
     let rest_ok = rest_is(image, Layout::PAIRS_AT as usize, backups, Layout::UNPAIRED)
         & rest_is(image, line, mains, Layout::SS_INITIAL);
     (pairs_ok & states_ok & rest_ok).then_some(set)
@@ -199,12 +189,11 @@ pub fn examine(image: &[u8], layout: Layout, line: usize) -> Option<u64>
 // ---- refusals 1 to 4
 
 // The first of refusals 1 to 4 that applies.
+#[tactic(auto, unfolding(model::specs::Status::first_error))]
 pub fn container_status(image: &[u8], layout: Layout) -> Result<(), Refusal>
     ensures { code_of result ≡ first_error (container_errors layout image.now) }
 {
     places::layout_status(image, layout)?;
-    if examine(image, layout, metadata::active_at(image)).is_none() {
-        return Err(Refusal::Invalid);
-    }
+    examine(image, layout, metadata::active_at(image)).ok_or(Refusal::Invalid)?;
     Ok(())
 }

@@ -12,7 +12,7 @@ use Rattle.std.proofs.lemmas.Slice.{put_mid-paste}
 use Rattle.model.specs.Words.{Image, bytes_of, store_word}
 
 -- the bytes of a word, as the library counts them
-word_parts : (w : ℕ) → to_le_bytes w64 w ≡ bytes_of 8 w
+pub word_parts : (w : ℕ) → to_le_bytes w64 w ≡ bytes_of 8 w
 unfolding bytes_of
 word_parts w = ap₂ ◌∷◌ refl (ap₂ ◌∷◌ (omega arith) (ap₂ ◌∷◌ (omega arith) (ap₂ ◌∷◌ (omega arith) (ap₂ ◌∷◌ (omega arith) (ap₂ ◌∷◌ (omega arith) (ap₂ ◌∷◌ (omega arith) (ap₂ ◌∷◌ (omega arith) refl)))))))
 

@@ -18,12 +18,9 @@ loop-k-init c =
     let q = n / 8 in
     let bytes : Bytes I = λ i. (c.type_inv.image i).fits in
     let value : a.value < 256 = search rules in
-    let word = c.word_at-word.ensures ∙ word_moved (byte_at I) (λ i. byte_at I (a.at + i)) (a.at + 8 * q) (8 * q) (λ k l. ap (byte_at I) (omega arith)) in (
-      omega arith,
-      omega arith,
-      ap (λ (w : ℕ). eqb (bit_xor c.word_at-word.result w / 2 ^ (8 * (n % 8))) 0) c.each-pattern.ensures
-          ∙ rest_first (λ i. byte_at I (a.at + i)) a.value n c.word_at-word.result q (λ i. bytes (a.at + i)) value word refl,
-    )
+    let word = c.word_at-word.ensures ∙ word_moved (byte_at I) (λ i. byte_at I (a.at + i)) (a.at + 8 * q) (8 * q) (λ k l. ap (byte_at I) (omega arith)) in
+    ap (λ (w : ℕ). eqb (bit_xor c.word_at-word.result w / 2 ^ (8 * (n % 8))) 0) c.each-pattern.ensures
+    ∙ rest_first (λ i. byte_at I (a.at + i)) a.value n c.word_at-word.result q (λ i. bytes (a.at + i)) value word refl
 
 pub loop-k-preserved : goal.loop-k-preserved
 loop-k-preserved c =
@@ -32,9 +29,6 @@ loop-k-preserved c =
     let k = c.loop-k.k in
     let bytes : Bytes I = λ i. (c.type_inv.image i).fits in
     let value : a.value < 256 = search rules in
-    let word = c.word_at.ensures ∙ word_moved (byte_at I) (λ i. byte_at I (a.at + i)) (a.at + 8 * k) (8 * k) (λ k l. ap (byte_at I) (omega arith)) in (
-      omega arith,
-      omega arith,
-      ap (λ (w : ℕ). eqb (bit_or c.loop-k.seen (bit_xor c.word_at.result w)) 0) c.each-pattern.ensures
-          ∙ rest_more (λ i. byte_at I (a.at + i)) a.value a.n c.word_at.result k c.loop-k.seen (λ i. bytes (a.at + i)) value c.loop-k.invariant.1 word c.loop-k.invariant.2,
-    )
+    let word = c.word_at.ensures ∙ word_moved (byte_at I) (λ i. byte_at I (a.at + i)) (a.at + 8 * k) (8 * k) (λ k l. ap (byte_at I) (omega arith)) in
+    ap (λ (w : ℕ). eqb (bit_or c.loop-k.seen (bit_xor c.word_at.result w)) 0) c.each-pattern.ensures
+    ∙ rest_more (λ i. byte_at I (a.at + i)) a.value a.n c.word_at.result k c.loop-k.seen (λ i. bytes (a.at + i)) value (omega arith) word c.loop-k.invariant

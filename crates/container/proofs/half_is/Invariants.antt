@@ -1,10 +1,7 @@
-use Rattle.std.proofs.Common.{◌≡◌, ◌+◌, ◌-◌, ◌*◌, ◌≤◌, ◌||◌, eqb, ltb}
+use Rattle.std.proofs.Common.{◌≡◌, ◌+◌, ◌*◌, ◌||◌, eqb, ltb}
 use Rattle.model.specs.Range.{all_b}
 use Rattle.model.specs.Words.{byte_at}
 use Rattle.container.proofs.half_is.Given as goal
 
 abbrev pub invariant-loop-k : goal.invariant-loop-k
-invariant-loop-k l = (l.k ≤ 4) × (l.n ≤ 8 * l.k) × (eqb l.seen 0 ≡ all_b (8 * l.k) (λ i. ltb i l.n || eqb (byte_at l.image (l.at + i)) l.value))
-
-abbrev pub decreases-loop-k : goal.decreases-loop-k
-decreases-loop-k l = 4 - l.k
+invariant-loop-k l = eqb l.seen 0 ≡ all_b (8 * l.k) (λ i. ltb i l.n || eqb (byte_at l.image (l.at + i)) l.value)

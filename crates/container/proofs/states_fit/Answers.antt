@@ -1,4 +1,4 @@
-use Rattle.std.proofs.Common.{◌+◌, ◌*◌, ◌^◌, ◌<◌, ap, ◌∙◌, arith, rules}
+use Rattle.std.proofs.Common.{◌+◌, ◌-◌, ◌*◌, ◌%◌, ◌^◌, ap, ◌∙◌, arith}
 use Rattle.model.specs.Words.{Bytes, byte_at}
 use Rattle.model.proofs.Laws.Range.{all_none}
 use Rattle.model.proofs.Laws.Words.{word_moved}
@@ -6,7 +6,7 @@ use Rattle.container.proofs.LineLaws.{fit_more}
 use Rattle.container.proofs.states_fit.Goals as goal
 
 pub loop-k-init : goal.loop-k-init
-loop-k-init c = (omega arith, all_none _)
+loop-k-init c = all_none _
 
 pub loop-k-preserved : goal.loop-k-preserved
 loop-k-preserved c =
@@ -14,8 +14,6 @@ loop-k-preserved c =
     let I = a.image.now in
     let k = c.loop-k.k in
     let bytes : Bytes I = λ i. (c.type_inv.image i).fits in
-    let left : c.wrapping_sub_u64-left.result < 2 ^ 64 = search rules in
-    let word = c.word_at-states.ensures ∙ word_moved (byte_at I) (λ i. byte_at I (a.line + i)) (a.line + 8 * k) (8 * k) (λ k l. ap (byte_at I) (omega arith)) in (
-      omega arith,
-      fit_more (λ i. byte_at I (a.line + i)) a.set k c.loop-k.over c.wrapping_sub_u64-left.result _ _ (λ i. bytes (a.line + i)) left word c.bits_at.ensures c.wrapping_sub_u64-left.ensures.value c.loop-k.invariant.1,
-    )
+    let left = (c.word_at-states.result + (2 ^ 64 - c.bits_at.result)) % 2 ^ 64 in
+    let word = c.word_at-states.ensures ∙ word_moved (byte_at I) (λ i. byte_at I (a.line + i)) (a.line + 8 * k) (8 * k) (λ k l. ap (byte_at I) (omega arith)) in
+    fit_more (λ i. byte_at I (a.line + i)) a.set k c.loop-k.over left _ _ (λ i. bytes (a.line + i)) (omega arith) word c.bits_at.ensures (omega arith) c.loop-k.invariant

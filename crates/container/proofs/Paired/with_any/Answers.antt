@@ -1,15 +1,19 @@
-use Rattle.std.proofs.Common.{◌+◌, ◌-◌, ◌%◌, ap, arith}
+use Rattle.std.proofs.Common.{ap, ◌∙◌, arith, get_or}
 use Rattle.container.specs.declared.Paired.{Paired}
-use Rattle.container.proofs.PairLaws.{lay_more, lay_done, lay_count}
-use Rattle.container.proofs.lay_eight.Goals as goal
+use Rattle.container.specs.Scan.{lay_pair}
+use Rattle.container.proofs.PairLaws.{lay_part, lay_parts, lay_count}
+use Rattle.container.proofs.Paired.with_any.Goals as goal
 
-pub loop-t-preserved : goal.loop-t-preserved
-loop-t-preserved c =
-    let b = c.loop-t in (
-      omega arith,
-      omega (arith, ap (λ (p : Paired). p.count) c.lay_pair-next.ensures, lay_count b.next (b.rest % 256)),
-      lay_more (8 - (b.t + 1)) (8 - b.t) b.next _ _ b.rest (omega arith) c.lay_pair-next.ensures b.invariant.2,
+pub with-next-requires : goal.with-next-requires
+with-next-requires c = omega (arith, c.loop-pair.invariant.1)
+
+pub loop-pair-preserved : goal.loop-pair-preserved
+loop-pair-preserved c =
+    let l = c.loop-pair in
+    let b = get_or c.to_le_bytes-pair-items.result l.pair-index 0 in (
+      c.with-next.ensures ∙ ap (λ (p : Paired). lay_pair p b) l.invariant.0 ∙ lay_part c.args.self c.args.word c.to_le_bytes-pair-items.ensures l.pair-index (omega arith),
+      omega (arith, ap (λ (p : Paired). p.count) c.with-next.ensures, lay_count l.next b),
     )
 
 pub returns : goal.returns
-returns c = let b = c.loop-t in lay_done (8 - b.t) b.next _ b.rest (omega arith) b.invariant.2
+returns c = c.loop-pair.invariant.0 ∙ lay_parts c.args.self c.args.word c.to_le_bytes-pair-items.ensures c.loop-pair.pair-index (omega arith)

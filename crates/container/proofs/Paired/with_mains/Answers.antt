@@ -1,23 +1,26 @@
-use Rattle.std.proofs.Common.{◌≡◌, ℕ, ◌+◌, ◌-◌, ◌*◌, ◌%◌, ◌^◌, ap, ◌∙◌, arith}
+use Rattle.std.proofs.Common.{ℕ, ◌+◌, ◌*◌, ◌%◌, ◌^◌, ◌<◌, ap, ◌∙◌, arith, get_or, ne_eqb}
 use lib.Bits.{bit_or}
+use Rattle.container.specs.declared.Paired.{Paired}
 use Rattle.container.specs.Scan.{lay_pair}
-use Rattle.container.proofs.PairLaws.{lay_more, lay_done, lay_low, low_first}
-use Rattle.container.proofs.lay_full.Invariants.{with-set}
-use Rattle.container.proofs.lay_full.Goals as goal
+use Rattle.container.proofs.PairLaws.{lay_below, lay_part, lay_parts, low_parts}
+use Rattle.container.proofs.Paired.with_mains.Goals as goal
 
-pub loop-t-preserved : goal.loop-t-preserved
-loop-t-preserved c =
-    let b = c.loop-t in
-    let before = c.args.before in
-    let low = low_first (8 - (b.t + 1)) (8 - b.t) b.rest (omega arith) b.invariant.1 in
-    let set = bit_or b.set (1 * 2 ^ (b.rest % 64) % 18446744073709551616) in
-    let laid : with-set before set (b.t + 1) ≡ lay_pair (with-set before b.set b.t) (b.rest % 256) =
-    ap (λ (n : ℕ). record { set = set; count = n }) (omega arith) ∙ lay_low (with-set before b.set b.t) b.rest low.0
-    in
-    (omega arith, low.1, lay_more (8 - (b.t + 1)) (8 - b.t) (with-set before b.set b.t) _ _ b.rest (omega arith) laid b.invariant.2)
+pub overflow_shl-set : goal.overflow_shl-set
+overflow_shl-set c = low_parts c.args.word c.loop-pair.pair-index c.to_le_bytes-pair-items.ensures c.requires.word_value (omega arith)
+
+pub loop-pair-preserved : goal.loop-pair-preserved
+loop-pair-preserved c =
+    let l = c.loop-pair in
+    let e = c.to_le_bytes-pair-items.ensures in
+    let b = get_or c.to_le_bytes-pair-items.result l.pair-index 0 in
+    let low : b < 64 = low_parts c.args.word l.pair-index e c.requires.word_value (omega arith) in
+    let set = bit_or l.set (1 * 2 ^ b % 18446744073709551616) in
+    ap (λ (n : ℕ). record { set = set; count = n }) (omega arith)
+    ∙ lay_below (record { set = l.set; count = c.args.self.count + l.pair-index }) b (ne_eqb b 255 (λ z. omega arith)) low
+    ∙ ap (λ (p : Paired). lay_pair p b) l.invariant ∙ lay_part c.args.self c.args.word e l.pair-index (omega arith)
 
 pub returns : goal.returns
 returns c =
-    let b = c.loop-t in
-    let before = c.args.before in
-    ap (λ (n : ℕ). with-set before b.set n) (omega arith) ∙ lay_done (8 - b.t) (with-set before b.set b.t) _ b.rest (omega arith) b.invariant.2
+    let l = c.loop-pair in
+    ap (λ (n : ℕ). record { set = l.set; count = n }) (omega arith) ∙ l.invariant
+    ∙ lay_parts c.args.self c.args.word c.to_le_bytes-pair-items.ensures l.pair-index (omega arith)
