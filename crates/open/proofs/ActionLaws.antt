@@ -1,4 +1,4 @@
--- Laws of what recovery does to one main segment: which backup segment an action takes.
+-- Laws of what recovery does to one main segment: the table of actions, and which backup segment an action takes.
 use Prim.Native.Nat.{ℕ, zero, suc, ◌≤◌, ◌<◌}
 use mathlib.Core.Path.{◌≡◌, refl, sym, ap, ◌∙◌}
 use mathlib.Core.Bool.{Bool, true, false}
@@ -14,6 +14,25 @@ use Rattle.model.specs.Container.{seg_state, backup_to_main, is_paired, paired_b
 use Rattle.model.specs.Open.{recovery_action, action_ops, recover_segment}
 use Rattle.model.proofs.Laws.Container.{paired_at}
 use Rattle.open.specs.Recovery.{takes_backup}
+
+-- ---- the table
+
+abbrev pub table : List (List Action)
+table = (ZeroMain ∷ Nothing ∷ []) ∷ (Nothing ∷ CopyToBackup ∷ []) ∷ (Nothing ∷ CopyToMain ∷ []) ∷ []
+
+pub paired_cell : (st : ℕ) → st ≤ ss_backup → get_or (get_or table st []) 1 Nothing ≡ recovery_action st true
+unfolding recovery_action by_state
+paired_cell zero h = refl
+paired_cell (suc zero) h = refl
+paired_cell (suc (suc zero)) h = refl
+paired_cell (suc (suc (suc st))) h = let z : ⊥ = omega arith in absurd z
+
+pub unpaired_cell : (st : ℕ) → st ≤ ss_backup → get_or (get_or table st []) 0 Nothing ≡ recovery_action st false
+unfolding recovery_action by_state
+unpaired_cell zero h = refl
+unpaired_cell (suc zero) h = refl
+unpaired_cell (suc (suc zero)) h = refl
+unpaired_cell (suc (suc (suc st))) h = let z : ⊥ = omega arith in absurd z
 
 -- ---- one segment
 

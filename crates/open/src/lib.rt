@@ -21,18 +21,21 @@ use clients::Run;
 use model::{Action, Answer, Layout, Refusal, Session};
 use trace::Writer;
 
-// The action for a state, and whether the main segment is paired; the two cases that cannot be do nothing.
-#[tactic(auto, unfolding(model::specs::Open::recovery_action, model::specs::Container::by_state))]
+// What recovery does, by the state of a main segment and whether it is paired (SPECIFICATION 9.6: a constant table); the two cells that cannot
+// be do nothing.
+const RECOVERY_ACTION: [[Action; 2]; 3] = [
+    [Action::ZeroMain, Action::Nothing],
+    [Action::Nothing, Action::CopyToBackup],
+    [Action::Nothing, Action::CopyToMain],
+];
+
+// The action for a state, and whether the main segment is paired.
 fn recovery_action(state: u8, paired: bool) -> Action
     requires { state ≤ ss_backup }
     ensures { result ≡ recovery_action state paired }
 {
-    match (state, paired) {
-        (Layout::SS_INITIAL, false) => Action::ZeroMain,
-        (Layout::SS_MAIN, true) => Action::CopyToBackup,
-        (Layout::SS_BACKUP, true) => Action::CopyToMain,
-        _ => Action::Nothing,
-    }
+    let row = RECOVERY_ACTION[state as usize];
+    if paired { row[1] } else { row[0] }
 }
 
 // 1 for an action that treats a segment, else 0.
