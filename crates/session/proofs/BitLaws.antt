@@ -67,8 +67,8 @@ set_bits_or m f (suc n) = ap (λ (w : ℕ). bit_or w (2 ^ (f + n))) (set_bits_or
         )
 
 -- `m | (ones >> (64 - n)) << f`
-pub run-set : (m f n : ℕ) → f + n ≤ 64 → bit_or m (18446744073709551615 / 2 ^ (64 - n) * 2 ^ f % 18446744073709551616) ≡ set_bits m f n
-run-set m f n h =
+pub run_set : (m f n : ℕ) → f + n ≤ 64 → bit_or m (18446744073709551615 / 2 ^ (64 - n) * 2 ^ f % 18446744073709551616) ≡ set_bits m f n
+run_set m f n h =
     ap (λ (w : ℕ). bit_or m (w * 2 ^ f % 18446744073709551616)) (low_mask n (omega arith))
     ∙ ap (bit_or m) (shl_exact n f 64 (ones_lt n) (omega arith)) ∙ sym (set_bits_or m f n)
 

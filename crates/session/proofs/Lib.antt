@@ -1,5 +1,5 @@
 pub mod BitLaws
 pub mod GroupLaws
-pub mod OverlaidLaws
+pub mod UnionLaws
 pub mod SessionLaws
 pub mod MarkedLaws

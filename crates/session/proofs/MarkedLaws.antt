@@ -5,7 +5,7 @@ use mathlib.Core.Bool.{cond}
 use mathlib.Core.List.{List}
 use native.Mathlib.Omega.{arith}
 use native.Mathlib.Decide.{ℕ_discrete}
-use lib.Count.{ones, ones-le, count_trailing_zeros}
+use lib.Count.{ones, ones-le}
 use lib.Dec.{eqb}
 use lib.ListN.{get_or}
 use borrow.Author.Tests.{eq-eqb, ne_eqb}
@@ -13,6 +13,7 @@ use Rattle.model.specs.Range.{sum_to}
 use Rattle.model.specs.Session.{bit, is_dirty, set_bit}
 use Rattle.model.proofs.Laws.Range.{sum_ext}
 use Rattle.model.proofs.Laws.Session.{bit_zero, bit_lt, bit_set_same, bit_set_other, bits_below}
+use Rattle.words.specs.Walk.{Turn}
 use Rattle.words.proofs.WalkLaws.{Walk, walk_left, walk_beyond, walk_below, walk_between}
 use Rattle.session.specs.Marked.{marked_segments}
 
@@ -78,14 +79,13 @@ module _ {set n rest k : ℕ} (g : ℕ → ℕ) (none : (b : ℕ) → b < n → 
       let d : k + (n - k) ≡ n = omega (arith, w.within) in
       sym (sum_skip g k (n - k) (λ b l h. none b (omega (arith, w.within)) (walk_left w e b l))) ∙ ap (λ (m : ℕ). sum_to m g) d
 
-  pub sum-turns : 0 < rest → sum_to (count_trailing_zeros 64 rest + 1) g ≡ sum_to k g + g (count_trailing_zeros 64 rest)
+  pub sum-turns : {b after : ℕ} → Turn rest b after → sum_to (b + 1) g ≡ sum_to k g + g b
   unfolding sum_to
-  sum-turns some =
-      let z = count_trailing_zeros 64 rest in
-      let d : k + (z - k) ≡ z = omega (arith, walk_beyond w some) in
-      let e : z + 1 ≡ suc z = omega arith in
-      let s : sum_to z g ≡ sum_to k g = ap (λ (m : ℕ). sum_to m g) (sym d) ∙ sum_skip g k (z - k) (λ b l h. none b (omega (arith, walk_below w some)) (walk_between w some b l (omega arith))) in
-      ap (λ (m : ℕ). sum_to m g) e ∙ ap (λ (x : ℕ). x + g z) s
+  sum-turns {b} t =
+      let d : k + (b - k) ≡ b = omega (arith, walk_beyond w t) in
+      let e : b + 1 ≡ suc b = omega arith in
+      let s : sum_to b g ≡ sum_to k g = ap (λ (m : ℕ). sum_to m g) (sym d) ∙ sum_skip g k (b - k) (λ i l h. none i (omega (arith, walk_below w t)) (walk_between w t i l (omega arith))) in
+      ap (λ (m : ℕ). sum_to m g) e ∙ ap (λ (x : ℕ). x + g b) s
 
 -- the dirty blocks of the set's members are all
 pub marked_sum : (words : List ℕ) (n : ℕ) → n ≤ 64 → sum_to 64 (λ b. cond (is_dirty (marked_segments words n) b) (ones (get_or words b 0)) 0) ≡ sum_to n (λ b. ones (get_or words b 0))

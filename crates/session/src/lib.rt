@@ -3,7 +3,7 @@
 
 #![tactic(auto)]
 
-ghost use Rattle.std.specs.Prelude.{◌≡◌, true, not, cond, ◌&&◌, ◌||◌, ℕ, ◌+◌, ◌*◌, ◌/◌, ◌^◌, ◌≤◌, ◌<◌, eqb, ltb, length, get_or};
+ghost use Rattle.std.specs.Prelude.{◌≡◌, true, not, cond, ◌&&◌, ℕ, ◌+◌, ◌*◌, ◌/◌, ◌^◌, ◌≤◌, ◌<◌, eqb, length, get_or, fold, bit_or};
 ghost use Rattle.std.specs.Int.Count.{ones};
 ghost use Rattle.model.specs.Range.{all_b, one_if};
 ghost use Rattle.model.specs.Words.{word_of};
@@ -25,9 +25,7 @@ const WORD_SIZE: usize = Layout::WORD_SIZE as usize;
 // Main segments whose words of dirty blocks are passed over at once.
 const EIGHT: usize = 8;
 
-// A word with all bits set, and one with all but the eight lowest.
-const ALL: u64 = 18446744073709551615;
-
+// A word with all bits set but the eight lowest.
 const BEYOND_EIGHT: u64 = 0xffffffffffffff00;
 
 // A session that is lent: its words of dirty blocks stand elsewhere, in a session or among the words of the C interface.
@@ -56,23 +54,26 @@ impl<'a> SessionView<'a> {
     fn is_valid(self, states: &[u8]) -> bool
         requires le_mains { (1 ≤ self.layout.mains) × (self.layout.mains ≤ most) × (1 ≤ self.layout.blocks) × (self.layout.blocks ≤ most) }
         requires states_in_bounds { line_size ≤ length states.now }
-        ensures { result ≡ valid_session (viewed self) (λ i. get_or states.now i 0) }
+        ensures { result ≡ valid_session (viewed self.entry) (λ i. get_or states.now i 0) }
     {
-        let mains = self.layout.mains;
-        if !words::within(self.dirty_segments, mains) {
-            return false;
-        }
-        let n = mains as usize;
-        let in_blocks = blocks_within(self.dirty_blocks, n, self.layout.blocks)
-            & rest_clear(self.dirty_blocks, n);
-        in_blocks
-            & none_in_main(self.dirty_segments, states, mains)
-            & !(self.domain > Session::EADR)
+        let SessionView {
+            layout,
+            dirty_segments,
+            dirty_blocks,
+            domain,
+        } = self;
+        let (used, rest) = dirty_blocks.split_at(layout.mains as usize);
+        words::within(dirty_segments, layout.mains)
+            && words::within(union(used), layout.blocks)
+            && union(rest) == 0
+            && none_in_main(dirty_segments, states, layout.mains)
+            && domain <= Session::EADR
     }
 
     // The first of refusals 1 to 5 that applies to an image and a session.
+    #[tactic(auto, using(crate::proofs::SessionLaws::container_left), unfolding(model::specs::Status::first_error))]
     pub fn judge(self, image: &[u8]) -> Result<(), Refusal>
-        ensures { code_of result ≡ first_error (context_errors (viewed self) image.now) }
+        ensures { code_of result ≡ first_error (context_errors (viewed self.entry) image.now) }
     {
         container::container_status(image, self.layout)?;
         let active = metadata::active_at(image);
@@ -84,22 +85,25 @@ impl<'a> SessionView<'a> {
 }
 
 // A word of dirty bits with the bits below `blocks` cleared; the others are kept.
+#[tactic(auto, using(crate::proofs::BitLaws::low_cleared))]
 pub fn clear_blocks(word: u64, blocks: u64) -> u64
     requires { (1 ≤ blocks) × (blocks ≤ most) }
     ensures { result ≡ word / 2 ^ blocks * 2 ^ blocks }
 {
-    word & !(ALL >> (Layout::MOST - blocks))
+    word & !(u64::MAX >> (Layout::MOST - blocks))
 }
 
 // A word of dirty bits with the `count` bits from bit `block` on set.
+#[tactic(auto, using(crate::proofs::BitLaws::run_set))]
 pub fn set_blocks(word: u64, block: u64, count: u64) -> u64
     requires { (1 ≤ count) × (block + count ≤ most) }
     ensures { result ≡ set_bits word block count }
 {
-    word | (ALL >> (Layout::MOST - count)) << block
+    word | (u64::MAX >> (Layout::MOST - count)) << block
 }
 
 // A word of dirty segments with the bit of a main segment set.
+#[tactic(auto, using(words::proofs::BitLaws::shifted_one), unfolding(model::specs::Session::set_bit))]
 pub fn set_segment(segments: u64, main: u64) -> u64
     requires { main < most }
     ensures { result ≡ set_bit segments main }
@@ -108,6 +112,7 @@ pub fn set_segment(segments: u64, main: u64) -> u64
 }
 
 // The session after a checkpoint: no segment is dirty, dirty blocks stay.
+#[tactic(auto, unfolding(model::specs::Session::with_checkpoint))]
 pub fn with_checkpoint(s: Session) -> Session
     ensures { result ≡ with_checkpoint s }
 {
@@ -117,28 +122,11 @@ pub fn with_checkpoint(s: Session) -> Session
     }
 }
 
-// Whether each of the first `mains` words has no bit set from bit `blocks` on.
-fn blocks_within(words: &[u64; Layout::MOST_LEN], mains: usize, blocks: u64) -> bool
-    requires { (mains ≤ most) × (1 ≤ blocks) × (blocks ≤ most) }
-    ensures { result ≡ all_b mains (λ i. ltb (get_or words.now i 0) (2 ^ blocks)) }
+// The bits that are set in some of these words.
+fn union(words: &[u64]) -> u64
+    ensures { result ≡ fold bit_or 0 words.now }
 {
-    let mut seen: u64 = 0;
-    for word in &words[..mains] {
-        seen |= *word;
-    }
-    words::within(seen, blocks)
-}
-
-// Whether the words from `mains` on are 0.
-fn rest_clear(words: &[u64; Layout::MOST_LEN], mains: usize) -> bool
-    requires { mains ≤ most }
-    ensures { result ≡ all_b most (λ i. ltb i mains || eqb (get_or words.now i 0) 0) }
-{
-    let mut seen: u64 = 0;
-    for word in &words[mains..] {
-        seen |= *word;
-    }
-    seen == 0
+    words.iter().fold(0, |seen, word| seen | word)
 }
 
 // Which of the eight main segments from `p` on are dirty and in state 1: 1 in the byte of each that is. A byte of `tested` is 0 exactly
@@ -154,16 +142,17 @@ fn own_dirty(segments: u64, states: &[u8], p: usize) -> u64
 
 // Whether no dirty segment is in state 1. States are looked up eight at a time, and only where a segment is dirty: `rest` has the dirty
 // segments that are left, and a turn looks up the eight among which the lowest of them is.
+#[tactic(auto, using(crate::proofs::GroupLaws::beyond_less, crate::proofs::GroupLaws::none_left, crate::proofs::GroupLaws::none_more))]
 fn none_in_main(segments: u64, states: &[u8], mains: u64) -> bool
     requires { (mains ≤ most) × (segments < 2 ^ mains) × (line_size ≤ length states.now) }
     ensures { result ≡ all_b mains (λ i. not (is_dirty segments i && eqb (get_or states.now i 0) ss_main)) }
 {
     let mut rest = segments;
-    let mut seen: u64 = 0;
+    let mut seen = 0;
     while rest != 0 {
-        let p = u64::trailing_zeros(rest) as usize / WORD_SIZE * WORD_SIZE;
-        seen = seen | own_dirty(rest, states, p);
-        rest = rest & (BEYOND_EIGHT << p);
+        let p = rest.trailing_zeros() as usize / WORD_SIZE * WORD_SIZE;
+        seen |= own_dirty(rest, states, p);
+        rest &= BEYOND_EIGHT << p;
     }
     seen == 0
 }
@@ -172,32 +161,18 @@ fn none_in_main(segments: u64, states: &[u8], mains: u64) -> bool
 pub fn dirty_count(word: u64) -> u64
     ensures { (result ≡ ones word) × (result ≤ most) }
 {
-    u64::count_ones(word) as u64
+    u64::from(word.count_ones())
 }
 
 // ---- the main segments that have a dirty block
 
-// Whether the eight words from word i on are 0.
-fn eight_clear(words: &[u64; Layout::MOST_LEN], i: usize) -> bool
-    requires { i + word_size ≤ most }
-    ensures { result ≡ all_b word_size (λ t. eqb (get_or words.now (i + t) 0) 0) }
-{
-    let mut seen: u64 = 0;
-    for word in &words[i..i + EIGHT] {
-        seen |= *word;
-    }
-    seen == 0
-}
-
 // Whether the eight main segments from main segment i on are there and have no dirty block, so that they can be passed over.
+#[tactic(auto, using(crate::proofs::UnionLaws::union_clear))]
 fn eight_passed(words: &[u64; Layout::MOST_LEN], i: usize, mains: usize) -> bool
     requires { (i ≤ mains) × (mains ≤ most) }
-    ensures { result ≡ true → (i + word_size ≤ mains) × (all_b word_size (λ t. eqb (get_or words.now (i + t) 0) 0) ≡ true) }
+    ensures { result ≡ true → (i + word_size ≤ mains) × ((t : ℕ) → t < word_size → get_or words.now (i + t) 0 ≡ 0) }
 {
-    if mains < i + EIGHT {
-        return false;
-    }
-    eight_clear(words, i)
+    i + EIGHT <= mains && union(&words[i..i + EIGHT]) == 0
 }
 
 // A set with main segment i, if its word of dirty blocks is not 0.
@@ -206,17 +181,19 @@ fn with_mark(set: u64, word: u64, i: usize) -> u64
     ensures { result ≡ cond (eqb word 0) set (set_bit set i) }
 {
     if word == 0 {
-        return set;
+        set
+    } else {
+        set_segment(set, i as u64)
     }
-    set_segment(set, i as u64)
 }
 
 // The main segments that have a dirty block, as bits of a word. Eight without one are passed over at once.
+#[tactic(auto, using(crate::proofs::MarkedLaws::marked_more, crate::proofs::MarkedLaws::marked_skip), unfolding(crate::specs::Marked::marked_segments))]
 pub fn marked_segments(words: &[u64; Layout::MOST_LEN], mains: usize) -> u64
     requires { mains ≤ most }
     ensures { result ≡ marked_segments words.now mains }
 {
-    let mut set: u64 = 0;
+    let mut set = 0;
     let mut i = 0;
     while i < mains {
         if eight_passed(words, i, mains) {
