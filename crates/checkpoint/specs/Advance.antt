@@ -14,7 +14,6 @@ last_epoch = 2 ^ 64 - 1
 pub record Advancing (l : Layout) (I : Image) (words : List ℕ) : Type 0 where
   pub mains : l.mains ≤ most
   pub blocks : l.blocks ≤ most
-  pub enough : most ≤ length words
   pub long : metadata_size ≤ length I
   pub raises : committed_epoch I ≢ last_epoch
   pub within : (i : ℕ) → i < l.mains → get_or words i 0 < 2 ^ l.blocks

@@ -32,7 +32,7 @@ const LINE_WORDS: usize = Layout::LINE_WORDS as usize;
 const EPOCH_AT: usize = Layout::EPOCH_AT as usize;
 
 // The epoch that cannot be raised.
-const LAST_EPOCH: u64 = 18446744073709551615;
+const LAST_EPOCH: u64 = u64::MAX;
 
 // Operations of a checkpoint besides write-backs: the line of states and the epoch stored, and three fences.
 const STATES_OPS: u64 = Layout::LINE_WORDS;
@@ -48,7 +48,7 @@ const FIXED_FLUSHES: u64 = 2;
 
 // ---- the dirty blocks
 
-// Writes back every dirty block of every main segment, upward: `marked` has those that have one, and `rest` those that are left.
+// Writes back every dirty block of every main segment, upward: `marked` has those that have one.
 fn put_flushes(layout: Layout, words: &[u64; Layout::MOST_LEN], marked: u64, out: &mut Writer)
     requires mains_le_most { (layout.mains ≤ most) × (layout.blocks ≤ most) }
     requires by_index { (i : ℕ) → i < layout.mains → get_or words.now i 0 < 2 ^ layout.blocks }
@@ -110,7 +110,7 @@ fn checkpoint_length(session: SessionView, marked: u64) -> u64
     requires mains_le_most { session.layout.mains ≤ most }
     requires by_index { (i : ℕ) → i < session.layout.mains → get_or session.dirty_blocks.now i 0 < 2 ^ session.layout.blocks }
     requires marked_value { marked ≡ marked_segments session.dirty_blocks.now session.layout.mains }
-    ensures { ((segments : ℕ) (I : Image) → result ≡ length (for_domain session.domain (checkpoint_ops (session_of session.layout segments session.dirty_blocks.now session.domain) I))) × (result < 2 ^ 32) }
+    ensures { ((segments : ℕ) (I : Image) → result ≡ length (for_domain session.entry.domain (checkpoint_ops (session_of session.entry.layout segments session.entry.dirty_blocks.now session.entry.domain) I))) × (result < 2 ^ 32) }
 {
     let blocks = session::dirty_total(session.layout, session.dirty_blocks, marked);
     trace::flush_count(session.domain, Layout::BLOCK_LINES * blocks + FIXED_FLUSHES) + FIXED_OPS
@@ -120,7 +120,7 @@ fn checkpoint_length(session: SessionView, marked: u64) -> u64
 fn put_checkpoint(image: &[u8], session: SessionView, marked: u64, out: &mut Writer)
     requires advancing { Advancing session.layout image.now session.dirty_blocks.now × (marked ≡ marked_segments session.dirty_blocks.now session.layout.mains) }
     requires fits { Fits out.old (checkpoint_ops (viewed session) image.now) }
-    ensures { Emitted out.old (checkpoint_ops (viewed session) image.now) out.new }
+    ensures { Emitted out.old (checkpoint_ops (viewed session.entry) image.now) out.new }
 {
     put_flushes(session.layout, session.dirty_blocks, marked, out);
     out.sfence();
@@ -139,8 +139,8 @@ fn checkpoint_status(
     session: SessionView,
     judged: Result<(), Refusal>,
 ) -> Result<(), Refusal>
-    ensures result_value { (R : Clients) → code_of judged ≡ first_error (clients_errors session.layout R) → code_of result ≡ first_error (lent_errors (viewed session) image.now R ++ epoch_errors image.now) }
-    ensures advancing { IfOk result (λ _. Advancing session.layout image.now session.dirty_blocks.now) }
+    ensures result_value { (R : Clients) → code_of judged ≡ first_error (clients_errors session.entry.layout R) → code_of result ≡ first_error (lent_errors (viewed session.entry) image.now R ++ epoch_errors image.now) }
+    ensures advancing { IfOk result (λ _. Advancing session.entry.layout image.now session.entry.dirty_blocks.now) }
 {
     session.judge(image)?;
     judged?;
@@ -160,7 +160,7 @@ pub fn checkpoint_parts(
     judged: Result<(), Refusal>,
     trace: &mut [u64],
 ) -> Result<u64, Refusal>
-    ensures { (R : Clients) → code_of judged ≡ first_error (clients_errors session.layout R) → Gives (checkpoint_outcome (viewed session) image.now (lent R trace.old)) trace.old (told (viewed session) (checkpointed_answer (viewed session) result)) trace.new (cond (served (code_of result)) (cleared R) R) }
+    ensures { (R : Clients) → code_of judged ≡ first_error (clients_errors session.entry.layout R) → Gives (checkpoint_outcome (viewed session.entry) image.now (lent R trace.old)) trace.old (told (viewed session.entry) (checkpointed_answer (viewed session.entry) result)) trace.new (cond (served (code_of result)) (cleared R) R) }
 {
     checkpoint_status(image, session, judged)?;
     let marked = session::marked_segments(session.dirty_blocks, session.layout.mains as usize);

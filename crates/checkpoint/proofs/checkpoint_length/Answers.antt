@@ -19,6 +19,7 @@ flushes-add d a b = go (eqb d adr)
 pub returns : goal.returns
 returns c =
     let g = c.args in
-    let d = g.domain in
-    let m = c.flush_count.ensures.0 ∙ ap (λ (n : ℕ). flushes d (4 * n + 2)) c.dirty_total-blocks.ensures.0 ∙ sym (flushes-add d (4 * dirty_total g.layout g.words.now) 2) in
-    ((λ segments I. omega (arith, m, count_checkpoint (session_of g.layout segments g.words.now d) I d)), omega (arith, c.flush_count.ensures.1, c.dirty_total-blocks.ensures.1))
+    let s = g.session in
+    let d = s.domain in
+    let m = c.flush_count.ensures.0 ∙ ap (λ (n : ℕ). flushes d (4 * n + 2)) c.dirty_total-blocks.ensures.0 ∙ sym (flushes-add d (4 * dirty_total s.layout s.dirty_blocks.now) 2) in
+    ((λ segments I. omega (arith, m, count_checkpoint (session_of s.layout segments s.dirty_blocks.now d) I d)), omega (arith, c.flush_count.ensures.1, c.dirty_total-blocks.ensures.1))

@@ -1,47 +1,39 @@
-use Rattle.trace.proofs.EmitLaws.{fits_first, fits_then, emitted_then, fits_plain, emitted_plain}
-use Rattle.model.specs.Ops.{for_domain}
 use Rattle.model.specs.Checkpoint.{checkpoint_ops}
-use mathlib.Core.Path.{refl}
+use Rattle.trace.proofs.EmitLaws.{fits_first, fits_then, emitted_then}
 use Rattle.checkpoint.proofs.put_checkpoint.Goals as goal
 
-pub put_flushes-flushed-requires-clause-fits : goal.put_flushes-flushed-requires-clause-fits
-unfolding checkpoint_ops for_domain
-put_flushes-flushed-requires-clause-fits c =
-    fits_first _ (fits_first _ (fits_first _ c.requires.fits))
+pub put_flushes-requires-clause-fits : goal.put_flushes-requires-clause-fits
+unfolding checkpoint_ops
+put_flushes-requires-clause-fits c = fits_first _ (fits_first _ (fits_first _ c.requires.fits))
 
-pub put_sfence-fenced-requires : goal.put_sfence-fenced-requires
-unfolding checkpoint_ops for_domain
-put_sfence-fenced-requires c =
-    let h = c.requires.fits in
-    fits_plain refl (fits_first _ (fits_then (fits_first _ (fits_first _ h)) c.put_flushes-flushed.ensures))
+pub sfence-requires : goal.sfence-requires
+unfolding checkpoint_ops
+sfence-requires c = fits_first _ (fits_then (fits_first _ (fits_first _ c.requires.fits)) c.put_flushes.ensures)
 
-pub put_states-stored-requires-clause-fits : goal.put_states-stored-requires-clause-fits
-unfolding checkpoint_ops for_domain
-put_states-stored-requires-clause-fits c =
-    let h = c.requires.fits in
-    fits_then (fits_then (fits_first _ (fits_first _ h)) c.put_flushes-flushed.ensures) (emitted_plain _ refl c.put_sfence-fenced.ensures)
+pub put_states-requires-clause-fits : goal.put_states-requires-clause-fits
+unfolding checkpoint_ops
+put_states-requires-clause-fits c = fits_then (fits_then (fits_first _ (fits_first _ c.requires.fits)) c.put_flushes.ensures) c.sfence.ensures
 
-pub put_sfence-held-requires : goal.put_sfence-held-requires
-unfolding checkpoint_ops for_domain
-put_sfence-held-requires c =
-    let h = c.requires.fits in
-    let w = emitted_then c.put_flushes-flushed.ensures (emitted_then (emitted_plain _ refl c.put_sfence-fenced.ensures) c.put_states-stored.ensures) in
-    fits_plain refl (fits_first _ (fits_then (fits_first _ h) w))
+pub sfence-requires-2 : goal.sfence-requires-2
+unfolding checkpoint_ops
+sfence-requires-2 c =
+    let w = emitted_then c.put_flushes.ensures (emitted_then c.sfence.ensures c.put_states.ensures) in
+    fits_first _ (fits_then (fits_first _ c.requires.fits) w)
 
-pub put_epoch-raised-requires-clause-fits : goal.put_epoch-raised-requires-clause-fits
-unfolding checkpoint_ops for_domain
-put_epoch-raised-requires-clause-fits c =
-    let w = emitted_then c.put_flushes-flushed.ensures (emitted_then (emitted_plain _ refl c.put_sfence-fenced.ensures) c.put_states-stored.ensures) in
-    fits_then (fits_then (fits_first _ c.requires.fits) w) (emitted_plain _ refl c.put_sfence-held.ensures)
+pub put_epoch-requires-clause-fits : goal.put_epoch-requires-clause-fits
+unfolding checkpoint_ops
+put_epoch-requires-clause-fits c =
+    let w = emitted_then c.put_flushes.ensures (emitted_then c.sfence.ensures c.put_states.ensures) in
+    fits_then (fits_then (fits_first _ c.requires.fits) w) c.sfence-2.ensures
 
-pub put_sfence-requires : goal.put_sfence-requires
-unfolding checkpoint_ops for_domain
-put_sfence-requires c =
-    let w = emitted_then c.put_flushes-flushed.ensures (emitted_then (emitted_plain _ refl c.put_sfence-fenced.ensures) c.put_states-stored.ensures) in
-    fits_plain refl (fits_then c.requires.fits (emitted_then w (emitted_then (emitted_plain _ refl c.put_sfence-held.ensures) c.put_epoch-raised.ensures)))
+pub sfence-requires-3 : goal.sfence-requires-3
+unfolding checkpoint_ops
+sfence-requires-3 c =
+    let w = emitted_then c.put_flushes.ensures (emitted_then c.sfence.ensures c.put_states.ensures) in
+    fits_then c.requires.fits (emitted_then w (emitted_then c.sfence-2.ensures c.put_epoch.ensures))
 
 pub returns : goal.returns
-unfolding checkpoint_ops for_domain
+unfolding checkpoint_ops
 returns c =
-    let w = emitted_then c.put_flushes-flushed.ensures (emitted_then (emitted_plain _ refl c.put_sfence-fenced.ensures) c.put_states-stored.ensures) in
-    emitted_then (emitted_then w (emitted_then (emitted_plain _ refl c.put_sfence-held.ensures) c.put_epoch-raised.ensures)) (emitted_plain _ refl c.put_sfence.ensures)
+    let w = emitted_then c.put_flushes.ensures (emitted_then c.sfence.ensures c.put_states.ensures) in
+    emitted_then (emitted_then w (emitted_then c.sfence-2.ensures c.put_epoch.ensures)) c.sfence-3.ensures

@@ -1,7 +1,6 @@
 use Prim.Native.Nat.{ℕ, ◌+◌, ◌*◌}
-use mathlib.Core.Path.{◌≡◌}
 use mathlib.Core.List.{List}
-use lib.ListN.{length, get_or}
+use lib.ListN.{get_or}
 use Rattle.model.specs.declared.Layout.{Layout}
 use Rattle.model.specs.Range.{cat}
 use Rattle.model.specs.Layout.{block_size, block_lines, main_at}
@@ -14,8 +13,5 @@ use Rattle.checkpoint.proofs.put_flushes.Given as goal
 abbrev pub flushed : Layout → List ℕ → ℕ → Ops
 flushed layout words i = each_dirty (get_or words i 0) layout.blocks (λ b. clwbs block_lines (main_at layout i + block_size * b))
 
-abbrev pub invariant-loop-rest : goal.invariant-loop-rest
-invariant-loop-rest l = (length l.trace ≡ length l.initial.trace) × ((k : ℕ) × (Walk l.marked l.layout.mains l.rest k × Emitted l.domain l.initial.trace l.n (cat k (flushed l.layout l.words)) l.trace l.next))
-
-abbrev pub decreases-loop-rest : goal.decreases-loop-rest
-decreases-loop-rest l = l.rest
+abbrev pub invariant-loop-i : goal.invariant-loop-i
+invariant-loop-i l = (k : ℕ) × (Walk l.marked l.layout.mains l.i-iterator.rest k × Emitted l.initial.out (cat k (flushed l.layout l.words)) l.out)
