@@ -5,7 +5,7 @@ use mathlib.Core.Bool.{Bool, true, false}
 use mathlib.Core.List.{◌++◌}
 use native.Mathlib.Omega.{arith}
 use lib.ListN.{length}
-use borrow.Author.Tests.{leb-false, eqb-true}
+use borrow.Author.Tests.{leb-false, eq-eqb, eqb-true}
 use Rattle.model.specs.declared.Layout.{Layout}
 use Rattle.std.specs.Prelude.{Option, Some}
 use Rattle.model.specs.Words.{Image}
@@ -27,10 +27,6 @@ module _ (l : Layout) (I : Image) (i b : ℕ) where
 
   abbrev pub read_more : Errors
   read_more = main_errors l i ++ block_errors l b
-
-  -- what the code's test of the status says
-  pub read_judged : (n : ℕ) (r : Bool) → n ≡ read_status l I i b → r ≡ served n → served (read_status l I i b) ≡ r
-  read_judged n r e h = ap (λ (k : ℕ). served k) (sym e) ∙ sym h
 
   -- ---- a served read
 
@@ -57,6 +53,10 @@ module _ (l : Layout) (I : Image) (i b : ℕ) where
         main = leb-false _ _ (served_condition read_more (omega arith) k.1 6);
         block = leb-false _ _ (served_condition read_more (omega arith) k.1 7);
       }
+
+  -- the same, of the number as the code has it
+  pub accepted : 0 ≡ read_status l I i b → Readable
+  accepted e = readable (eq-eqb _ 0 (sym e))
 
   -- where the block stands lies inside the image
   pub main_inside : Readable → main_at l i + 256 * b + 256 ≤ length I
@@ -90,9 +90,6 @@ module _ (l : Layout) (I : Image) (i b : ℕ) where
 
 answered_by : {I : Image} {p q : model.Part} {r : Part} → p ≡ q → Answered I q r → Answered I p r
 answered_by {I} {r = r} e f = subst (λ (x : model.Part). Answered I x r) (sym e) f
-
-pub answered_none : (I : Image) (p : model.Part) (r : Part) → (r.start ≡ 0) × (r.size ≡ 0) → p ≡ no_part → Answered I p r
-answered_none I p r h e = answered_by e (record { start = h.0; size = h.1; inside = omega arith })
 
 pub answered_block : (I : Image) (p : model.Part) (r : Part) (a c b : ℕ) → (r.start ≡ a + 256 * b) × (r.size ≡ 256) → a ≡ c → p ≡ block_part c b
     → c + 256 * b + 256 ≤ length I → Answered I p r

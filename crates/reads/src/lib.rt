@@ -20,11 +20,7 @@ pub struct Part {
 
 impl Part {
     // The part of length 0, for a refusal or a segment in state 0.
-    fn empty() -> Part
-        ensures { (result.start ≡ 0) × (result.size ≡ 0) }
-    {
-        Part { start: 0, size: 0 }
-    }
+    const EMPTY: Part = Part { start: 0, size: 0 };
 
     // A block of the segment that starts at a place.
     fn of_block(at: u64, block: u64) -> Part
@@ -36,9 +32,21 @@ impl Part {
             size: Layout::BLOCK_SIZE,
         }
     }
+
+    // Its bytes in an image.
+    fn bytes_of(self, image: &[u8]) -> &[u8]
+        requires { self.start + self.size ≤ length image.now }
+        ensures result_value { result.now ≡ take self.size (drop self.start image.now) }
+        ensures ref_ptr_value { (result.ref_ptr.0 ≡ image.entry.ref_ptr.0) × (result.ref_ptr.1 ≡ self.start + image.entry.ref_ptr.1) }
+    {
+        let start = self.start as usize;
+        let end = start + self.size as usize;
+        &image[start..end]
+    }
 }
 
 // The status of either read.
+#[tactic(auto, unfolding(model::specs::Reads::read_status, model::specs::Status::first_error))]
 pub fn read_status(image: &[u8], layout: Layout, main: u64, block: u64) -> Result<(), Refusal>
     ensures { code_of result ≡ read_status layout image.now main block }
 {
@@ -47,37 +55,29 @@ pub fn read_status(image: &[u8], layout: Layout, main: u64, block: u64) -> Resul
 }
 
 // The part of the image that holds a block of a main segment.
+#[tactic(auto, using(model::proofs::Laws::Status::refusal_refuses, crate::proofs::ReadLaws::accepted), unfolding(model::specs::Reads::working_part))]
 pub fn working_part(image: &[u8], layout: Layout, main: u64, block: u64) -> Part
     ensures { Answered image.now (working_part layout image.now main block) result }
 {
-    if read_status(image, layout, main, block).is_err() {
-        return Part::empty();
-    }
+    let Ok(()) = read_status(image, layout, main, block) else {
+        return Part::EMPTY;
+    };
     Part::of_block(places::main_at(layout, main) as u64, block)
 }
 
 // The part of the image that holds a block of the checkpoint, which stands where the active line of states says.
+#[tactic(auto, using(model::proofs::Laws::Status::refusal_refuses, crate::proofs::ReadLaws::accepted), unfolding(model::specs::Reads::checkpoint_part))]
 pub fn checkpoint_part(image: &[u8], layout: Layout, main: u64, block: u64) -> Part
     ensures { Answered image.now (checkpoint_part layout image.now main block) result }
 {
-    if read_status(image, layout, main, block).is_err() {
-        return Part::empty();
-    }
-    match metadata::checkpoint_located(image, layout, metadata::active_at(image), main) {
-        None => Part::empty(),
-        Some(at) => Part::of_block(at, block),
-    }
-}
-
-// The bytes of a part of an image.
-fn bytes_of(image: &[u8], part: Part) -> &[u8]
-    requires { part.start + part.size ≤ length image.now }
-    ensures result_value { result.now ≡ take part.size (drop part.start image.now) }
-    ensures ref_ptr_value { (result.ref_ptr.0 ≡ image.entry.ref_ptr.0) × (result.ref_ptr.1 ≡ part.start + image.entry.ref_ptr.1) }
-{
-    let start = part.start as usize;
-    let end = start + part.size as usize;
-    &image[start..end]
+    let Ok(()) = read_status(image, layout, main, block) else {
+        return Part::EMPTY;
+    };
+    let line = metadata::active_at(image);
+    let Some(at) = metadata::checkpoint_located(image, layout, line, main) else {
+        return Part::EMPTY;
+    };
+    Part::of_block(at, block)
 }
 
 // The bytes of a block as they stand, or none: the part of the caller's image that holds them.
@@ -85,7 +85,7 @@ pub fn crpm_read_working(image: &[u8], layout: Layout, main: u64, block: u64) ->
     ensures result_value { result.now ≡ working_block layout image.now main block }
     ensures ref_ptr_value { (result.ref_ptr.0 ≡ image.entry.ref_ptr.0) × (result.ref_ptr.1 ≡ (working_part layout image.now main block).start + image.entry.ref_ptr.1) }
 {
-    bytes_of(image, working_part(image, layout, main, block))
+    working_part(image, layout, main, block).bytes_of(image)
 }
 
 // The bytes of a block as of the last checkpoint, or none: the part of the caller's image that holds them.
@@ -93,5 +93,5 @@ pub fn crpm_read_checkpoint(image: &[u8], layout: Layout, main: u64, block: u64)
     ensures result_value { result.now ≡ checkpoint_block layout image.now main block }
     ensures ref_ptr_value { (result.ref_ptr.0 ≡ image.entry.ref_ptr.0) × (result.ref_ptr.1 ≡ (checkpoint_part layout image.now main block).start + image.entry.ref_ptr.1) }
 {
-    bytes_of(image, checkpoint_part(image, layout, main, block))
+    checkpoint_part(image, layout, main, block).bytes_of(image)
 }
