@@ -127,13 +127,18 @@ pub extern "C" fn crpm_checkpoint(
 {
     let view = interface::view_in(session);
     let judged = Run::load(clients).judge(view.layout);
-    let checkpointed = checkpoint::checkpoint_parts(image, view, judged, trace);
-    *ops = checkpointed.unwrap_or(0);
-    if checkpointed.is_ok() {
-        session[DIRTY_SEGMENTS_AT] = 0;
-        clients::clear(clients);
+    match checkpoint::checkpoint_parts(image, view, judged, trace) {
+        Ok(reported) => {
+            session[DIRTY_SEGMENTS_AT] = 0;
+            clients::clear(clients);
+            *ops = reported;
+            0
+        }
+        Err(refusal) => {
+            *ops = 0;
+            u64::from(refusal)
+        }
     }
-    model::status_code(checkpointed)
 }
 
 // Replay: the image afterwards, and the number of operations played.

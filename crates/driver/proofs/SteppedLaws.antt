@@ -7,6 +7,7 @@ use mathlib.Core.Logic.{◌≢◌}
 use mathlib.Core.List.{[], ◌++◌}
 use native.Mathlib.Omega.{arith}
 use native.Mathlib.Decide.{ℕ_discrete}
+use Rattle.std.proofs.Common.{Result, Ok, Err, IfOk, MatchResult, rules}
 use lib.ListN.{length, take, drop, length-append}
 use lib.Seq.{take-nil, take-length, take-append-le}
 use borrow.Author.Tests.{ne_eqb}
@@ -15,7 +16,10 @@ use Rattle.model.specs.Words.{Image}
 use Rattle.model.specs.Layout.{line_size}
 use Rattle.model.specs.Status.{served}
 use Rattle.model.specs.Ops.{op_numbers, Ops, Trace, encode, decode, written, replay}
-use Rattle.model.specs.Outcome.{Lent, Outcome, outcome_of}
+use Rattle.model.specs.declared.Answer.{Answer}
+use Rattle.model.specs.declared.Refusal.{Refusal}
+use Rattle.model.specs.Clients.{Clients}
+use Rattle.model.specs.Outcome.{Lent, Outcome, outcome_of, told, Gives}
 use Rattle.model.specs.Open.{open_status, open_outcome}
 use Rattle.model.specs.Write.{write_status, write_outcome}
 use Rattle.model.specs.Discard.{discard_status, discard_outcome}
@@ -27,7 +31,7 @@ use Rattle.model.proofs.Laws.Layout.{image_lines_lem}
 use Rattle.model.proofs.Laws.Container.{container_then}
 use Rattle.model.proofs.Laws.Ops.{length-encode, take-encode, decode-encode, reported_is, played_ops_lem, replayed_image_lem}
 use Rattle.model.proofs.Laws.Replay.{call_ok}
-use Rattle.driver.specs.Stepped.{Report, Reports, Called, carried, Stepped}
+use Rattle.driver.specs.Stepped.{Report, report_of, Reports, Called, carried, Stepped}
 
 -- ---- what stands on the trace
 
@@ -125,10 +129,20 @@ module _ (d : Device) (c : Call) (r : Report) (t : Trace) (k : Called d.image d.
         ∙ replay_leaves d c ∙ ap (λ (X : Ops). replay X d.image) (sym (carried_all (outcome d c) c.lends.trace r t k.1)),
   )
 
-pub replayed_step : (I : Image) (s : Session) (c : Call) (r : Report) (t : Trace) (I' : Image) → Called I s c r t
-    → I' ≡ (replay_outcome I (take (op_numbers * r.ops) t) r.ops).image → Stepped Called I s c r t I'
-replayed_step I s c r t I' k e =
-    device_replayed (record { layout = s.layout; durable = I; played = []; adr_played = []; image = I; session = s }) c r t k I' e
+-- so, of what a call of the library tells: what it reports fits on the trace that it leaves; and replayed whole, it is a step
+pub told_fits : (o : Outcome) (T : Trace) (s : Session) (a : Result Answer Refusal) (R : Clients) (t : Trace)
+    → Gives o T (told s a) t R → IfOk a (λ x. op_numbers * x.ops ≤ length t)
+told_fits o T s (Ok x) R t g = part_inside o T (report_of (told s (Ok x)) R) t g
+told_fits o T s (Err r) R t g = search rules
+
+pub told_step : (I : Image) (s s' : Session) (c : Call) (a : Result Answer Refusal) (R : Clients) (t : Trace) (I' : Image)
+    → Called I s c (report_of (told s' a) R) t
+    → MatchResult a (λ x. I' ≡ (replay_outcome I (take (op_numbers * x.ops) t) x.ops).image) (λ _. I' ≡ I)
+    → Stepped Called I s c (report_of (told s' a) R) t I'
+unfolding replay decode
+told_step I s s' c (Ok x) R t I' k e =
+    device_replayed (record { layout = s.layout; durable = I; played = []; adr_played = []; image = I; session = s }) c (report_of (told s' (Ok x)) R) t k I' e
+told_step I s s' c (Err r) R t I' k e = (k, e)
 
 pub stepped_device : (d : Device) (c : Call) (r : Report) (t : Trace) (I' : Image) → Stepped Called d.image d.session c r t I'
     → ((device_step d c).image ≡ I') × ((device_step d c).session ≡ r.session) × ((device_step d c).played ≡ d.played ++ carried t r.ops)

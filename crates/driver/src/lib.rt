@@ -3,10 +3,8 @@
 
 #![tactic(auto)]
 
-ghost use Rattle.std.specs.Prelude.{◌≡◌, ◌*◌, ◌≤◌, length, take, map};
-ghost use Rattle.std.specs.Result.{result_unwrap_or};
+ghost use Rattle.std.specs.Prelude.{◌≡◌, ◌*◌, ◌≤◌, length, take, map, IfOk, MatchResult};
 ghost use Rattle.model.specs.declared.Session.{Session};
-ghost use Rattle.model.specs.Status.{code_of};
 ghost use Rattle.model.specs.Ops.{op_numbers};
 ghost use Rattle.model.specs.Replay.{replay_outcome};
 ghost use Rattle.model.specs.Clients.{Clients};
@@ -19,15 +17,16 @@ ghost use Rattle.driver.specs.Stepped.{report_of, Called, Stepped};
 use clients::Record;
 use model::{Answer, Layout, Place, Refusal, Session};
 
-// Replays the first `ops` operations of a trace: all that a call reports. How many it played.
-fn play_reported(image: &mut [u8], trace: &[u64], ops: u64) -> Result<u64, Refusal>
-    requires { op_numbers * ops ≤ length trace.now }
-    ensures status_value { code_of result ≡ (replay_outcome image.old (take (op_numbers * ops) trace.now) ops).status }
-    ensures played_value { result_unwrap_or result 0 ≡ (replay_outcome image.old (take (op_numbers * ops) trace.now) ops).played }
-    ensures image_after { image.new ≡ (replay_outcome image.old (take (op_numbers * ops) trace.now) ops).image }
+// Replays all that a call reports, which is nothing where it was refused.
+fn play_reported(image: &mut [u8], trace: &[u64], called: Result<Answer, Refusal>)
+    requires { IfOk called (λ a. op_numbers * a.ops ≤ length trace.now) }
+    ensures { MatchResult called (λ a. image.new ≡ (replay_outcome image.old (take (op_numbers * a.ops) trace.now) a.ops).image) (λ _. image.new ≡ image.old) }
 {
-    let end = trace::OP_NUMBERS * ops as usize;
-    replay::crpm_replay(image, &trace[..end], ops)
+    if let Ok(answer) = called {
+        let end = trace::OP_NUMBERS * answer.ops as usize;
+        // a replay of what a call reports is not refused
+        let _ = replay::crpm_replay(image, &trace[..end], answer.ops);
+    }
 }
 
 // An opening, replayed whole, with the records of clients lent.
@@ -40,9 +39,9 @@ pub fn step_open<R: Record>(
 ) -> Result<Answer, Refusal>
     ensures { (s : Session) → Stepped Called image.old s (call_open layout domain (lent (map R.client_of clients.old) trace.old)) (report_of (told zero_session result) (map R.client_of clients.new)) trace.new image.new }
 {
-    let opened = crpm::crpm_open(image, layout, domain, clients, trace)?;
-    let _ = play_reported(image, trace, opened.ops);
-    Ok(opened)
+    let opened = crpm::crpm_open(image, layout, domain, clients, trace);
+    play_reported(image, trace, opened);
+    opened
 }
 
 // A write, replayed whole, with the records of clients lent.
@@ -57,9 +56,9 @@ pub fn step_write<R: Record>(
 ) -> Result<Answer, Refusal>
     ensures { Stepped Called image.old session (call_write (write_args_of client place.main place.block place.offset bytes.now) (lent (map R.client_of clients.old) trace.old)) (report_of (told session result) (map R.client_of clients.new)) trace.new image.new }
 {
-    let written = crpm::crpm_write(image, session, clients, client, place, bytes, trace)?;
-    let _ = play_reported(image, trace, written.ops);
-    Ok(written)
+    let written = crpm::crpm_write(image, session, clients, client, place, bytes, trace);
+    play_reported(image, trace, written);
+    written
 }
 
 // A discard, replayed whole. It is lent no records of clients, and leaves them, whatever they are.
@@ -71,9 +70,9 @@ pub fn step_discard(
 ) -> Result<Answer, Refusal>
     ensures { (R : Clients) → Stepped Called image.old session (call_discard main (lent R trace.old)) (report_of (told session result) R) trace.new image.new }
 {
-    let discarded = discard::crpm_discard(image, session, main, trace)?;
-    let _ = play_reported(image, trace, discarded.ops);
-    Ok(discarded)
+    let discarded = discard::crpm_discard(image, session, main, trace);
+    play_reported(image, trace, discarded);
+    discarded
 }
 
 // A checkpoint, replayed whole, with the records of clients lent.
@@ -85,7 +84,7 @@ pub fn step_checkpoint<R: Record>(
 ) -> Result<Answer, Refusal>
     ensures { Stepped Called image.old session (call_checkpoint (lent (map R.client_of clients.old) trace.old)) (report_of (told session result) (map R.client_of clients.new)) trace.new image.new }
 {
-    let checkpointed = crpm::crpm_checkpoint(image, session, clients, trace)?;
-    let _ = play_reported(image, trace, checkpointed.ops);
-    Ok(checkpointed)
+    let checkpointed = crpm::crpm_checkpoint(image, session, clients, trace);
+    play_reported(image, trace, checkpointed);
+    checkpointed
 }

@@ -24,20 +24,21 @@ pub const DOMAIN_AT: usize = DIRTY_BLOCKS_AT + Layout::MOST_LEN;
 pub const SESSION_WORDS: usize = DOMAIN_AT + 1;
 
 // The session that stands in words, lent.
+#[tactic(auto, unfolding(crate::specs::Interface::session_in))]
 pub fn view_in(words: &[u64; SESSION_WORDS]) -> SessionView<'_>
     ensures { viewed result ≡ session_in words.now }
 {
+    let dirty_blocks = words[DIRTY_BLOCKS_AT..DOMAIN_AT].as_array().unwrap();
     SessionView {
         layout: Layout::new(words[0], words[1], words[2]),
         dirty_segments: words[DIRTY_SEGMENTS_AT],
-        dirty_blocks: <&[u64; Layout::MOST_LEN]>::try_from(
-            &words[DIRTY_BLOCKS_AT..DOMAIN_AT],
-        ).unwrap(),
+        dirty_blocks,
         domain: words[DOMAIN_AT],
     }
 }
 
 // The words of a session.
+#[tactic(auto, using(std::proofs::lemmas::List::set_at), unfolding(crate::specs::Interface::words_of))]
 fn words_of(session: Session) -> [u64; SESSION_WORDS]
     ensures { result ≡ words_of session }
 {

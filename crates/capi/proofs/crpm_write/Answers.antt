@@ -1,31 +1,25 @@
-use mathlib.Core.Path.{◌≡◌, refl, sym, ap, ◌∙◌}
-use lib.ListN.{length, set}
-use borrow.Author.Rules.{rules}
-use Rattle.model.specs.Write.{write_args_of}
+use Rattle.std.proofs.Common.{sym, ap, ◌∙◌}
+use Rattle.std.proofs.Math.ListN.{set}
 use Rattle.clients.specs.Words.{clients_in}
-use Rattle.interface.specs.Interface.{session_words}
-use Rattle.interface.proofs.WordsLaws.{lent_session}
-use Rattle.capi.proofs.CallLaws.{write_stored, write_kept}
+use Rattle.interface.specs.Interface.{words_of}
+use Rattle.interface.proofs.WordsLaws.{words_session, write_stored}
 use Rattle.capi.proofs.crpm_write.Goals as goal
 
-pub returns-then-is_served : goal.returns-then-is_served
-returns-then-is_served c =
+pub returns-in-Ok : goal.returns-in-Ok
+returns-in-Ok c =
     let a = c.args in
-    let w = write_args_of a.client a.main a.block a.offset a.bytes.now in
-    let e : length a.session.now ≡ session_words = search rules in
     let R = clients_in a.clients.now in
-    let g = c.write_parts-written.ensures.gives R c.run_in-run.ensures in
-    let z = sym c.is_served.ensures ∙ c.if-is_served.true in
-    write_stored a.image.now a.session.now e _ (lent_session a.session.now c.layout_in-layout.result e c.layout_in-layout.ensures) R _ a.trace.now _ _ _ w
-    c.write_parts-written.result c.code-code.ensures refl g z (c.write_parts-written.ensures.main_lt_most z).0 (c.put_client.ensures ∙ ap (set R a.client) (c.record_of-record.ensures R c.run_in-run.ensures))
+    let w = c.in-Ok.written in
+    let g = rw c.view_in-view.ensures at (c.in-Ok.ensures.gives R c.load-run.ensures) in (
+      g.0,
+      write_stored a.session.now c.told-session _ c.view_in-view.ensures w.dirty_segments a.main w.word c.in-Ok.ensures.main_lt_most.0 ∙ ap words_of g.1,
+      c.put.ensures ∙ ap (set R a.client) (c.record_of.ensures R c.load-run.ensures) ∙ g.4,
+      g.3,
+      g.2,
+    )
 
-pub returns-else-is_served : goal.returns-else-is_served
-returns-else-is_served c =
+pub returns-in-Err : goal.returns-in-Err
+returns-in-Err c =
     let a = c.args in
-    let w = write_args_of a.client a.main a.block a.offset a.bytes.now in
-    let e : length a.session.now ≡ session_words = search rules in
-    let R = clients_in a.clients.now in
-    let g = c.write_parts-written.ensures.gives R c.run_in-run.ensures in
-    let z = sym c.is_served.ensures ∙ c.if-is_served.false in
-    write_kept a.image.now a.session.now e _ (lent_session a.session.now c.layout_in-layout.result e c.layout_in-layout.ensures) R _ a.trace.now _ _ _ w
-    c.write_parts-written.result c.code-code.ensures refl g z refl
+    let g = rw c.view_in-view.ensures at (c.in-Err.ensures.gives (clients_in a.clients.now) c.load-run.ensures) in
+    (c.from.ensures ∙ g.0, sym (words_session a.session.now c.told-session) ∙ ap words_of g.1, g.4, g.3, g.2)
