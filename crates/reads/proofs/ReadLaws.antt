@@ -1,19 +1,20 @@
 -- What a served read may go by, and that the block it finds lies inside the image.
 use Prim.Native.Nat.{ℕ, ◌+◌, ◌*◌, ◌≤◌, ◌<◌}
-use mathlib.Core.Path.{◌≡◌, sym, subst}
+use mathlib.Core.Path.{◌≡◌, sym, ◌∙◌, subst}
 use mathlib.Core.Bool.{true, false}
 use mathlib.Core.List.{◌++◌}
 use native.Mathlib.Omega.{arith}
 use lib.ListN.{length}
 use borrow.Author.Tests.{leb-false, eq-eqb, eqb-true}
 use Rattle.model.specs.declared.Layout.{Layout}
+use Rattle.model.specs.declared.Refusal.{Refusal}
 use Rattle.std.specs.Prelude.{Option, Some}
 use Rattle.model.specs.Words.{Image}
 use Rattle.model.specs.Layout.{SizesOk, segment_size, image_size, main_at}
-use Rattle.model.specs.Status.{Errors, served}
-use Rattle.model.specs.Container.{active_line, checkpoint_located, main_errors, block_errors}
+use Rattle.model.specs.Status.{refusal_number, Errors, first_error, served}
+use Rattle.model.specs.Container.{active_line, checkpoint_located, container_errors, main_errors, block_errors}
 use Rattle.model.specs.Reads.{read_status, part_of, no_part, block_part, located_part, working_part, checkpoint_part}
-use Rattle.model.proofs.Laws.Status.{served_condition}
+use Rattle.model.proofs.Laws.Status.{served_condition, stage_refused, after-served, refusal_refuses}
 use Rattle.model.proofs.Laws.Container.{ContainerOk, container_then}
 use Rattle.model.proofs.Laws.Layout.{metadata_inside, segment_in_image}
 use Rattle.places.proofs.PlaceLaws.{image_bound}
@@ -27,6 +28,15 @@ module _ (l : Layout) (I : Image) (i b : ℕ) where
 
   abbrev pub read_more : Errors
   read_more = main_errors l i ++ block_errors l b
+
+  -- refused for the image, or judged by the place
+  pub image_refused : (r : Refusal) → refusal_number r ≡ first_error (container_errors l I) → refusal_number r ≡ read_status l I i b
+  unfolding read_status
+  image_refused r e = stage_refused _ (container_errors l I) read_more e (refusal_refuses r)
+
+  pub image_passed : (n : ℕ) → 0 ≡ first_error (container_errors l I) → n ≡ first_error read_more → n ≡ read_status l I i b
+  unfolding read_status
+  image_passed n e h = h ∙ sym (after-served (container_errors l I) read_more (omega arith) (sym e))
 
   -- ---- a served read
 

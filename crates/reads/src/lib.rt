@@ -46,7 +46,7 @@ impl Part {
 }
 
 // The status of either read.
-#[tactic(auto, unfolding(model::specs::Reads::read_status, model::specs::Status::first_error))]
+#[tactic(auto, using(crate::proofs::ReadLaws::image_refused, crate::proofs::ReadLaws::image_passed))]
 pub fn read_status(image: &[u8], layout: Layout, main: u64, block: u64) -> Result<(), Refusal>
     ensures { code_of result ≡ read_status layout image.now main block }
 {
