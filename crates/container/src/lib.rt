@@ -94,6 +94,7 @@ impl Paired {
     }
 
     // The eight pairs of a word more: a word of unpaired backup segments adds nothing, and one of paired ones is not tested byte by byte.
+    #[tactic(auto, using(crate::proofs::PairLaws::lay_nothing, crate::proofs::PairLaws::full_word))]
     fn with_word(self, word: u64) -> Paired
         requires { self.count ≤ most }
         ensures { result ≡ lay_bytes word_size self word }
@@ -108,6 +109,7 @@ impl Paired {
     }
 
     // The first `count` words of pairs.
+    #[tactic(auto, unfolding(crate::specs::Scan::lay_pairs))]
     fn of_words(image: &[u8], count: usize) -> Paired
         requires { (count ≤ line_words) × (pairs_end ≤ length image.now) }
         ensures { result ≡ lay_pairs (backup_to_main image.now) (word_size * count) }

@@ -1,4 +1,4 @@
-use Rattle.std.proofs.Common.{◌+◌, ◌*◌, refl, ap, ◌∙◌, arith}
+use Rattle.std.proofs.Common.{◌+◌, ◌*◌, ap, ◌∙◌, arith}
 use Rattle.model.specs.Words.{Bytes, byte_at}
 use Rattle.model.specs.Container.{backup_to_main}
 use Rattle.model.proofs.Laws.Words.{word_moved}
@@ -6,10 +6,6 @@ use Rattle.container.specs.declared.Paired.{Paired}
 use Rattle.container.specs.Scan.{lay_pairs}
 use Rattle.container.proofs.PairLaws.{lay_word, count_most}
 use Rattle.container.proofs.Paired.of_words.Goals as goal
-
-pub loop-k-init : goal.loop-k-init
-unfolding lay_pairs
-loop-k-init c = refl
 
 pub with_word-paired-requires : goal.with_word-paired-requires
 with_word-paired-requires c =

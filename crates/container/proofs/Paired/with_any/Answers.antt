@@ -4,9 +4,6 @@ use Rattle.container.specs.Scan.{lay_pair}
 use Rattle.container.proofs.PairLaws.{lay_part, lay_parts, lay_count}
 use Rattle.container.proofs.Paired.with_any.Goals as goal
 
-pub with-next-requires : goal.with-next-requires
-with-next-requires c = omega (arith, c.loop-pair.invariant.1)
-
 pub loop-pair-preserved : goal.loop-pair-preserved
 loop-pair-preserved c =
     let l = c.loop-pair in
