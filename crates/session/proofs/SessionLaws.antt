@@ -19,7 +19,7 @@ use Rattle.model.specs.Words.{Image}
 use Rattle.model.specs.Layout.{most, SizesOk, metadata_size}
 use Rattle.model.specs.Status.{first_error}
 use Rattle.model.specs.Container.{seg_state, active_line, active_state, container_errors}
-use Rattle.model.specs.Session.{is_dirty, dirty_word, dirty_segment, no_domain, valid_session, session_errors, context_errors}
+use Rattle.model.specs.Session.{is_dirty, dirty_word, dirty_segment, valid_session, session_errors, context_errors}
 use Rattle.model.proofs.Laws.Range.{both, and_left, and_right, all_at, all_from, all_ext, same_test}
 use Rattle.model.proofs.Laws.Layout.{metadata_inside}
 use Rattle.model.proofs.Laws.Status.{after-served}

@@ -1,5 +1,5 @@
 -- Laws of words laid one over the other by `or`, in place of a test of each (union).
-use Rattle.std.proofs.Common.{◌≡◌, refl, sym, ap, ap₂, ◌∙◌, ℕ, zero, suc, ◌+◌, ◌-◌, ◌^◌, ◌≤◌, ◌<◌, Bool, true, ◌&&◌, eqb, ltb, List, length, get_or, take, drop, bit_or, fold, arith, add-one}
+use Rattle.std.proofs.Common.{◌≡◌, refl, sym, ap, ◌∙◌, ℕ, zero, suc, ◌+◌, ◌^◌, ◌≤◌, ◌<◌, Bool, true, ◌&&◌, eqb, ltb, List, length, get_or, take, drop, bit_or, fold, arith, add-one}
 use lib.Bits.{and_le_l, and_le_r, or_add_and, or_lt}
 use lib.Pow.{pow_pos}
 use native.Mathlib.Decide.{dec_lt}

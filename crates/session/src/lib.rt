@@ -71,7 +71,7 @@ impl<'a> SessionView<'a> {
     }
 
     // The first of refusals 1 to 5 that applies to an image and a session.
-    #[tactic(auto, using(crate::proofs::SessionLaws::container_left), unfolding(model::specs::Status::first_error))]
+    #[tactic(auto, using(crate::proofs::SessionLaws::container_left))]
     pub fn judge(self, image: &[u8]) -> Result<(), Refusal>
         ensures { code_of result ≡ first_error (context_errors (viewed self.entry) image.now) }
     {
