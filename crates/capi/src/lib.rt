@@ -52,8 +52,9 @@ pub extern "C" fn crpm_open(
         clients,
         trace,
     );
-    let none = Session::fresh(Layout::new(0, 0, 0), Session::ADR);
-    interface::give_answer(session, ops, none, opened)
+    // a refused opening answers a session of zeros
+    let zeros = Session::fresh(Layout::new(0, 0, 0), Session::ADR);
+    interface::give_answer(session, ops, zeros, opened)
 }
 
 // Write: the session afterwards, and the number of its operations.

@@ -37,7 +37,7 @@ use Rattle.driver.specs.Stepped.{Report, report_of, Reports, Called, carried, St
 
 module _ (o : Outcome) (T : Trace) (r : Report) (t : Trace) (g : Reports o T r t) where
   -- the operations that are reported stand on the trace
-  pub part_inside : 3 * r.ops ≤ length t
+  part_inside : 3 * r.ops ≤ length t
   unfolding written
   part_inside =
       omega (arith, g.2, ap (λ (x : Trace). length x) g.3, length-append (encode o.ops) (drop (3 * length o.ops) T), length-encode o.ops)
