@@ -27,13 +27,14 @@ pub extern "C" fn crpm_sizes(image: &[u8], mains: &mut u64, backups: &mut u64, b
 }
 
 // Puts a text at the start of a buffer that is long enough for it.
+#[tactic(auto, unfolding(crate::specs::Fitted::fitted))]
 fn hand_over(text: &[u8], out: &mut [u8])
     ensures { out.new ≡ fitted text.now out.old }
 {
-    if out.len() < text.len() {
-        return;
+    let size = text.len();
+    if size <= out.len() {
+        out[..size].copy_from_slice(text);
     }
-    printer::append_text(out, 0, text);
 }
 
 // The text of one image; returned is the number that a read gives.
@@ -52,11 +53,9 @@ pub extern "C" fn crpm_dump_text(
 {
     let mut text = [0u8; inspect::MOST_TEXT];
     let dumped = inspect::dump_text(image, Layout::new(mains, backups, blocks), &mut text);
-    let end = dumped.size;
-    hand_over(&text[..end], out);
-    *size = end as u64;
-    let status = dumped.status;
-    status.code()
+    hand_over(&text[..dumped.size], out);
+    *size = dumped.size as u64;
+    model::status_code(dumped.status)
 }
 
 // The text of two images compared; returned is the number of the comparison.
@@ -76,9 +75,7 @@ pub extern "C" fn crpm_same_text(
 {
     let mut text = [0u8; unlike::MOST_TEXT];
     let compared = unlike::same_text(a, b, Layout::new(mains, backups, blocks), &mut text);
-    let end = compared.size;
-    hand_over(&text[..end], out);
-    *size = end as u64;
-    let status = compared.status;
-    status.code()
+    hand_over(&text[..compared.size], out);
+    *size = compared.size as u64;
+    model::status_code(compared.status)
 }

@@ -1,4 +1,3 @@
 pub mod WordLaws
-pub mod Texts
 pub mod PartLaws
 pub mod LineLaws

@@ -1,17 +1,17 @@
--- The first bytes of a word that are already in an array.
-use Prim.Native.Nat.{ℕ, ◌+◌, ◌≤◌, ◌<◌}
-use mathlib.Core.Path.{◌≡◌, ap, ◌∙◌}
+-- An array that is made by calls of a function: what it holds at each place.
+use Prim.Native.Nat.{ℕ, zero, suc, ◌+◌, ◌<◌}
+use mathlib.Core.Path.{◌≡◌, sym, subst, ◌∙◌}
+use mathlib.Core.List.{List}
 use native.Mathlib.Omega.{arith}
-use native.Mathlib.Nat.{zero-add}
-use lib.ListN.{length}
-use Rattle.model.specs.Words.{Image, byte_at, word_at}
-use Rattle.model.proofs.Laws.Words.{word_moved}
+use lib.ListN.{get_or}
+use denote.Param.Members.{Mut}
+use Rattle.std.specs.Fn.{Called}
+use Rattle.std.specs.Array.{IsFromFnResultFrom}
 
--- the first n bytes of the word at a place
-pub record Gathered (I : Image) (at : ℕ) (bytes : Image) (n : ℕ) : Type 0 where
-  pub within : n ≤ 8
-  pub long : length bytes ≡ 8
-  pub same : (k : ℕ) → k < n → byte_at bytes k ≡ byte_at I (at + k)
-
-pub gathered_word : (I : Image) (at : ℕ) (bytes : Image) (n : ℕ) → n ≡ 8 → Gathered I at bytes n → word_at bytes 0 ≡ word_at I at
-gathered_word I at bytes n e g = word_moved (byte_at bytes) (byte_at I) 0 at (λ k l. ap (byte_at bytes) (zero-add k) ∙ g.same k (omega arith))
+module _ {F : Type 0} (g : Mut F (ℕ × Unit {0}) ℕ) (f : F) (h : ℕ → ℕ) (ys : List ℕ) (made : (k y : ℕ) (q : F) → Called g f (k, tt) y q → (q ≡ f) × (y ≡ h k)) where
+  pub filled : (n i : ℕ) → IsFromFnResultFrom g f ys i n → (k j : ℕ) → k < n → i + k ≡ j → get_or ys j 0 ≡ h j
+  filled zero i x k j l e = absurd (omega arith)
+  filled (suc n) i (q, y, here, called, rest) zero j l e = let same : i ≡ j = omega arith in subst (λ (m : ℕ). get_or ys m 0 ≡ h m) same (here.1 0 ∙ (made i y q called).1)
+  filled (suc n) i (q, y, here, called, rest) (suc k) j l e =
+      let kept = (made i y q called).0 in
+      filled n (i + 1) (subst (λ (p : F). IsFromFnResultFrom g p ys (i + 1) n) kept rest) k j (omega arith) (omega arith)

@@ -19,3 +19,9 @@ pub record Appended (p : Page) (text : List ℕ) (p' : Page) : Type 0 where
   pub size : length p'.out.now ≡ length p.out.now
   pub holds : take p'.end p'.out.now ≡ take p.end p.out.now ++ text
   pub rest : drop p'.end p'.out.now ≡ drop p'.end p.out.now
+
+-- promised where the text is known in other terms: the page p' has the same buffer, and no more than n bytes more are held
+pub record Grown (p : Page) (n : ℕ) (p' : Page) : Type 0 where
+  pub same : p'.out.ghost_name ≡ p.out.ghost_name
+  pub size : length p'.out.now ≡ length p.out.now
+  pub upper_bound : p'.end ≤ p.end + n

@@ -3,16 +3,17 @@
 
 #![tactic(auto)]
 
-ghost use Rattle.std.specs.Prelude.{◌≡◌, ◌++◌, ◌+◌, ◌*◌, ◌≤◌, length, drop};
-ghost use Rattle.model.specs.Status.{code_of};
-ghost use Rattle.model.specs.Reads.{checkpoint_block};
+ghost use Rattle.std.specs.Prelude.{◌≡◌, ◌++◌, ◌+◌, ◌*◌, length, drop};
+ghost use Rattle.model.specs.Status.{code_of, refusal_number};
 ghost use Rattle.model.specs.Same.{same_outcome};
 ghost use Rattle.io.specs.Counts.{IsPrefixLen};
-ghost use Rattle.printer.specs.Decimal.{number_size, Appended};
+ghost use Rattle.printer.specs.Decimal.{number_size};
+ghost use Rattle.printer.specs.Page.{Room, Appended};
 ghost use Rattle.unlike.specs.SameText.{block_unlike, initial_unlike, main_unlike, first_main, first_block, first_byte, place_text, unlike_text, refused_text, same_text};
 
 use inspect::Dumped;
-use model::{Layout, Status};
+use model::{Layout, Refusal};
+use printer::Page;
 
 // The most bytes of a text: three numbers and the words around them.
 pub const MOST_TEXT: usize = 85;
@@ -23,23 +24,22 @@ const BLOCK_SIZE: usize = Layout::BLOCK_SIZE as usize;
 // ---- what tells two images apart
 
 // Whether a main segment has a checkpoint in one of two images alone.
+#[tactic(auto, unfolding(crate::specs::SameText::initial_unlike))]
 fn initial_unlike(a: &[u8], b: &[u8], layout: Layout, main: u64) -> bool
     ensures { result ≡ initial_unlike layout a.now b.now main }
 {
     let x = reads::checkpoint_part(a, layout, main, 0);
     let y = reads::checkpoint_part(b, layout, main, 0);
-    !((x.size == 0) == (y.size == 0))
+    (x.size == 0) != (y.size == 0)
 }
 
 // Whether a block has other checkpoint bytes in one image than in the other.
+#[tactic(auto, using(inspect::proofs::PartLaws::checkpoint_long), unfolding(crate::specs::SameText::block_unlike))]
 fn block_unlike(a: &[u8], b: &[u8], layout: Layout, main: u64, block: u64) -> bool
     ensures { result ≡ block_unlike layout a.now b.now main block }
 {
-    let mains = layout.mains;
-    let backups = layout.backups;
-    let blocks = layout.blocks;
-    let x = reads::crpm_read_checkpoint(a, mains, backups, blocks, main, block);
-    let y = reads::crpm_read_checkpoint(b, mains, backups, blocks, main, block);
+    let x = reads::crpm_read_checkpoint(a, layout, main, block);
+    let y = reads::crpm_read_checkpoint(b, layout, main, block);
     !inspect::parts_same(x, y)
 }
 
@@ -48,24 +48,17 @@ fn first_block(a: &[u8], b: &[u8], layout: Layout, main: u64) -> u64
     ensures { result ≡ first_block layout a.now b.now main }
 {
     let blocks = layout.blocks;
-    let mut k = 0;
-    while k < blocks {
-        if block_unlike(a, b, layout, main, k) {
-            return k;
-        }
-        k += 1;
-    }
-    k
+    (0..blocks)
+        .find(|block| block_unlike(a, b, layout, main, *block))
+        .unwrap_or(blocks)
 }
 
 // Whether a main segment tells the two images apart.
+#[tactic(auto, using(model::proofs::Laws::Range::any_first), unfolding(crate::specs::SameText::main_unlike, crate::specs::SameText::first_block))]
 fn main_unlike(a: &[u8], b: &[u8], layout: Layout, main: u64) -> bool
     ensures { result ≡ main_unlike layout a.now b.now main }
 {
-    if initial_unlike(a, b, layout, main) {
-        return true;
-    }
-    first_block(a, b, layout, main) < layout.blocks
+    initial_unlike(a, b, layout, main) || first_block(a, b, layout, main) < layout.blocks
 }
 
 // The first main segment that does, or the number of main segments.
@@ -73,79 +66,58 @@ fn first_main(a: &[u8], b: &[u8], layout: Layout) -> u64
     ensures { result ≡ first_main layout a.now b.now }
 {
     let mains = layout.mains;
-    let mut i = 0;
-    while i < mains {
-        if main_unlike(a, b, layout, i) {
-            return i;
-        }
-        i += 1;
-    }
-    i
+    (0..mains)
+        .find(|main| main_unlike(a, b, layout, *main))
+        .unwrap_or(mains)
 }
 
 // The first byte in which two blocks differ, or the bytes of a block; one that is not there counts as zeros.
 fn first_byte(x: &[u8], y: &[u8]) -> u64
     ensures { result ≡ first_byte x.now y.now }
 {
-    let mut k = 0;
-    while k < BLOCK_SIZE {
-        if inspect::byte_or_zero(x, k) != inspect::byte_or_zero(y, k) {
-            return k as u64;
-        }
-        k += 1;
-    }
-    k as u64
-}
-
-// The first byte in which a block of the one image differs from that of the other.
-fn first_byte_of(a: &[u8], b: &[u8], layout: Layout, main: u64, block: u64) -> u64
-    ensures { result ≡ first_byte (checkpoint_block layout a.now main block) (checkpoint_block layout b.now main block) }
-{
-    let mains = layout.mains;
-    let backups = layout.backups;
-    let blocks = layout.blocks;
-    let x = reads::crpm_read_checkpoint(a, mains, backups, blocks, main, block);
-    let y = reads::crpm_read_checkpoint(b, mains, backups, blocks, main, block);
-    first_byte(x, y)
+    let differ = |k: &usize| inspect::byte_or_zero(x, *k) != inspect::byte_or_zero(y, *k);
+    (0..BLOCK_SIZE).find(differ).unwrap_or(BLOCK_SIZE) as u64
 }
 
 // ---- the text
 
 // Appends where a main segment differs, and the end of the line.
-fn append_place(a: &[u8], b: &[u8], layout: Layout, main: u64, out: &mut [u8], from: usize) -> usize
-    requires { from + 12 + 2 * number_size ≤ length out.old }
-    ensures { Appended out.old from (place_text layout a.now b.now main) out.new result }
+fn append_place(a: &[u8], b: &[u8], layout: Layout, main: u64, page: &mut Page)
+    requires { Room page.old (12 + 2 * number_size) }
+    ensures { Appended page.old (place_text layout a.now b.now main) page.new }
 {
     let block = first_block(a, b, layout, main);
-    if layout.blocks <= block {
-        return printer::append_text(out, from, b" frame=- at=-\n");
+    if block < layout.blocks {
+        let x = reads::crpm_read_checkpoint(a, layout, main, block);
+        let y = reads::crpm_read_checkpoint(b, layout, main, block);
+        page.keyed(b" frame=", block);
+        page.number(b" at=", first_byte(x, y), b"\n");
+    } else {
+        page.text(b" frame=- at=-\n");
     }
-    let byte = first_byte_of(a, b, layout, main, block);
-    let end = printer::append_keyed(out, from, b" frame=", block);
-    printer::append_number(out, end, b" at=", byte, b"\n")
 }
 
-// The text of two images that are unlike, at the start of a buffer.
-fn append_unlike(a: &[u8], b: &[u8], layout: Layout, out: &mut [u8]) -> usize
-    requires { 25 + 3 * number_size ≤ length out.old }
-    ensures { Appended out.old 0 (unlike_text layout a.now b.now) out.new result }
+// Appends the text of two images that are unlike.
+fn append_unlike(a: &[u8], b: &[u8], layout: Layout, page: &mut Page)
+    requires { Room page.old (25 + 3 * number_size) }
+    ensures { Appended page.old (unlike_text layout a.now b.now) page.new }
 {
     let main = first_main(a, b, layout);
-    let end = printer::append_keyed(out, 0, b"same=0 level=", main);
-    append_place(a, b, layout, main, out, end)
+    page.keyed(b"same=0 level=", main);
+    append_place(a, b, layout, main, page);
 }
 
-// The text of two images of which the first or the second is refused, at the start of a buffer.
-fn append_refused(a: &[u8], layout: Layout, code: u64, out: &mut [u8]) -> usize
-    requires { 17 + number_size ≤ length out.old }
-    ensures { Appended out.old 0 (refused_text layout a.now code) out.new result }
+// Appends the text of two images of which the first or the second is refused.
+fn append_refused(a: &[u8], layout: Layout, refusal: Refusal, page: &mut Page)
+    requires { Room page.old (17 + number_size) }
+    ensures { Appended page.old (refused_text layout a.now (refusal_number refusal)) page.new }
 {
-    let first = reads::read_status(a, layout, 0, 0);
-    let end = printer::append_keyed(out, 0, b"refusal=", code);
-    if first.is_served() {
-        return printer::append_text(out, end, b" image=B\n");
+    page.keyed(b"refusal=", u64::from(refusal));
+    if reads::read_status(a, layout, 0, 0).is_ok() {
+        page.text(b" image=B\n");
+    } else {
+        page.text(b" image=A\n");
     }
-    printer::append_text(out, end, b" image=A\n")
 }
 
 // What the comparison shows of two images, at the start of a buffer.
@@ -154,25 +126,15 @@ pub fn same_text(a: &[u8], b: &[u8], layout: Layout, out: &mut [u8; MOST_TEXT]) 
     ensures prefix_len { IsPrefixLen result.size out.new }
     ensures size_value { (result.size ≡ length (same_text layout a.now b.now)) × (out.new ≡ same_text layout a.now b.now ++ drop result.size out.old) }
 {
-    let compared = same::crpm_same_checkpoint(a, b, layout.mains, layout.backups, layout.blocks);
-    let status = compared.status;
-    if !status.is_served() {
-        let refused = append_refused(a, layout, status.code(), out);
-        return Dumped {
-            status: status,
-            size: refused,
-        };
+    let mut page = Page::new(out);
+    let compared = same::crpm_same_checkpoint(a, b, layout);
+    match compared {
+        Err(refusal) => append_refused(a, layout, refusal, &mut page),
+        Ok(true) => page.text(b"same=1\n"),
+        Ok(false) => append_unlike(a, b, layout, &mut page),
     }
-    if compared.same {
-        let alike = printer::append_text(out, 0, b"same=1\n");
-        return Dumped {
-            status: status,
-            size: alike,
-        };
-    }
-    let size = append_unlike(a, b, layout, out);
     Dumped {
-        status: status,
-        size: size,
+        status: compared.map(|_| ()),
+        size: page.end,
     }
 }

@@ -1,43 +1,51 @@
 use mathlib.Core.Path.{◌≡◌, refl, sym, ◌∙◌}
 use native.Mathlib.Omega.{arith}
-use Rattle.model.specs.Range.{any_b}
-use Rattle.printer.proofs.AppendedLaws.{appended_as}
-use Rattle.inspect.specs.DumpText.{block_differs}
-use Rattle.inspect.proofs.Texts.{dash-text}
-use Rattle.inspect.proofs.LineLaws.{listed_none, listed_more, any_more, list_some, list_none}
-use borrow.Author.Rules.{rules}
+use Rattle.std.proofs.Math.Bool.{or-false}
+use Rattle.model.specs.Range.{cat, any_b}
+use Rattle.model.proofs.Laws.Range.{or_right}
+use Rattle.text.specs.Text.{text}
+use Rattle.printer.proofs.AppendedLaws.{appended_none, appended_then}
+use Rattle.inspect.specs.DumpText.{block_differs, listed, list_text}
+use Rattle.inspect.proofs.LineLaws.{listed_more, listed_same, any_more, listed_nothing}
 use Rattle.inspect.proofs.append_list.Goals as goal
+use Rattle.inspect.proofs.append_list.Goals.{then-block_differs, else-block_differs}
 
-pub loop-b-init : goal.loop-b-init
-unfolding any_b
-loop-b-init c =
+pub loop-block-preserved : goal.loop-block-preserved
+loop-block-preserved c =
+    let l = c.loop-block in
     let a = c.args in
-    (search rules, omega arith, omega arith, refl, listed_none _ a.out.now a.from)
-
-pub loop-b-preserved : goal.loop-b-preserved
-loop-b-preserved c =
-    let l = c.loop-b in
-    let a = c.args in
-    let d = c.block_differs-differs.ensures in (
-      omega arith,
-      omega (arith, l.invariant.1, c.append_item-place.ensures.upper_bound),
-      omega (arith, l.invariant.2, c.append_item-place.ensures.appended.size),
-      any_more (block_differs a.layout a.image.now a.main) l.b l.invariant.3 d,
-      listed_more (block_differs a.layout a.image.now a.main) l.b l.invariant.3 d l.invariant.4 c.append_item-place.ensures.appended,
-    )
-
-pub returns-then-seen-clause-appended : goal.returns-then-seen-clause-appended
-returns-then-seen-clause-appended c =
-    let l = c.loop-b in
-    let a = c.args in
-    let e : l.b ≡ a.layout.blocks = omega arith in
     let p = block_differs a.layout a.image.now a.main in
-    rw e at (list_some p l.b (sym l.invariant.3 ∙ c.if-seen.true) l.invariant.4)
+    elim c.if-block_differs.branch [
+      | then-block_differs w ↦
+          let on = sym c.block_differs.ensures ∙ w.if-block_differs.true in
+          rw (w.page-is, w.seen-is) (record {
+            upper_bound = omega (arith, w.append_item.ensures.upper_bound);
+            seen = sym (any_more p l.block ∙ or_right (any_b l.block p) on);
+            appended = listed_more p l.block on l.invariant.appended (rw l.invariant.seen at w.append_item.ensures.appended);
+          })
+      | else-block_differs w ↦
+          let off = sym c.block_differs.ensures ∙ w.if-block_differs.false in
+          rw (w.page-is, w.seen-is) (record {
+            upper_bound = omega arith;
+            seen = rw (any_more p l.block, off) (l.invariant.seen ∙ sym (or-false _));
+            appended = listed_same p l.block off l.invariant.appended;
+          })
+    ]
 
-pub returns-clause-appended : goal.returns-clause-appended
-returns-clause-appended c =
-    let l = c.loop-b in
+pub returns-then-not-seen-clause-appended : goal.returns-then-not-seen-clause-appended
+unfolding list_text text cat
+returns-then-not-seen-clause-appended c =
+    let l = c.loop-block in
     let a = c.args in
-    let e : l.b ≡ a.layout.blocks = omega arith in
-    let p = block_differs a.layout a.image.now a.main in
-    rw e at (list_none p l.b (sym l.invariant.3 ∙ c.if-seen.false) l.invariant.4 (appended_as dash-text c.append_text.ensures))
+    let e : l.block ≡ a.layout.blocks = omega arith in
+    let none = rw e at (sym l.invariant.seen ∙ c.if-not-seen.true) in
+    let listed = rw (e, listed_nothing (block_differs a.layout a.image.now a.main) a.layout.blocks none) at l.invariant.appended in
+    rw none (appended_then listed c.text.ensures)
+
+pub returns-else-not-seen-clause-appended : goal.returns-else-not-seen-clause-appended
+unfolding list_text
+returns-else-not-seen-clause-appended c =
+    let l = c.loop-block in
+    let e : l.block ≡ c.args.layout.blocks = omega arith in
+    let some = rw e at (sym l.invariant.seen ∙ c.if-not-seen.false) in
+    rw some (rw e at l.invariant.appended)

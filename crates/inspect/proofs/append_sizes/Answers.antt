@@ -1,11 +1,10 @@
+use Rattle.model.specs.Range.{cat}
+use Rattle.text.specs.Text.{text}
 use Rattle.printer.proofs.AppendedLaws.{appended_then}
 use Rattle.inspect.specs.DumpText.{sizes_text}
-use Rattle.inspect.proofs.Texts.{keyed_as, bytes_text, mains_text, spares_text, frames_text}
 use Rattle.inspect.proofs.append_sizes.Goals as goal
 
 pub returns-clause-appended : goal.returns-clause-appended
-unfolding sizes_text
+unfolding sizes_text text cat
 returns-clause-appended c =
-    appended_then
-    (appended_then (appended_then (keyed_as _ bytes_text c.append_keyed-length.ensures.appended) (keyed_as _ mains_text c.append_keyed-mains.ensures.appended))
-    (keyed_as _ spares_text c.append_keyed-backups.ensures.appended)) (keyed_as _ frames_text c.append_keyed.ensures.appended)
+    appended_then (appended_then (appended_then c.keyed.ensures.appended c.keyed-2.ensures.appended) c.keyed-3.ensures.appended) c.keyed-4.ensures.appended

@@ -1,18 +1,20 @@
-use mathlib.Core.Path.{◌∙◌}
 use native.Mathlib.Omega.{arith}
-use Rattle.printer.proofs.AppendedLaws.{appended_then, appended_as, number_text}
-use Rattle.inspect.proofs.Texts.{keyed_as}
-use Rattle.unlike.proofs.Texts.{frame_text, at_text, line_end-text, no_place_text}
-use Rattle.unlike.proofs.TextLaws.{place_none, place_some}
+use borrow.Author.Tests.{lt-ltb, le-ltb}
+use Rattle.model.specs.Range.{cat}
+use Rattle.text.specs.Text.{text}
+use Rattle.printer.proofs.AppendedLaws.{appended_then}
+use Rattle.unlike.specs.SameText.{place_text}
 use Rattle.unlike.proofs.append_place.Goals as goal
 
-pub returns-then-layout-block : goal.returns-then-layout-block
-returns-then-layout-block c =
-    let a = c.args in
-    appended_as (no_place_text ∙ place_none a.layout a.a.now a.b.now a.main (omega (arith, c.first_block-block.ensures))) c.append_text.ensures
+pub returns-then-block-layout : goal.returns-then-block-layout
+unfolding place_text text cat
+returns-then-block-layout c =
+    let block = c.first_block-block in
+    rw (← block.ensures, lt-ltb block.result c.args.layout.blocks (omega arith), ← c.crpm_read_checkpoint-x.ensures.result_value, ← c.crpm_read_checkpoint-y.ensures.result_value, ← c.first_byte.ensures)
+    (appended_then c.keyed.ensures.appended c.number.ensures.appended)
 
-pub returns : goal.returns
-returns c =
-    let a = c.args in
-    appended_as (place_some a.layout a.a.now a.b.now a.main _ _ c.first_block-block.ensures (omega arith) c.first_byte_of-byte.ensures)
-    (appended_then (keyed_as _ frame_text c.append_keyed-end.ensures.appended) (appended_as (number_text _ _ _ _ _ at_text line_end-text) c.append_number.ensures.appended))
+pub returns-else-block-layout : goal.returns-else-block-layout
+unfolding place_text text cat
+returns-else-block-layout c =
+    let block = c.first_block-block in
+    rw (← block.ensures, le-ltb block.result c.args.layout.blocks (omega arith)) c.text.ensures

@@ -1,19 +1,17 @@
-use mathlib.Core.Path.{◌≡◌, sym, ◌∙◌}
-use native.Mathlib.Omega.{arith}
-use Rattle.model.proofs.Laws.Range.{first_none, first_found}
-use Rattle.unlike.specs.SameText.{first_block}
+use mathlib.Core.Path.{◌≡◌, ◌∙◌}
+use Prim.Native.Nat.{ℕ}
+use mathlib.Core.Bool.{true, false}
+use Rattle.std.proofs.Common.{rules, tests}
+use Rattle.std.proofs.lemmas.Iterator.{first_from_Range}
+use Rattle.unlike.specs.SameText.{block_unlike, first_block}
+use Rattle.unlike.proofs.TextLaws.{found_first}
 use Rattle.unlike.proofs.first_block.Goals as goal
-
-pub returns-then-block_unlike : goal.returns-then-block_unlike
-unfolding first_block
-returns-then-block_unlike c =
-    let l = c.loop-k in
-    let t = c.loop-k-test.true in
-    sym (first_found _ _ l.k t l.invariant.1 (sym c.block_unlike.ensures ∙ c.if-block_unlike.true))
 
 pub returns : goal.returns
 unfolding first_block
 returns c =
-    let l = c.loop-k in
-    let e : l.k ≡ c.args.layout.blocks = omega arith in
-    e ∙ sym (first_none _ _ (λ k h. l.invariant.1 k (omega arith)))
+    let a = c.args in
+    let p = block_unlike a.layout a.a.now a.b.now a.main in
+    c.unwrap_or.ensures
+    ∙ found_first a.layout.blocks p c.find.result
+    (first_from_Range _ _ _ c.find.result (λ (k : ℕ). p k ≡ true) (λ (k : ℕ). p k ≡ false) c.find.ensures.ran (λ x q k. search (rules, tests)) (λ x q k. search (rules, tests)))

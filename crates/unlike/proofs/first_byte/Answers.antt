@@ -1,22 +1,18 @@
-use mathlib.Core.Path.{◌≡◌, sym, ◌∙◌}
-use native.Mathlib.Omega.{arith}
-use Rattle.model.proofs.Laws.Range.{first_none, first_found}
+use mathlib.Core.Path.{◌≡◌, ◌∙◌}
+use Prim.Native.Nat.{ℕ}
+use mathlib.Core.Bool.{true, false, not}
+use lib.Dec.{eqb}
+use lib.ListN.{get_or}
+use Rattle.std.proofs.Common.{rules, tests}
+use Rattle.std.proofs.lemmas.Iterator.{first_from_Range}
 use Rattle.unlike.specs.SameText.{first_byte}
-use Rattle.unlike.proofs.TextLaws.{differ}
+use Rattle.unlike.proofs.TextLaws.{found_first}
 use Rattle.unlike.proofs.first_byte.Goals as goal
-
-pub returns-then-byte_or_zero : goal.returns-then-byte_or_zero
-unfolding first_byte
-returns-then-byte_or_zero c =
-    let l = c.loop-k in
-    let t = c.loop-k-test.true in
-    let x = c.byte_or_zero.ensures in
-    let y = c.byte_or_zero-in-loop-k.ensures in
-    sym (first_found _ _ l.k t l.invariant.1 (differ _ _ (λ e. c.if-byte_or_zero.true (x ∙ e ∙ sym y))))
 
 pub returns : goal.returns
 unfolding first_byte
 returns c =
-    let l = c.loop-k in
-    let e : l.k ≡ 256 = omega arith in
-    e ∙ sym (first_none _ _ (λ k h. l.invariant.1 k (omega arith)))
+    let p = λ (k : ℕ). not (eqb (get_or c.args.x.now k 0) (get_or c.args.y.now k 0)) in
+    c.unwrap_or.ensures
+    ∙ found_first 256 p c.find.result
+    (first_from_Range _ _ _ c.find.result (λ (k : ℕ). p k ≡ true) (λ (k : ℕ). p k ≡ false) c.find.ensures.ran (λ x q k. search (rules, tests)) (λ x q k. search (rules, tests)))
