@@ -1,4 +1,3 @@
-pub mod Texts
 pub mod CallLaws
 pub mod OpenLaws
 pub mod SheetTrace

@@ -1,16 +1,16 @@
 -- What the contracts of the calls of a sheet say; a helper's, nothing that users rely on is said in its terms. Wherever a sheet
--- stands with the image I and the session and the record of `a`, and the buffer `out` holds a text up to the place of `a`: I', `out'`
--- and `r` are the image, the buffer, and the session, the record and the place afterwards. Assumes nothing.
-use Rattle.std.specs.Prelude.{ℕ, ◌+◌, ◌≡◌, Bool, List, [], ◌∷◌, ◌++◌}
+-- stands at s and the page is p: s' and p' are where it stands and the page afterwards. Assumes nothing.
+use Rattle.std.specs.Prelude.{ℕ, ◌+◌, ◌≡◌, Bool, List, [], ◌∷◌, ◌++◌, length}
 use Prim.Native.String.{String}
 use Rattle.model.specs.declared.Layout.{Layout}
-use Rattle.model.specs.Words.{Image}
+use Rattle.model.specs.Outcome.{Told}
 use Rattle.model.specs.Reference.{CallArgs}
-use Rattle.clients.specs.Words.{client_in}
 use Rattle.text.specs.Text.{text}
 use Rattle.parser.specs.Script.{Group}
-use Rattle.printer.specs.Decimal.{number_size, decimal, Appended}
-use Rattle.calls.specs.declared.Ran.{Ran}
+use Rattle.printer.specs.declared.Page.{Page}
+use Rattle.printer.specs.Decimal.{number_size, decimal}
+use Rattle.printer.specs.Page.{Appended}
+use Rattle.calls.specs.declared.Sheet.{Sheet}
 use Rattle.calls.specs.declared.GroupParts.{GroupParts}
 use Rattle.calls.specs.Printed.{Board, answer_on, board_step, answer_text, checkpointed, checkpoint_text, opened_board, open_text}
 
@@ -27,30 +27,33 @@ call_size = 6 + answer_size
 -- ---- texts and groups by their parts
 
 -- an answer, by the bytes of its key
-abbrev pub answer_of : List ℕ → ℕ → ℕ → List ℕ
-answer_of k code ops = k ++ decimal code ++ text " orders=" ++ decimal ops
+abbrev pub answer_of : List ℕ → Told → List ℕ
+answer_of k t = k ++ decimal t.status ++ text " orders=" ++ decimal t.ops
 
 -- a group of these parts and bytes
 abbrev pub group_of_parts : GroupParts → List ℕ → Group
-group_of_parts g bytes = record { main = g.main; block = g.block; offset = g.offset; bytes = bytes; checkpoint = g.checkpoint }
+group_of_parts g bytes = record { main = g.place.main; block = g.place.block; offset = g.place.offset; bytes = bytes; checkpoint = g.checkpoint }
 
 -- ---- calls
 
--- a sheet stands with this image, and with the session and the record of `a`
-abbrev pub BoardAt : Board → Image → Ran → Type 0
-BoardAt b I a = (b.device.image ≡ I) × (b.device.session ≡ a.session) × (b.clients ≡ client_in a.client ∷ [])
+-- s' has the image of s, which keeps its length
+pub record Kept (s s' : Sheet) : Type 0 where
+  pub same : s'.image.ghost_name ≡ s.image.ghost_name
+  pub size : length s'.image.now ≡ length s.image.now
+
+-- a sheet stands at this image, and with this session and record
+abbrev pub BoardAt : Board → Sheet → Type 0
+BoardAt b s = (b.device.image ≡ s.image.now) × (b.device.session ≡ s.session) × (b.clients ≡ s.client ∷ [])
 
 -- the opening of a formatted image, and its line
-abbrev pub Opened : Layout → List ℕ → Image → List ℕ → Ran → Type 0
-Opened l out I' out' r = Appended out 0 (open_text l) out' r.place × BoardAt (opened_board l) I' r
+abbrev pub Opened : Layout → Page → Sheet → Page → Type 0
+Opened l p s' p' = Appended p (open_text l) p' × BoardAt (opened_board l) s'
 
 -- a call, made and replayed, and its answer
-abbrev pub CallRan : Image → Ran → CallArgs → String → List ℕ → Image → List ℕ → Ran → Type 0
-CallRan I a c key out I' out' r =
-    (b : Board) → BoardAt b I a → Appended out a.place (answer_text key (answer_on b c)) out' r.place × BoardAt (board_step b c) I' r
+abbrev pub CallRan : Sheet → CallArgs → String → Page → Sheet → Page → Type 0
+CallRan s c key p s' p' = (b : Board) → BoardAt b s → Appended p (answer_text key (answer_on b c)) p' × BoardAt (board_step b c) s'
 
 -- a checkpoint, if it is wanted, and its text behind a space
-abbrev pub CheckpointRan : Image → Ran → Bool → List ℕ → Image → List ℕ → Ran → Type 0
-CheckpointRan I a wanted out I' out' r =
-    (b : Board) → BoardAt b I a
-    → Appended out a.place (text " " ++ checkpoint_text b wanted) out' r.place × BoardAt (checkpointed b wanted) I' r
+abbrev pub CheckpointRan : Sheet → Bool → Page → Sheet → Page → Type 0
+CheckpointRan s wanted p s' p' =
+    (b : Board) → BoardAt b s → Appended p (text " " ++ checkpoint_text b wanted) p' × BoardAt (checkpointed b wanted) s'

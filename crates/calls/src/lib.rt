@@ -4,13 +4,17 @@
 #![tactic(auto)]
 
 ghost use Rattle.std.specs.Prelude.{◌+◌, ◌≤◌, ◌≡◌, true, length};
-ghost use Rattle.model.specs.Layout.{sizes_ok, image_size};
-ghost use Rattle.printer.specs.Decimal.{Appended};
-ghost use Rattle.calls.specs.Printed.{write_of};
-ghost use Rattle.calls.specs.Ran.{answer_size, call_size, answer_of, group_of_parts, Opened, CallRan, CheckpointRan};
+ghost use Rattle.model.specs.Layout.{word_size, sizes_ok, image_size};
+ghost use Rattle.model.specs.Container.{committed_epoch};
+ghost use Rattle.model.specs.Outcome.{told};
+ghost use Rattle.model.specs.Reference.{write_args};
+ghost use Rattle.model.specs.Write.{write_args_of};
+ghost use Rattle.printer.specs.Page.{Room, Appended, Grown};
+ghost use Rattle.calls.specs.Ran.{answer_size, call_size, answer_of, Kept, Opened, CallRan, CheckpointRan};
 
-use clients::CLIENT_WORDS;
-use model::{Layout, Session};
+use model::{Answer, Client, Layout, Place, Refusal, Session};
+use printer::Page;
+use std::slice;
 
 // The numbers of the trace that every call gets, enough for an opening that copies every main segment whole.
 const TRACE_NUMBERS: usize = trace::OP_NUMBERS
@@ -19,122 +23,114 @@ const TRACE_NUMBERS: usize = trace::OP_NUMBERS
 // The one client of a sheet (the trade: console), which makes every write.
 const CLIENT: u64 = 0;
 
-// What a part of a sheet's run leaves: the session, the record of the one client, and the place behind the printed text.
-#[derive(Clone, Copy)]
-pub struct Ran {
-    pub session: Session,
-    pub client: [u64; CLIENT_WORDS],
-    pub place: usize,
-}
-
 // A group of a sheet but for its bytes.
 #[derive(Clone, Copy)]
 pub struct GroupParts {
-    pub main: u64,
-    pub block: u64,
-    pub offset: u64,
+    pub place: Place,
     // Whether a checkpoint follows the write (the trade: save).
     pub checkpoint: bool,
 }
 
-// Appends a key, an answer number and a number of operations (the trade: orders).
-fn append_answer(out: &mut [u8], from: usize, key: &[u8], code: u64, ops: u64) -> usize
-    requires { from + length key.now + answer_size ≤ length out.old }
-    ensures appended { Appended out.old from (answer_of key.now code ops) out.new result }
-    ensures upper_bound { result ≤ from + length key.now + answer_size }
-{
-    let count = printer::append_number(out, from, key, code, b" orders=");
-    printer::append_decimal(out, count, ops)
+// Where a sheet stands: the image of its module, the session, and the record of the one client.
+#[derive(Drop)]
+pub struct Sheet<'a> {
+    pub image: &'a mut [u8],
+    pub session: Session,
+    pub client: Client,
 }
 
-// Formats an image (the trade: lays out), opens it, replays the opening, and prints its line.
-pub fn run_open(image: &mut [u8], layout: Layout, out: &mut [u8]) -> Ran
-    requires { (length image.old ≡ image_size layout) × (sizes_ok layout ≡ true) × (call_size ≤ length out.old) }
-    ensures opened { Opened layout out.old image.new out.new result }
-    ensures place_le_call_size { result.place ≤ call_size }
-{
-    format::crpm_format(image, layout.mains, layout.backups, layout.blocks);
-    let mut clients = [[layout.backups, layout.backups, 0]];
-    let mut trace = [0u64; TRACE_NUMBERS];
-    let opened = driver::step_open(
-        image,
-        layout.mains,
-        layout.backups,
-        layout.blocks,
-        Session::ADR,
-        &mut clients,
-        &mut trace,
-    );
-    let status = opened.status;
-    let next = opened.session;
-    let left = clients[CLIENT as usize];
-    let end = append_answer(out, 0, b"open=", status.code(), opened.ops);
-    let place = printer::append_text(out, end, b"\n");
-    Ran {
-        session: next,
-        client: left,
-        place: place,
-    }
-}
-
-// The write of a group, made and replayed, and its answer.
-pub fn run_write(image: &mut [u8], ran: Ran, parts: GroupParts, bytes: &[u8], out: &mut [u8]) -> Ran
-    requires { ran.place + call_size ≤ length out.old }
-    ensures call_ran { CallRan image.old ran (write_of (group_of_parts parts bytes.now)) "write=" out.old image.new out.new result }
-    ensures place_bound { result.place ≤ ran.place + call_size }
-{
-    let client = ran.client;
-    let mut clients = [client];
-    let mut trace = [0u64; TRACE_NUMBERS];
-    let written = driver::step_write(
-        image,
-        ran.session,
-        &mut clients,
-        CLIENT,
-        parts.main,
-        parts.block,
-        parts.offset,
-        bytes,
-        &mut trace,
-    );
-    let status = written.status;
-    let next = written.session;
-    let left = clients[CLIENT as usize];
-    let place = append_answer(out, ran.place, b"write=", status.code(), written.ops);
-    Ran {
-        session: next,
-        client: left,
-        place: place,
-    }
-}
-
-// A checkpoint, if it is wanted (the trade: save), made and replayed, and its answer behind a space.
-pub fn run_checkpoint(image: &mut [u8], ran: Ran, wanted: bool, out: &mut [u8]) -> Ran
-    requires { ran.place + call_size ≤ length out.old }
-    ensures checkpoint_ran { CheckpointRan image.old ran wanted out.old image.new out.new result }
-    ensures place_bound { result.place ≤ ran.place + call_size }
-{
-    if !wanted {
-        let session = ran.session;
-        let client = ran.client;
-        let end = printer::append_text(out, ran.place, b" save=- orders=0");
-        return Ran {
-            session: session,
-            client: client,
-            place: end,
+impl<'a> Sheet<'a> {
+    // Formats an image (the trade: lays out), opens it, replays the opening, and prints its line.
+    pub fn open(image: &'a mut [u8], layout: Layout, page: &mut Page) -> Sheet<'a>
+        requires image_len { (length image.old ≡ image_size layout) × (sizes_ok layout ≡ true) }
+        requires room { Room page.old call_size }
+        ensures same { result.image.ghost_name ≡ image.entry.ghost_name }
+        ensures size { length result.image.now ≡ length image.old }
+        ensures opened { Opened layout page.old result page.new }
+        ensures grown { Grown page.old call_size page.new }
+    {
+        let _ = format::crpm_format(image, layout);
+        let mut client = Client {
+            reserved: layout.backups,
+            quota: layout.backups,
+            used: 0,
         };
+        let mut trace = [0; TRACE_NUMBERS];
+        let clients = slice::from_mut(&mut client);
+        let opened = driver::step_open(image, layout, Session::ADR, clients, &mut trace);
+        let session = Session::fresh(Layout::new(0, 0, 0), Session::ADR);
+        let mut sheet = Sheet {
+            image,
+            session,
+            client,
+        };
+        sheet.answered(b"open=", opened, page);
+        page.text(b"\n");
+        sheet
     }
-    let client = ran.client;
-    let mut clients = [client];
-    let mut trace = [0u64; TRACE_NUMBERS];
-    let checkpointed = driver::step_checkpoint(image, ran.session, &mut clients, &mut trace);
-    let status = checkpointed.status;
-    let next = checkpointed.session;
-    let left = clients[CLIENT as usize];
-    let place = append_answer(out, ran.place, b" save=", status.code(), checkpointed.ops);
-    Ran {
-        session: next,
-        client: left,
-        place: place,
+
+    // Takes the session that a call leaves, and appends a key, the number of the call's answer and that of its operations (the
+    // trade: orders).
+    fn answered(&mut self, key: &[u8], answer: Result<Answer, Refusal>, page: &mut Page)
+        requires { Room page.old (length key.now + answer_size) }
+        ensures same { (self.new.image.ghost_name ≡ self.old.image.ghost_name) × (self.new.image.now ≡ self.old.image.now) × (self.new.client ≡ self.old.client) }
+        ensures session { self.new.session ≡ (told self.old.session answer).session }
+        ensures appended { Appended page.old (answer_of key.now (told self.old.session answer)) page.new }
+        ensures upper_bound { page.new.end ≤ page.old.end + length key.now + answer_size }
+    {
+        let ops = match answer {
+            Ok(answer) => {
+                self.session = answer.session;
+                answer.ops
+            }
+            Err(_) => 0,
+        };
+        page.number(key, model::status_code(answer), b" orders=");
+        page.decimal(ops);
+    }
+
+    // The write of a group, made and replayed, and its answer.
+    pub fn write(&mut self, place: Place, bytes: &[u8], page: &mut Page)
+        requires { Room page.old call_size }
+        ensures kept { Kept self.old self.new }
+        ensures call_ran { CallRan self.old (write_args (write_args_of 0 place.main place.block place.offset bytes.now)) "write=" page.old self.new page.new }
+        ensures grown { Grown page.old call_size page.new }
+    {
+        let mut trace = [0; TRACE_NUMBERS];
+        let clients = slice::from_mut(&mut self.client);
+        let written = driver::step_write(
+            self.image,
+            self.session,
+            clients,
+            CLIENT,
+            place,
+            bytes,
+            &mut trace,
+        );
+        self.answered(b"write=", written, page);
+    }
+
+    // A checkpoint, if it is wanted (the trade: save), made and replayed, and its answer behind a space.
+    pub fn checkpoint(&mut self, wanted: bool, page: &mut Page)
+        requires { Room page.old call_size }
+        ensures kept { Kept self.old self.new }
+        ensures checkpoint_ran { CheckpointRan self.old wanted page.old self.new page.new }
+        ensures grown { Grown page.old call_size page.new }
+    {
+        if !wanted {
+            page.text(b" save=- orders=0");
+            return;
+        }
+        let mut trace = [0; TRACE_NUMBERS];
+        let clients = slice::from_mut(&mut self.client);
+        let checkpointed = driver::step_checkpoint(self.image, self.session, clients, &mut trace);
+        self.answered(b" save=", checkpointed, page);
+    }
+    // The epoch of the image.
+    pub fn epoch(&self) -> u64
+        requires { word_size ≤ length self.now.image.now }
+        ensures { result ≡ committed_epoch self.now.image.now }
+    {
+        words::word_at(self.image, Layout::EPOCH_AT as usize)
     }
 }

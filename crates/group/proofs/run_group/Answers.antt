@@ -1,24 +1,22 @@
-use mathlib.Core.Path.{refl}
-use mathlib.Core.List.{◌++◌}
-use native.Mathlib.Omega.{arith}
-use Rattle.printer.specs.Decimal.{decimal, Appended}
-use Rattle.printer.proofs.AppendedLaws.{appended_as, number_text}
-use Rattle.calls.specs.declared.Ran.{Ran}
+use mathlib.Core.Path.{sym, ap, ◌∙◌}
+use Prim.Native.Nat.{ℕ}
+use Rattle.model.specs.Range.{cat}
+use Rattle.model.specs.Words.{Image}
+use Rattle.model.specs.Container.{committed_epoch}
+use Rattle.text.specs.Text.{text}
+use Rattle.printer.proofs.AppendedLaws.{appended_then, appended_as}
+use Rattle.calls.specs.Printed.{board_step, write_of, after_group}
 use Rattle.calls.specs.Ran.{group_of_parts}
-use Rattle.calls.proofs.Texts.{line_end_bytes, line_end-text}
-use Rattle.group.proofs.Texts.{epoch_bytes, step-text, space_text, epoch_text_lem}
-use Rattle.group.proofs.GroupLaws.{group_ran}
+use Rattle.group.proofs.GroupLaws.{group_text_lem}
 use Rattle.group.proofs.run_group.Goals as goal
 
-pub returns : goal.returns
-returns c =
+pub returns-clause-group_ran : goal.returns-clause-group_ran
+unfolding after_group text cat
+returns-clause-group_ran c = λ b «is».
     let a = c.args in
-    let epoch = c.word_at-epoch.result in
-    let r : Ran = record { session = c.run_calls-called.result.session; client = c.run_calls-called.result.client; place = c.append_number-place.result } in
-    let last : Appended c.run_calls-called.new.out c.run_calls-called.result.place (epoch_bytes ++ decimal epoch ++ line_end_bytes) c.append_number-place.new.out c.append_number-place.result = c.append_number-place.ensures.appended in
-    record {
-      group_ran = group_ran _ a.ran a.n (group_of_parts a.parts a.bytes.now) _ _ _ _ epoch (record { session = a.ran.session; client = a.ran.client; place = c.append_number-start.result }) c.run_calls-called.result _ r (refl, refl)
-          (appended_as (number_text a.n _ _ _ _ step-text space_text) c.append_number-start.ensures.appended) c.run_calls-called.ensures.calls_ran c.word_at-epoch.ensures
-          (appended_as (number_text epoch _ _ _ _ epoch_text_lem line_end-text) last) (refl, refl);
-      place_bound = omega (arith, c.append_number-start.ensures.upper_bound, c.run_calls-called.ensures.place_bound);
-    }
+    let g = group_of_parts a.parts a.bytes.now in
+    let w = c.write.ensures.call_ran b «is» in
+    let k = c.checkpoint.ensures.checkpoint_ran (board_step b (write_of g)) w.1 in
+    let epoch = c.epoch-epoch.ensures ∙ ap committed_epoch (sym k.1.0) in
+    let line = appended_then (appended_then (appended_then c.number.ensures.appended w.0) k.0) c.number-2.ensures.appended in
+    (appended_as (group_text_lem b a.n g c.epoch-epoch.result epoch) line, k.1)
