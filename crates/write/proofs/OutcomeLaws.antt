@@ -1,45 +1,50 @@
 -- Laws of a whole write: what the refusals leave that do not depend on the plan, the status by its two halves, and the outcome.
-use Prim.Native.Nat.{ℕ, suc, ◌+◌, ◌<◌}
+use Prim.Native.Nat.{ℕ, suc, ◌+◌, ◌≤◌, ◌<◌}
 use mathlib.Core.Path.{◌≡◌, refl, sym, ap, ap₂, ◌∙◌}
 use mathlib.Core.Bool.{Bool, true, false, cond}
 use mathlib.Core.List.{◌++◌}
 use native.Mathlib.Omega.{arith}
 use lib.ListN.{length, set}
 use borrow.Author.Tests.{leb-false, not-false}
+use Rattle.std.specs.Prelude.{Result, Ok, Err}
 use Rattle.model.specs.declared.Session.{Session}
-use Rattle.model.specs.declared.Status.{Status}
-use Rattle.model.specs.declared.Status.TheVariants.{Served}
+use Rattle.model.specs.declared.Refusal.{Refusal}
 use Rattle.model.specs.declared.Plan.{Plan}
 use Rattle.model.specs.Words.{Image}
-use Rattle.model.specs.Layout.{image_size}
-use Rattle.model.specs.Status.{code_of, first_error, served}
-use Rattle.model.specs.Container.{active_state, backup_to_main, free_backups}
-use Rattle.model.specs.Session.{set_bit, set_bits, dirty_word, with_dirty}
-use Rattle.model.specs.Ops.{Ops, Trace, for_domain}
-use Rattle.model.specs.Clients.{Clients, client_at, with_used, share_errors}
-use Rattle.model.specs.Outcome.{lent, Gives}
-use Rattle.model.specs.Write.{WriteArgs, needs_copy, copies, none_free, copy_plan, copy_on_write_ops, span_at, span_words, span_blocks, span_stores, span_ops, write_ops, write_session, write_clients, early_errors, late_errors, write_status, write_outcome}
+use Rattle.model.specs.Layout.{most, image_size}
+use Rattle.model.specs.Status.{Errors, refusal_number, first_error}
+use Rattle.model.specs.Container.{active_state, backup_to_main, free_backups, main_errors, block_errors}
+use Rattle.model.specs.Session.{set_bit, set_bits, dirty_word, with_dirty, context_errors}
+use Rattle.model.specs.Ops.{Ops, Trace, for_domain, trace_errors}
+use Rattle.model.specs.Clients.{Clients, client_at, with_used, client_errors, share_errors}
+use Rattle.model.specs.Outcome.{lent, told, Gives}
+use Rattle.model.specs.Write.{WriteArgs, needs_copy, copies, none_free, copy_plan, copy_on_write_ops, span_at, span_words, span_blocks, span_stores, span_ops, write_ops, write_session, write_clients, span_bad, span_errors, early_errors, late_errors, write_status, write_outcome}
 use Rattle.model.proofs.Laws.Layout.{image_lines_lem, metadata_inside, segment_in_image}
-use Rattle.model.proofs.Laws.Status.{served_condition, after-served, stage_refused}
+use Rattle.model.proofs.Laws.Status.{first_fails, first_of_none, served_condition, after-served, refusal_refuses, stage_refused}
 use Rattle.model.proofs.Laws.Container.{container_then}
 use Rattle.model.proofs.Laws.Write.{plan_copies, span_good}
 use Rattle.model.proofs.Laws.Domain.{domain_stores}
 use Rattle.model.proofs.Laws.Counts.{length-stores, count_append}
-use Rattle.trace.specs.Emit.{Fits, Emitted}
-use Rattle.trace.proofs.EmitLaws.{fits_as, emitted_as}
+use Rattle.trace.specs.declared.Writer.{Writer}
+use Rattle.trace.specs.Emit.{Begun, Emitted}
+use Rattle.trace.proofs.EmitLaws.{emitted_as}
 use Rattle.trace.proofs.CallLaws.{gives_refused, gives_served}
 use Rattle.session.specs.Parts.{session_of}
 use Rattle.session.proofs.SessionLaws.{words_within}
 use Rattle.clients.proofs.RunLaws.{put_used}
 use Rattle.places.proofs.PlaceLaws.{image_bound}
 use Rattle.write.specs.declared.Written.{Written}
-use Rattle.write.specs.Steps.{plain_errors, SpanWritable}
+use Rattle.write.specs.Steps.{SpanWritable}
 use Rattle.write.specs.Written.{written_session, written_answer, written_clients}
 
 -- ---- refusals 1 to 8
 
+-- those of them that know nothing of the records
+abbrev plain_errors : Session → Image → WriteArgs → Errors
+plain_errors s I w = context_errors s I ++ main_errors s.layout w.main ++ block_errors s.layout w.block ++ span_errors s.layout w
+
 -- what they leave, where the code found none of them
-pub writable : (s : Session) (I : Image) (w : WriteArgs) → first_error (plain_errors s I w) ≡ 0 → SpanWritable s I w
+writable : (s : Session) (I : Image) (w : WriteArgs) → first_error (plain_errors s I w) ≡ 0 → SpanWritable s I w
 unfolding image_size
 writable s I w h =
     let c = (container_then s.layout I _ h).0 in
@@ -66,6 +71,39 @@ writable s I w h =
       span = g.2;
       word = words_within s (active_state I) (omega arith) (not-false _ (r 5)) w.main m;
     }
+
+-- ---- refusals 1 to 5, 13, and 6 to 8, one after the other
+
+module _ (s : Session) (I : Image) (w : WriteArgs) (x : 0 ≡ first_error (context_errors s I)) where
+  abbrev of_place : Errors
+  of_place = main_errors s.layout w.main ++ block_errors s.layout w.block
+
+  module _ (R : Clients) where
+    early : first_error (early_errors s I R w) ≡ first_error (client_errors s.layout R w.client ++ of_place ++ span_errors s.layout w)
+    early = after-served (context_errors s I) _ (omega arith) (sym x)
+
+    pub early_client : (r : Refusal) → refusal_number r ≡ first_error (client_errors s.layout R w.client) → refusal_number r ≡ first_error (early_errors s I R w)
+    early_client r h = stage_refused _ (client_errors s.layout R w.client) (of_place ++ span_errors s.layout w) h (refusal_refuses r) ∙ sym early
+
+    module _ (y : 0 ≡ first_error (client_errors s.layout R w.client)) where
+      after_client : first_error (early_errors s I R w) ≡ first_error (of_place ++ span_errors s.layout w)
+      after_client = early ∙ after-served (client_errors s.layout R w.client) (of_place ++ span_errors s.layout w) (omega arith) (sym y)
+
+      pub early_place : (r : Refusal) → refusal_number r ≡ first_error of_place → refusal_number r ≡ first_error (early_errors s I R w)
+      early_place r h = stage_refused _ of_place (span_errors s.layout w) h (refusal_refuses r) ∙ sym after_client
+
+      pub early_span : 0 ≡ first_error of_place → first_error (early_errors s I R w) ≡ first_error (span_errors s.layout w)
+      early_span z = after_client ∙ after-served of_place (span_errors s.layout w) (omega arith) (sym z)
+
+  -- the block and its number of blocks
+  pub block_lt_blocks : 0 ≡ first_error of_place → (w.block < s.layout.blocks) × (s.layout.blocks ≤ most)
+  block_lt_blocks z = (leb-false _ _ (served_condition of_place (omega arith) (sym z) 7), (container_then s.layout I _ (sym x)).0.sizes.2.1)
+
+  -- where none applies
+  pub early_writable : 0 ≡ first_error of_place → span_bad s.layout w ≡ false → SpanWritable s I w
+  early_writable z h =
+      writable s I w
+      (after-served (context_errors s I) _ (omega arith) (sym x) ∙ after-served of_place (span_errors s.layout w) (omega arith) (sym z) ∙ sym (first_fails 8 0 _ _ h first_of_none))
 
 -- ---- refusals 14 and 15
 
@@ -103,67 +141,56 @@ module _ (s : Session) (I : Image) (w : WriteArgs) (p : Plan) (at : ℕ) where
 
 module _ (s : Session) (I : Image) (R : Clients) (w : WriteArgs) (t : Trace) where
   -- what an answer of the code gives
-  abbrev Given : Written → Trace → Type 0
-  Given a after = Gives (write_outcome s I w (lent R t)) t (written_answer s w.main a) after (written_clients R w.client a)
+  abbrev Given : Result Written Refusal → Trace → Type 0
+  Given a after = Gives (write_outcome s I w (lent R t)) t (told s (written_answer s w.main a)) after (written_clients R w.client a)
 
   -- how many backup segments are free
   abbrev free : ℕ
   free = free_backups s.layout (active_state I) (backup_to_main I)
 
-  -- the records with what an answer says that the client has taken
-  abbrev changed : Written → Clients
-  changed a = set R w.client (with_used a.used (client_at R w.client))
-
-  -- a refusal keeps session and records
-  refused_with : (a : Written) (k : Status) → code_of k ≡ write_status s I w (lent R t) → served (code_of k) ≡ false → (a.status ≡ k) × (a.ops ≡ 0) → Given a t
+  refused_with : (r : Refusal) → refusal_number r ≡ write_status s I w (lent R t) → Given (Err r) t
   unfolding write_outcome
-  refused_with a k e r h =
-      let n : served (code_of a.status) ≡ false = ap (λ (x : Status). served (code_of x)) h.0 ∙ r in
-      let g = gives_refused _ s _ R _ _ _ t (written_answer s w.main a) (h.0, ap (λ (b : Bool). cond b (written_session s w.main a) s) n, h.1) e r refl in
-      (g.0, g.1, g.2, g.3, ap (λ (b : Bool). cond b (changed a) R) n ∙ g.4)
+  refused_with r e = gives_refused _ s _ R _ _ _ t r e
 
-  pub refused_early : (a : Written) (k : Status) → code_of k ≡ first_error (early_errors s I R w) → served (code_of k) ≡ false → (a.status ≡ k) × (a.ops ≡ 0) → Given a t
+  pub refused_early : (r : Refusal) → refusal_number r ≡ first_error (early_errors s I R w) → Given (Err r) t
   unfolding write_status
-  refused_early a k e r h = refused_with a k (stage_refused (code_of k) (early_errors s I R w) _ e r) r h
+  refused_early r e = refused_with r (stage_refused _ (early_errors s I R w) _ e (refusal_refuses r))
 
-  module _ (p : Plan) (at : ℕ) (early : first_error (early_errors s I R w) ≡ 0) (plan : p ≡ copy_plan s I w.main) (place : at ≡ span_at s.layout w) where
+  module _ (p : Plan) (at : ℕ) (early : 0 ≡ first_error (early_errors s I R w)) (plan : p ≡ copy_plan s I w.main) (place : at ≡ span_at s.layout w) where
     status_late : first_error (late_errors p R w.client free (on_trace s I w p at) t) ≡ write_status s I w (lent R t)
     unfolding write_status
     status_late =
         ap₂ (λ (q : Plan) (O : Ops). first_error (late_errors q R w.client free (for_domain s.domain O) t)) plan (write_ops_lem s I w p at plan place)
-        ∙ sym (after-served (early_errors s I R w) (late_errors (copy_plan s I w.main) R w.client free (for_domain s.domain (write_ops s I w)) t) (omega arith) early)
+        ∙ sym (after-served (early_errors s I R w) (late_errors (copy_plan s I w.main) R w.client free (for_domain s.domain (write_ops s I w)) t) (omega arith) (sym early))
 
-    pub refused_late : (a : Written) (k : Status) → code_of k ≡ first_error (late_errors p R w.client free (on_trace s I w p at) t) → served (code_of k) ≡ false
-        → (a.status ≡ k) × (a.ops ≡ 0) → Given a t
-    refused_late a k e r h = refused_with a k (e ∙ status_late) r h
+    pub refused_late : (r : Refusal) → refusal_number r ≡ first_error (late_errors p R w.client free (on_trace s I w p at) t) → Given (Err r) t
+    refused_late r e = refused_with r (e ∙ status_late)
 
-    module _ (z : first_error (late_errors p R w.client free (on_trace s I w p at) t) ≡ 0) where
+    module _ (z : 0 ≡ first_error (late_errors p R w.client free (on_trace s I w p at) t)) where
       -- the segment is copied exactly if it must be
       copied : copies p ≡ needs_copy s I w.main
       copied =
           ap copies plan ∙ plan_copies s I w.main
-          (sym (ap none_free plan) ∙ served_condition (late_errors p R w.client free (on_trace s I w p at) t) (omega arith) z 9)
+          (sym (ap none_free plan) ∙ served_condition (late_errors p R w.client free (on_trace s I w p at) t) (omega arith) (sym z) 9)
 
       -- the records with what the code says that the client has taken
-      clients_left_lem : (a : Written) → a.status ≡ Served → a.used ≡ cond (copies p) (suc (client_at R w.client).used) (client_at R w.client).used
-          → written_clients R w.client a ≡ write_clients s I w R
+      clients_left_lem : (n : ℕ) → n ≡ cond (copies p) (suc (client_at R w.client).used) (client_at R w.client).used
+          → set R w.client (with_used n (client_at R w.client)) ≡ write_clients s I w R
       unfolding write_clients
-      clients_left_lem a h u =
-          ap (λ (k : Status). cond (served (code_of k)) (changed a) R) h
-          ∙ ap (λ (n : ℕ). set R w.client (with_used n (client_at R w.client))) (u ∙ ap (λ (b : Bool). cond b (suc (client_at R w.client).used) (client_at R w.client).used) copied)
+      clients_left_lem n u =
+          ap (λ (m : ℕ). set R w.client (with_used m (client_at R w.client))) (u ∙ ap (λ (b : Bool). cond b (suc (client_at R w.client).used) (client_at R w.client).used) copied)
           ∙ put_used R w.client (needs_copy s I w.main)
 
-      pub served-write : (a : Written) (after : Trace) (r : ℕ) → Fits s.domain t 0 (ops s I w p at) → a.status ≡ Served
+      pub served-write : (a : Written) {after : Trace} {b v : Writer} → Begun s.domain t b → 0 ≡ first_error (trace_errors (on_trace s I w p at) t)
           → a.dirty_segments ≡ set_bit s.dirty_segments w.main
           → a.word ≡ set_bits (cond (copies p) 0 (dirty_word s w.main)) w.block (span_blocks w)
           → a.used ≡ cond (copies p) (suc (client_at R w.client).used) (client_at R w.client).used → a.ops ≡ length (on_trace s I w p at)
-          → Emitted s.domain t 0 (ops s I w p at) after r → Given a after
+          → Emitted b (ops s I w p at) v → after ≡ v.trace.now → Given (Ok a) after
       unfolding write_outcome write_session with_dirty
-      served-write a after r room h x y u m e =
+      served-write a g room x y u m e left =
           let same = write_ops_lem s I w p at plan place in
-          let g = gives_served _ s _ R (write_clients s I w R) s.domain (write_ops s I w) t (written_answer s w.main a)
-          (h, ap (λ (k : Status). cond (served (code_of k)) (written_session s w.main a) s) h, m) (sym status_late ∙ z)
+          let h = gives_served _ s _ R (write_clients s I w R) s.domain (write_ops s I w) t {a = record { session = written_session s w.main a; ops = a.ops }} (sym status_late ∙ sym z)
           (ap₂ (λ (segments word : ℕ). session_of s.layout segments (set s.dirty_blocks w.main word) s.domain) x
-          (y ∙ ap (λ (b : Bool). set_bits (cond b 0 (dirty_word s w.main)) w.block (span_blocks w)) copied)) (ap (λ (O : Ops). length (for_domain s.domain O)) same) (fits_as same room)
-          (emitted_as e same) in
-          (g.0, g.1, g.2, g.3, clients_left_lem a h u ∙ g.4)
+          (y ∙ ap (λ (b : Bool). set_bits (cond b 0 (dirty_word s w.main)) w.block (span_blocks w)) copied)) (m ∙ ap (λ (O : Ops). length (for_domain s.domain O)) same) g
+          (room ∙ ap (λ (O : Ops). first_error (trace_errors (for_domain s.domain O) t)) same) (emitted_as e same) left in
+          (h.0, h.1, h.2, h.3, clients_left_lem a.used u ∙ h.4)

@@ -1,19 +1,13 @@
 -- A helper's: what refusals 1 to 8 leave. Nothing that users rely on is said in these terms. Assumes nothing.
-use Rattle.std.specs.Prelude.{◌+◌, ◌-◌, ◌*◌, ◌^◌, ◌≤◌, ◌<◌, ◌++◌, length}
+use Rattle.std.specs.Prelude.{◌+◌, ◌-◌, ◌*◌, ◌^◌, ◌≤◌, ◌<◌, length}
 use Rattle.model.specs.declared.Session.{Session}
 use Rattle.model.specs.Words.{Image}
 use Rattle.model.specs.Layout.{block_size, SizesOk}
-use Rattle.model.specs.Status.{Errors}
-use Rattle.model.specs.Container.{main_errors, block_errors}
-use Rattle.model.specs.Session.{dirty_word, context_errors}
-use Rattle.model.specs.Write.{WriteArgs, span_errors}
+use Rattle.model.specs.Session.{dirty_word}
+use Rattle.model.specs.Write.{WriteArgs}
 use Rattle.copy.specs.Steps.{Writable}
 
--- refusals 1 to 8, which know nothing of the records
-abbrev pub plain_errors : Session → Image → WriteArgs → Errors
-plain_errors s I w = context_errors s I ++ main_errors s.layout w.main ++ block_errors s.layout w.block ++ span_errors s.layout w
-
--- none of them applies: what that leaves of the segment, of the span, and of the segment's word of dirty blocks
+-- none of refusals 1 to 8 applies: what that leaves of the segment, of the span, and of the segment's word of dirty blocks
 pub record SpanWritable (s : Session) (I : Image) (w : WriteArgs) : Type 0 where
   pub sizes : SizesOk s.layout
   pub segment : Writable s.layout I w.main

@@ -17,7 +17,7 @@ ghost use Rattle.session.specs.Parts.{viewed};
 ghost use Rattle.span.specs.Steps.{args_of};
 ghost use Rattle.copy.specs.Steps.{Writable, CopiesTo};
 ghost use Rattle.clients.specs.Run.{loaded};
-ghost use Rattle.write.specs.Steps.{plain_errors};
+ghost use Rattle.write.specs.Steps.{SpanWritable};
 ghost use Rattle.write.specs.Written.{written_answer, written_clients, run_answer, run_clients};
 
 use clients::Run;
@@ -37,8 +37,9 @@ fn judge_early(
     client: u64,
     span: Span,
 ) -> Result<(), Refusal>
-    ensures result_value { (R : Clients) (bytes : List ℕ) → run ≡ loaded R → length bytes ≡ span.len → code_of result ≡ first_error (early_errors (viewed session) image.now R (args_of client span.place bytes)) }
-    ensures by_index { (bytes : List ℕ) → length bytes ≡ span.len → IfOk result (λ _. (first_error (plain_errors (viewed session) image.now (args_of client span.place bytes)) ≡ 0) × (client < run.count) × (run.count ≤ most_clients)) }
+    ensures result_value { (R : Clients) (bytes : List ℕ) → run ≡ loaded R → length bytes ≡ span.len → code_of result ≡ first_error (early_errors (viewed session.entry) image.now R (args_of client span.place bytes)) }
+    ensures writable { (bytes : List ℕ) → length bytes ≡ span.len → IfOk result (λ _. SpanWritable (viewed session.entry) image.now (args_of client span.place bytes)) }
+    ensures client_lt_count { IfOk result (λ _. (client < run.count) × (run.count ≤ most_clients)) }
 {
     let layout = session.layout;
     session.judge(image)?;
@@ -107,12 +108,12 @@ fn written_word(layout: Layout, plan: Plan, word: u64, span: Span) -> u64
     requires le_len { (1 ≤ span.len) × (span.place.offset + span.len ≤ block_size * (layout.blocks - span.place.block)) }
     ensures { (client : ℕ) (bytes : List ℕ) → length bytes ≡ span.len → result ≡ set_bits (cond (copies plan) 0 word) span.place.block (span_blocks (args_of client span.place bytes)) }
 {
-    let count = span.blocks();
-    if copy::has_copy(plan) {
-        let cleared = session::clear_blocks(word, layout.blocks);
-        return session::set_blocks(cleared, span.place.block, count);
-    }
-    session::set_blocks(word, span.place.block, count)
+    let kept = if copy::has_copy(plan) {
+        session::clear_blocks(word, layout.blocks)
+    } else {
+        word
+    };
+    session::set_blocks(kept, span.place.block, span.blocks())
 }
 
 // What a served write on a session that is lent answers: the two words of the session that it changes, the dirty segments and the main
@@ -136,7 +137,7 @@ pub fn write_parts(
     bytes: &[u8],
     trace: &mut [u64],
 ) -> Result<Written, Refusal>
-    ensures gives { (R : Clients) → run ≡ loaded R → Gives (write_outcome (viewed session) image.now (args_of client place bytes.now) (lent R trace.old)) trace.old (told (viewed session) (written_answer (viewed session) place.main result)) trace.new (written_clients R client result) }
+    ensures gives { (R : Clients) → run ≡ loaded R → Gives (write_outcome (viewed session.entry) image.now (args_of client place bytes.now) (lent R trace.old)) trace.old (told (viewed session.entry) (written_answer (viewed session.entry) place.main result)) trace.new (written_clients R client result) }
     ensures main_lt_most { IfOk result (λ _. (place.main < most) × (client < run.count) × (run.count ≤ most_clients)) }
 {
     let layout = session.layout;
