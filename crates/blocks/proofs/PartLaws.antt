@@ -1,5 +1,5 @@
 -- Laws of a block's words: their stores, and a block that is handed on as a part of an image.
-use Prim.Native.Nat.{ℕ, ◌+◌, ◌-◌, ◌*◌, ◌/◌, ◌≤◌, ◌<◌}
+use Prim.Native.Nat.{ℕ, ◌+◌, ◌-◌, ◌*◌, ◌≤◌, ◌<◌}
 use mathlib.Core.Path.{◌≡◌, ap, ◌∙◌}
 use mathlib.Core.Bool.{Bool, cond}
 use mathlib.Core.List.{[], ◌∷◌, ◌++◌}
@@ -12,13 +12,6 @@ use Rattle.model.specs.Layout.{word_size, block_size, block_words, block_lines}
 use Rattle.model.specs.Ops.{store, Ops, stores, clwbs, put_block}
 use Rattle.model.proofs.Laws.Range.{cat_ext}
 use Rattle.model.proofs.Laws.Words.{word_moved}
-use Rattle.trace.specs.Emit.{word_stores}
-
--- the stores of a block's words and, if it is to be flushed, the write-backs of its lines
-pub block_words_lem : (B : Image) (to : ℕ) (flush : Bool) → length B ≡ block_size
-    → word_stores to B ++ cond flush (clwbs block_lines to) [] ≡ put_block flush to (λ k. word_at B (word_size * k))
-unfolding put_block
-block_words_lem B to flush h = ap (λ (n : ℕ). stores (n / word_size) to (λ k. word_at B (word_size * k)) ++ cond flush (clwbs block_lines to) []) h
 
 -- two functions that agree on the words of a block
 put_block_ext : (to : ℕ) (flush : Bool) (v w : ℕ → ℕ) → ((k : ℕ) → k < block_words → v k ≡ w k) → put_block flush to v ≡ put_block flush to w

@@ -23,6 +23,7 @@ pub zeros_more : (acc n : ℕ) (l : List ℕ) → eqb acc 0 ≡ all_b n (λ k. e
     → eqb (bit_or acc (get_or l n 0)) 0 ≡ all_b (n + 1) (λ k. eqb (get_or l k 0) 0)
 zeros_more acc n l h = or_zero_lem acc (get_or l n 0) ∙ all_more n _ h refl
 
-pub same_more : (acc n k x y : ℕ) (l m : List ℕ) → x ≡ get_or l n 0 → y ≡ get_or m n 0 → k ≡ n + 1 → eqb acc 0 ≡ all_b n (λ j. eqb (get_or l j 0) (get_or m j 0))
-    → eqb (bit_or acc (bit_xor x y)) 0 ≡ all_b k (λ j. eqb (get_or l j 0) (get_or m j 0))
-same_more acc n k x y l m p q e h = rw (p, q, e) (or_zero_lem acc _ ∙ all_more n _ h (xor_zero (get_or l n 0) (get_or m n 0)))
+pub same_more : (acc n : ℕ) (l m : List ℕ) → eqb acc 0 ≡ all_b n (λ k. eqb (get_or l k 0) (get_or m k 0))
+    → eqb (bit_or acc (bit_xor (get_or l n 0) (get_or m n 0))) 0 ≡ all_b (n + 1) (λ k. eqb (get_or l k 0) (get_or m k 0))
+same_more acc n l m h =
+    or_zero_lem acc _ ∙ all_more n _ h (xor_zero (get_or l n 0) (get_or m n 0))

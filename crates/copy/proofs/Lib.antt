@@ -1,2 +1,1 @@
 pub mod PlanLaws
-pub mod CopyLaws

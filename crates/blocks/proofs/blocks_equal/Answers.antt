@@ -20,7 +20,7 @@ loop-x-preserved c =
     let t = zip_turn (take 256 a) (take 256 b) l.yielded c.into_iter-x-iterator.result l.x-iterator c.next.new.self _ (search rules) (search rules) l.yielded_by _ c.in-Some.is c.next.ensures.steps in
     let x = t.2 0 ∙ get_or-take 256 a n 0 (omega (arith, t.0, length-take 256 a)) in
     let y = t.3 0 ∙ get_or-take 256 b n 0 (omega (arith, t.0, length-take 256 a)) in
-    same_more l.unlike n _ _ _ a b x y (simp length-append) l.invariant
+    rw (x, y, length-append) (same_more l.unlike n a b l.invariant)
 
 pub returns : goal.returns
 returns c =

@@ -1,58 +1,30 @@
-use Prim.Native.Nat.{ℕ, ◌+◌}
-use mathlib.Core.Path.{◌≡◌, refl}
 use mathlib.Core.List.{[], ◌∷◌, ◌++◌}
-use native.Mathlib.Omega.{arith}
-use lib.ListN.{length}
-use Rattle.model.specs.Words.{Image}
-use Rattle.model.specs.Container.{active_line}
-use Rattle.model.specs.Session.{adr}
-use Rattle.model.specs.Ops.{clwb, sfence, for_domain}
+use Rattle.model.specs.Ops.{sfence}
 use Rattle.model.specs.Write.{state_ops}
-use Rattle.model.specs.Counts.{flushes}
-use Rattle.model.proofs.Laws.Counts.{count_append, count_flush}
-use Rattle.trace.specs.Emit.{Emitted}
-use Rattle.trace.proofs.EmitLaws.{emitted_length, emitted_then, emitted_plain}
+use Rattle.trace.proofs.EmitLaws.{fits_first, fits_then, emitted_then}
 use Rattle.copy.proofs.put_state.Goals as goal
 
--- how many operations the trace has: two fences, the store of the state and its write-back
-count-state : (d : ℕ) (I : Image) (i : ℕ) → length (for_domain d (sfence ∷ state_ops I i ++ sfence ∷ [])) ≡ 3 + flushes d 1
-unfolding state_ops for_domain
-count-state d I i = omega (arith, count_append d (clwb (active_line I) ∷ []) (sfence ∷ []), count_flush d (active_line I))
+pub sfence-requires : goal.sfence-requires
+sfence-requires c = fits_first (state_ops c.args.image.now c.args.main ++ sfence ∷ []) c.requires.fits
 
-pub put_sfence-store-requires : goal.put_sfence-store-requires
-unfolding for_domain
-put_sfence-store-requires c =
-    let a = c.args in
-    record { room = omega (arith, count-state a.domain a.image.now a.main) }
+pub put_byte-requires-clause-fits : goal.put_byte-requires-clause-fits
+unfolding state_ops
+put_byte-requires-clause-fits c = rw c.active_at-active.ensures.0 (fits_first _ (fits_then c.requires.fits c.sfence.ensures))
 
-pub put_byte-clwb-requires-clause-fits : goal.put_byte-clwb-requires-clause-fits
-unfolding for_domain
-put_byte-clwb-requires-clause-fits c =
-    let a = c.args in
-    record { room = omega (arith, count-state a.domain a.image.now a.main, emitted_length c.put_sfence-store.ensures) }
+pub clwb-requires : goal.clwb-requires
+unfolding state_ops
+clwb-requires c =
+    let line = c.active_at-active.ensures.0 in
+    rw line (fits_first _ (fits_then (fits_then c.requires.fits c.sfence.ensures) (rw line at c.put_byte.ensures)))
 
-pub put_clwb-fence-requires : goal.put_clwb-fence-requires
-unfolding for_domain
-put_clwb-fence-requires c =
-    let a = c.args in
-    let flush = count_flush a.domain c.active_at-active.result in
-    record { room = omega (arith, count-state a.domain a.image.now a.main, flush, emitted_length c.put_sfence-store.ensures, emitted_length c.put_byte-clwb.ensures) }
-
-pub put_sfence-requires : goal.put_sfence-requires
-unfolding for_domain
-put_sfence-requires c =
-    let a = c.args in
-    let flush = count_flush a.domain c.active_at-active.result in
-    let l₁ = emitted_length c.put_sfence-store.ensures in
-    let l₂ = emitted_length c.put_byte-clwb.ensures in
-    record { room = omega (arith, count-state a.domain a.image.now a.main, flush, l₁, l₂, emitted_length c.put_clwb-fence.ensures) }
+pub sfence-requires-2 : goal.sfence-requires-2
+unfolding state_ops
+sfence-requires-2 c =
+    let line = c.active_at-active.ensures.0 in
+    fits_then (fits_then (fits_then c.requires.fits c.sfence.ensures) (rw line at c.put_byte.ensures)) (rw line at c.clwb.ensures)
 
 pub returns : goal.returns
-unfolding state_ops for_domain
+unfolding state_ops
 returns c =
-    let a = c.args in
     let line = c.active_at-active.ensures.0 in
-    let first : Emitted adr a.trace.now a.n (sfence ∷ []) c.put_sfence-store.new.trace c.put_sfence-store.result = c.put_sfence-store.ensures in
-    emitted_then (emitted_plain a.domain refl first)
-    (emitted_then (emitted_plain a.domain refl (rw line at c.put_byte-clwb.ensures))
-    (emitted_then (rw line at c.put_clwb-fence.ensures) (emitted_plain a.domain refl c.put_sfence.ensures)))
+    emitted_then c.sfence.ensures (emitted_then (rw line at c.put_byte.ensures) (emitted_then (rw line at c.clwb.ensures) c.sfence-2.ensures))

@@ -18,19 +18,19 @@ overflow_add-target c = omega (arith, walk_below c.loop-b.invariant.1.0 c.in-Som
 pub slice_bounds-put_copy-end : goal.slice_bounds-put_copy-end
 slice_bounds-put_copy-end c = omega (arith, walk_below c.loop-b.invariant.1.0 c.in-Some.ensures.steps)
 
-pub put_copy-requires : goal.put_copy-requires
-put_copy-requires c =
+pub put_copy-requires-clause-block_len : goal.put_copy-requires-clause-block_len
+put_copy-requires-clause-block_len c =
+    let below = walk_below c.loop-b.invariant.1.0 c.in-Some.ensures.steps in
+    length_part c.args.image.now (c.args.from + block_size * c.in-Some.b) (omega (arith, below))
+
+pub put_copy-requires-clause-block_size_bound : goal.put_copy-requires-clause-block_size_bound
+put_copy-requires-clause-block_size_bound c = omega (arith, walk_below c.loop-b.invariant.1.0 c.in-Some.ensures.steps)
+
+pub put_copy-requires-clause-fits : goal.put_copy-requires-clause-fits
+put_copy-requires-clause-fits c =
     let g = c.args in
-    let b = c.in-Some.b in
     let w = c.loop-b.invariant.1 in
-    let t = c.in-Some.ensures.steps in
-    let e = length_part g.image.now (g.from + block_size * b) (omega (arith, walk_below w.0 t)) in record {
-      block_len = omega (arith, e);
-      block_size_bound = omega (arith, walk_below w.0 t);
-      fits =
-          fits_as (sym (copy_part g.image.now (g.from + block_size * b) (g.to + block_size * b) g.flush))
-          (dirty_fits _ w.0 t w.1 c.requires.fits);
-    }
+    fits_as (sym (copy_part g.image.now (g.from + block_size * c.in-Some.b) _ _)) (dirty_fits _ w.0 c.in-Some.ensures.steps w.1 c.requires.fits)
 
 pub loop-b-preserved : goal.loop-b-preserved
 loop-b-preserved c =
@@ -38,8 +38,7 @@ loop-b-preserved c =
     let b = c.in-Some.b in
     let w = c.loop-b.invariant.1 in
     let t = c.in-Some.ensures.steps in
-    let copied = emitted_as c.put_copy.ensures (copy_part g.image.now (g.from + block_size * b) (g.to + block_size * b) g.flush) in
-    (b + 1, (walk_turns w.0 t, dirty_emits _ w.0 t w.1 copied))
+    (b + 1, (walk_turns w.0 t, dirty_emits _ w.0 t w.1 (emitted_as c.put_copy.ensures (copy_part g.image.now (g.from + block_size * b) _ _))))
 
 pub returns : goal.returns
 returns c = let w = c.loop-b.invariant.1 in dirty_ends _ w.0 c.in-None.ensures.steps.0 w.1

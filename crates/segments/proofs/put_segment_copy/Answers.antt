@@ -1,6 +1,5 @@
 use Prim.Native.Nat.{◌+◌, ◌*◌}
 use mathlib.Core.Path.{◌≡◌, sym}
-use mathlib.Core.Bool.{true}
 use native.Mathlib.Omega.{arith}
 use Rattle.model.specs.Layout.{block_size}
 use Rattle.model.specs.Ops.{persist_copy, copy_segment}
@@ -11,26 +10,22 @@ use Rattle.segments.proofs.put_segment_copy.Goals as goal
 pub loop-b-init : goal.loop-b-init
 loop-b-init c = emitted_none _
 
-pub put_copy-requires : goal.put_copy-requires
+pub put_copy-requires-clause-block_len : goal.put_copy-requires-clause-block_len
+put_copy-requires-clause-block_len c = length_part c.args.image.now (c.args.from + block_size * c.loop-b.b) (omega arith)
+
+pub put_copy-requires-clause-fits : goal.put_copy-requires-clause-fits
 unfolding copy_segment persist_copy
-put_copy-requires c =
+put_copy-requires-clause-fits c =
     let l = c.loop-b in
     let g = c.args in
-    let e = length_part g.image.now (g.from + block_size * l.b) (omega arith) in record {
-      block_len = omega arith;
-      block_size_bound = omega arith;
-      fits =
-          fits_as (sym (copy_part g.image.now (g.from + block_size * l.b) (g.to + block_size * l.b) true))
-          (fits_each l.b g.layout.blocks _ (omega arith) c.requires.fits l.invariant);
-    }
+    fits_as (sym (copy_part g.image.now (g.from + block_size * l.b) _ _)) (fits_each l.b g.layout.blocks _ (omega arith) c.requires.fits l.invariant)
 
 pub loop-b-preserved : goal.loop-b-preserved
 unfolding persist_copy
 loop-b-preserved c =
     let l = c.loop-b in
     let g = c.args in
-    emitted_each l.b _ l.invariant
-    (emitted_as c.put_copy.ensures (copy_part g.image.now (g.from + block_size * l.b) (g.to + block_size * l.b) true))
+    emitted_each l.b _ l.invariant (emitted_as c.put_copy.ensures (copy_part g.image.now (g.from + block_size * l.b) _ _))
 
 pub returns : goal.returns
 unfolding copy_segment
