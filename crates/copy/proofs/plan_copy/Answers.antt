@@ -1,4 +1,3 @@
-use mathlib.Core.Path.{sym, ◌∙◌}
 use Rattle.copy.proofs.PlanLaws.{no_copy_lem, own_backup_lem, new_backup_lem, none_free_lem}
 use Rattle.copy.proofs.plan_copy.Goals as goal
 
