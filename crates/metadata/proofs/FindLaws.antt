@@ -1,4 +1,4 @@
--- Laws of the searches for a backup segment: what an answer says, a search by words, and that the two searches for a new one find it.
+-- Laws of backup segments: what a search for one answers, a search by words, that the two searches for a new one find it, and how many are free.
 use Prim.Native.Nat.{ℕ, ◌+◌, ◌-◌, ◌≤◌, ◌<◌}
 use mathlib.Core.Path.{◌≡◌, refl, sym, ap, ◌∙◌}
 use mathlib.Core.Logic.{⊎_elim}
@@ -9,9 +9,11 @@ use lib.Dec.{ltb, eqb}
 use borrow.Author.Tests.{lt-ltb, le-ltb}
 use Rattle.model.specs.declared.Layout.{Layout}
 use Rattle.model.specs.Range.{first_b}
-use Rattle.model.specs.Layout.{pairs_at, unpaired, ss_main}
+use Rattle.model.specs.Layout.{pairs_at, unpaired, ss_main, SizesOk}
 use Rattle.model.specs.Words.{Image, byte_at, word_of, word_at}
-use Rattle.model.specs.Container.{backup_to_main, Valid, is_paired, paired_backup, new_backup}
+use Rattle.model.specs.Container.{active_line, active_state, seg_state, backup_to_main, Valid, is_paired, paired_backup, free_backups, new_backup}
+use Rattle.model.specs.FreeBackups.{mains_in_backup}
+use Rattle.model.proofs.Laws.FreeBackups.{in_use_counted}
 use Rattle.model.proofs.Laws.Range.{any_first, first_some, first_none, first_found, first_before}
 use Rattle.model.proofs.Laws.Words.{word_moved}
 use Rattle.model.proofs.Laws.Container.{unpaired_none}
@@ -106,3 +108,13 @@ module _ (l : Layout) (st pr : ℕ → ℕ) where
   pub second_search : l.backups ≤ alone → new_backup l st pr ≡ first_b l.backups (λ j. eqb (st (pr j)) ss_main)
   unfolding is_paired paired_backup
   second_search h = new_unused l st pr (is_paired_lem l pr unpaired ∙ le-ltb _ _ h)
+
+-- ---- free backup segments
+
+-- those that are free are all but n, as many as main segments are in state 2 by the active line
+pub free_others : (l : Layout) (I : Image) (line n : ℕ) → SizesOk l → Valid l (active_state I) (backup_to_main I) → line ≡ active_line I → n ≡ mains_in_backup l (seg_state I line)
+    → (n ≤ l.backups) × (l.backups - n ≡ free_backups l (active_state I) (backup_to_main I))
+free_others l I line n s v a e =
+    let all = (in_use_counted l (active_state I) (backup_to_main I) s v).1 in
+    let m : n ≡ mains_in_backup l (active_state I) = e ∙ ap (λ (at : ℕ). mains_in_backup l (seg_state I at)) a in
+    (omega arith, omega arith)

@@ -23,6 +23,7 @@ const INACTIVE: u64 = 1;
 // ---- the lines of states
 
 // Where the line of states stands that the parity of the epoch picks, so many epochs from now.
+#[tactic(auto, unfolding(model::specs::Layout::state_line))]
 fn line_at(image: &[u8], later: u64) -> usize
     requires { (word_size ≤ length image.now) × (later ≤ 1) }
     ensures { (result ≡ state_line (later + committed_epoch image.now)) × (states_at ≤ result) × (result ≤ odd_states_at) }
@@ -127,6 +128,7 @@ pub fn free_backups(image: &[u8], layout: Layout) -> u64
 
 // Where the checkpoint of a main segment stands, by a line of states and pairs that are valid: a segment in state 2 has a
 // backup segment.
+#[tactic(auto, using(crate::proofs::LocatedLaws::located_nowhere, crate::proofs::LocatedLaws::located_main, crate::proofs::LocatedLaws::located_backup, crate::proofs::LocatedLaws::backup_there, crate::proofs::FindLaws::found_backup, crate::proofs::FindLaws::found_missing))]
 pub fn checkpoint_located(image: &[u8], layout: Layout, line: usize, main: u64) -> Option<u64>
     requires main_lt_mains { (main < layout.mains) × SizesOk layout × (pairs_end ≤ length image.now) × (line + line_size ≤ length image.now) }
     requires valid { Valid layout (seg_state image.now line) (backup_to_main image.now) }
