@@ -18,6 +18,7 @@ const BYTE: u64 = 256;
 const WORD_LEN: usize = Layout::WORD_SIZE as usize;
 
 // The word that eight bytes make, the least significant first.
+#[tactic(auto, unfolding(model::specs::Words::word_of, model::specs::Words::little_endian))]
 pub fn join(bytes: [u8; WORD_LEN]) -> u64
     ensures { result ≡ word_at bytes 0 }
 {
@@ -43,6 +44,7 @@ pub fn word_at(image: &[u8], at: usize) -> u64
 }
 
 // Stores a word at a place of an image.
+#[tactic(auto, using(crate::proofs::WordLaws::word_stored))]
 pub fn store_word(image: &mut [u8], at: usize, w: u64)
     requires { at + word_size ≤ length image.old }
     ensures { image.new ≡ store_word image.old at w }
@@ -73,6 +75,7 @@ pub fn each(byte: u8) -> u64
 }
 
 // The eight bits of a set from bit p on, one in each byte and there at its own place: byte k has bit k or none.
+#[tactic(auto, using(crate::proofs::ByteLaws::spread_bits))]
 pub fn spread(set: u64, p: u64) -> u64
     requires { p < most }
     ensures { result ≡ word_of (λ k. bit set (p + k) * 2 ^ k) 0 }
@@ -107,6 +110,7 @@ pub fn first_byte(word: u64, byte: u8) -> u64
 // ---- bits
 
 // Whether bit b of a word is set.
+#[tactic(auto, using(crate::proofs::BitLaws::masked_bit))]
 pub fn has_bit(word: u64, b: u64) -> bool
     requires { b < most }
     ensures { result ≡ is_dirty word b }
@@ -115,6 +119,7 @@ pub fn has_bit(word: u64, b: u64) -> bool
 }
 
 // Whether no bit of a word is set from bit n on.
+#[tactic(auto, using(crate::proofs::BitLaws::high_clear))]
 pub fn within(word: u64, n: u64) -> bool
     requires { (1 ≤ n) × (n ≤ most) }
     ensures { result ≡ ltb word (2 ^ n) }
