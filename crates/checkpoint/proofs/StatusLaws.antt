@@ -1,6 +1,6 @@
 -- Laws of a checkpoint's refusals: what holds of image and session where those of them let it pass, the records and the epoch after
 -- them, and what a refused call gives.
-use Prim.Native.Nat.{ℕ, ◌≤◌}
+use Prim.Native.Nat.{◌≤◌}
 use mathlib.Core.Path.{◌≡◌, sym, ◌∙◌}
 use mathlib.Core.Logic.{◌≢◌}
 use mathlib.Core.Bool.{cond}

@@ -1,25 +1,24 @@
 -- Laws of recovery and of an opening: a bound of the number of operations, what the pass over states and pairs gives, and the
 -- refusals by the tests that the code makes.
 use Prim.Native.Nat.{ℕ, ◌+◌, ◌*◌, ◌≤◌}
-use mathlib.Core.Path.{◌≡◌, sym, ap, subst, ◌∙◌}
+use mathlib.Core.Path.{◌≡◌, sym, ap, ◌∙◌}
 use mathlib.Core.Bool.{true, false, not, cond}
 use mathlib.Core.List.{◌++◌}
 use native.Mathlib.Omega.{arith}
 use native.Mathlib.Nat.{mul-le-mul}
 use lib.ListN.{length}
-use Rattle.std.specs.Prelude.{Result, Err}
+use Rattle.std.specs.Prelude.{Err}
 use Rattle.model.specs.declared.Layout.{Layout}
 use Rattle.model.specs.declared.Refusal.{Refusal}
-use Rattle.model.specs.declared.Answer.{Answer}
 use Rattle.model.specs.Words.{Image}
 use Rattle.model.specs.Layout.{block_ops, most, SizesOk, image_size}
-use Rattle.model.specs.Status.{Errors, refusal_number, code_of, first_error, served}
+use Rattle.model.specs.Status.{Errors, refusal_number, first_error, served}
 use Rattle.model.specs.Container.{active_line, seg_state, backup_to_main, valid_metadata, layout_errors, valid_errors}
 use Rattle.model.specs.Ops.{Ops, Trace, for_domain, trace_errors}
 use Rattle.model.specs.Open.{recovery_ops, open_status, open_outcome}
 use Rattle.model.specs.Session.{fresh_session, zero_session, domain_errors}
 use Rattle.model.specs.Clients.{Clients, clients_errors, cleared}
-use Rattle.model.specs.Outcome.{Lent, lent, Outcome, outcome_of, Told, told, Gives}
+use Rattle.model.specs.Outcome.{Lent, lent, outcome_of, told, Gives}
 use Rattle.model.proofs.Laws.Container.{valid_means}
 use Rattle.model.proofs.Laws.Status.{first_holds, first_fails, first_of_none, refusal_refuses, stage_refused, after-served}
 use Rattle.trace.proofs.CallLaws.{gives_refused}

@@ -1,12 +1,10 @@
 use mathlib.Core.Bool.{not}
 use mathlib.Core.List.{[], ◌∷◌}
-use mathlib.Core.Path.{sym, subst}
+use mathlib.Core.Path.{sym}
 use native.Mathlib.Omega.{arith}
 use Rattle.std.proofs.lemmas.Result.{err_from_is_err_and}
 use Rattle.model.specs.Container.{active_line, header_ok}
-use Rattle.model.specs.Clients.{cleared}
-use Rattle.model.specs.Outcome.{Outcome, lent, told, Gives}
-use Rattle.model.specs.Session.{zero_session}
+use Rattle.model.specs.Outcome.{lent}
 use Rattle.model.specs.Open.{recovery_ops, open_outcome}
 use Rattle.model.proofs.Laws.Layout.{metadata_inside}
 use Rattle.places.proofs.PlaceLaws.{sized}
