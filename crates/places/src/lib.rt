@@ -55,6 +55,7 @@ fn sizes_ok(layout: Layout) -> bool
 }
 
 // The bytes of an image whose sizes are at most 64.
+#[tactic(auto, using(crate::proofs::PlaceLaws::image_bound), unfolding(model::specs::Layout::image_size))]
 fn allowed_image_size(layout: Layout) -> usize
     requires { (layout.mains ≤ most) × (layout.backups ≤ most) × (layout.blocks ≤ most) }
     ensures { (result ≡ image_size layout) × (metadata_size ≤ result) × (result ≤ largest_image) }
