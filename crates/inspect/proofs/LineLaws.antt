@@ -2,13 +2,12 @@
 use Prim.Native.Nat.{ℕ, zero, suc, ◌+◌, ◌≤◌, ◌<◌}
 use mathlib.Core.Path.{◌≡◌, refl, sym, ap, ap₂, ◌∙◌}
 use mathlib.Core.Bool.{Bool, true, false, cond, ◌&&◌, ◌||◌}
-use mathlib.Core.List.{List, [], ◌∷◌, ◌++◌, map-id}
+use mathlib.Core.List.{[], ◌∷◌, ◌++◌, map-id}
 use native.Mathlib.Omega.{arith}
 use native.Mathlib.Numerals.{add-one}
-use lib.Dec.{ltb}
 use lib.ListN.{length}
 use borrow.Author.Tests.{eq-eqb}
-use Rattle.std.specs.Prelude.{Option, None, Some, Result, Ok, Err}
+use Rattle.std.specs.Prelude.{Result, Ok, Err}
 use Rattle.std.specs.Result.{is_ok}
 use Rattle.std.proofs.Math.Bool.{and-true}
 use Rattle.std.specs.List.{list_all, range_with_len}
@@ -20,16 +19,14 @@ use Rattle.model.specs.Status.{code_of, served}
 use Rattle.model.proofs.Laws.Status.{refusal_refuses}
 use Rattle.model.specs.Range.{all_b, any_b}
 use Rattle.model.specs.Words.{Image}
-use Rattle.model.specs.Container.{backup_to_main, paired_backup}
 use Rattle.model.proofs.Laws.Range.{or_none}
 use Rattle.reads.proofs.ReadLaws.{readable}
-use Rattle.metadata.specs.Find.{found_below}
 use Rattle.text.specs.Text.{text}
 use Rattle.printer.specs.declared.Page.{Page}
 use Rattle.printer.specs.Decimal.{decimal}
 use Rattle.printer.specs.Page.{Appended}
 use Rattle.printer.proofs.AppendedLaws.{appended_none, appended_then}
-use Rattle.inspect.specs.DumpText.{dash, backup_text, listed, dump_status}
+use Rattle.inspect.specs.DumpText.{listed, dump_status}
 
 -- ---- a main segment
 

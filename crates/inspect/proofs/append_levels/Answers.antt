@@ -1,8 +1,7 @@
 use native.Mathlib.Omega.{arith}
 use native.Mathlib.Numerals.{add-one}
 use Rattle.model.specs.Range.{cat}
-use Rattle.printer.proofs.AppendedLaws.{appended_none, appended_then}
-use Rattle.inspect.proofs.LineLaws.{ready}
+use Rattle.printer.proofs.AppendedLaws.{appended_then}
 use Rattle.inspect.proofs.append_levels.Goals as goal
 
 pub loop-main-preserved : goal.loop-main-preserved

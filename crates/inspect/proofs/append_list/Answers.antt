@@ -1,11 +1,11 @@
-use mathlib.Core.Path.{◌≡◌, refl, sym, ◌∙◌}
+use mathlib.Core.Path.{◌≡◌, sym, ◌∙◌}
 use native.Mathlib.Omega.{arith}
 use Rattle.std.proofs.Math.Bool.{or-false}
 use Rattle.model.specs.Range.{cat, any_b}
 use Rattle.model.proofs.Laws.Range.{or_right}
 use Rattle.text.specs.Text.{text}
-use Rattle.printer.proofs.AppendedLaws.{appended_none, appended_then}
-use Rattle.inspect.specs.DumpText.{block_differs, listed, list_text}
+use Rattle.printer.proofs.AppendedLaws.{appended_then}
+use Rattle.inspect.specs.DumpText.{block_differs, list_text}
 use Rattle.inspect.proofs.LineLaws.{listed_more, listed_same, any_more, listed_nothing}
 use Rattle.inspect.proofs.append_list.Goals as goal
 use Rattle.inspect.proofs.append_list.Goals.{then-block_differs, else-block_differs}
