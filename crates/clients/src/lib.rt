@@ -142,6 +142,7 @@ impl Run {
     }
 
     // Refusal 13 for a write by this client, which must have a record.
+    #[tactic(auto, using(crate::proofs::RunLaws::run_count), unfolding(model::specs::Status::first_error))]
     pub fn judge_client(self, layout: Layout, client: u64) -> Result<(), Refusal>
         ensures result_value { (R : Clients) → self ≡ loaded R → code_of result ≡ first_error (client_errors layout R client) }
         ensures client_lt_count { IfOk result (λ _. (client < self.count) × (self.count ≤ most_clients)) }
@@ -156,6 +157,7 @@ impl Run {
 
     // Whether the free backup segments do not exceed what the other clients have unused. What is left of the free ones is counted down,
     // and stays 0 once it is 0, so no sum can wrap.
+    #[tactic(auto, using(crate::proofs::RunLaws::kept, model::proofs::Laws::Range::sum_none, model::proofs::Laws::Range::sum_more))]
     fn all_reserved(self, client: u64, free: u64) -> bool
         requires { self.count ≤ most_clients }
         ensures { result ≡ leb free (sum_to self.count (λ j. cond (eqb j client) 0 (unused (client_at self.clients j)))) }
@@ -169,6 +171,7 @@ impl Run {
 
     // The first of refusals 14 and 15 that applies to a write by this client, while so many backup segments are free; neither does where
     // the write copies nothing.
+    #[tactic(auto, using(crate::proofs::RunLaws::at_limit_lem, crate::proofs::RunLaws::under_limit), unfolding(model::specs::Status::first_error))]
     pub fn judge_share(self, client: u64, copying: bool, free: u64) -> Result<(), Refusal>
         requires { (client < most_clients) × (self.count ≤ most_clients) }
         ensures result_value { (R : Clients) → self ≡ loaded R → code_of result ≡ first_error (share_errors copying R client free) }
@@ -190,6 +193,7 @@ impl Run {
     // ---- after a write
 
     // What this client has taken after a served write, which may copy a main segment.
+    #[tactic(auto, using(crate::proofs::RunLaws::run_at))]
     pub fn used_after(self, client: u64, copying: bool) -> u64
         requires client_lt_most_clients { client < most_clients }
         requires client_bound { copying ≡ true → (client_at self.clients client).used < (client_at self.clients client).quota }
@@ -200,6 +204,7 @@ impl Run {
     }
 
     // The record of a client of the run, with another number taken.
+    #[tactic(auto, using(crate::proofs::RunLaws::run_at))]
     pub fn record_of(self, client: u64, used: u64) -> Client
         requires { client < most_clients }
         ensures { (R : Clients) → self ≡ loaded R → result ≡ with_used used (client_at R client) }

@@ -1,18 +1,8 @@
-use Rattle.std.proofs.Common.{◌≡◌, refl, sym, ap, ◌∙◌, true, false, leb, arith}
+use Rattle.std.proofs.Common.{◌≡◌, sym, ap, ◌∙◌, true, false, leb, arith}
 use Rattle.model.specs.Clients.{quota_reached, all_reserved}
 use Rattle.model.proofs.Laws.Status.{first_holds, first_fails, first_of_none}
-use Rattle.clients.proofs.RunLaws.{at_limit_lem, under_limit, unused_others}
+use Rattle.clients.proofs.RunLaws.{under_limit, unused_others}
 use Rattle.clients.proofs.Run.judge_share.Goals as goal
-
--- nothing is copied
-pub returns-then-not-copying-clause-result_value : goal.returns-then-not-copying-clause-result_value
-returns-then-not-copying-clause-result_value c = λ R e. rw c.if-not-copying.true (first_fails 14 0 false _ refl (first_fails 15 0 false _ refl first_of_none))
-
-pub returns-then-c-clause-result_value : goal.returns-then-c-clause-result_value
-returns-then-c-clause-result_value c = λ R e.
-    let a = c.args in
-    let q : quota_reached R a.client ≡ true = at_limit_lem a.self R e a.client c.requires.0 (omega arith) in
-    rw c.if-not-copying.false (first_holds 14 _ _ q)
 
 pub returns-then-all_reserved-clause-result_value : goal.returns-then-all_reserved-clause-result_value
 returns-then-all_reserved-clause-result_value c = λ R e.
