@@ -43,7 +43,7 @@ pub fn backup_at(layout: Layout, j: u64) -> usize
 fn in_range(n: u64) -> bool
     ensures { result ≡ in_range n }
 {
-    (1 <= n) & (n <= Layout::MOST)
+    (1..=Layout::MOST).contains(&n)
 }
 
 // Whether all three sizes are 1 to 64.
@@ -51,7 +51,7 @@ fn in_range(n: u64) -> bool
 fn sizes_ok(layout: Layout) -> bool
     ensures { result ≡ sizes_ok layout }
 {
-    in_range(layout.mains) & in_range(layout.backups) & in_range(layout.blocks)
+    in_range(layout.mains) && in_range(layout.backups) && in_range(layout.blocks)
 }
 
 // The bytes of an image whose sizes are at most 64.
