@@ -1,4 +1,4 @@
-pub mod NextLaws
 pub mod Story
+pub mod GroupLaws
 pub mod HeaderLaws
 pub mod SheetLaws

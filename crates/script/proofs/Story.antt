@@ -1,33 +1,46 @@
 -- The story of a loop over groups: what they printed so far, and what the groups that are left print, is what all print.
 use Prim.Native.Nat.{ℕ, suc}
-use mathlib.Core.Path.{◌≡◌, sym, ap, ◌∙◌}
+use mathlib.Core.Path.{◌≡◌, refl, sym, ap, ◌∙◌}
 use mathlib.Core.List.{List, [], ◌∷◌, ◌++◌, append_assoc, append-nil}
+use lib.ListN.{length}
 use Rattle.model.specs.declared.Layout.{Layout}
-use Rattle.model.specs.Words.{Image}
 use Rattle.parser.specs.Script.{good, Group}
-use Rattle.printer.specs.Decimal.{Appended}
-use Rattle.printer.proofs.AppendedLaws.{appended_then, appended_as}
-use Rattle.calls.specs.declared.Ran.{Ran}
+use Rattle.printer.specs.declared.Page.{Page}
+use Rattle.printer.specs.Page.{Appended}
+use Rattle.printer.proofs.AppendedLaws.{appended_none, appended_then, appended_as}
+use Rattle.calls.specs.declared.Sheet.{Sheet}
 use Rattle.calls.specs.Printed.{Board, after_group, group_text, groups_text, opened_board, script_text}
 use Rattle.calls.specs.Ran.{BoardAt, Opened}
 use Rattle.group.specs.GroupRan.{GroupRan}
 use Rattle.script.specs.SheetRan.{GroupsRan, ScriptRan}
 
--- the groups gs were to be run from the image I, the session, the record and the place of `a` on; the groups gs' are left, the first of which
--- has the number n, with I' and `r`
-abbrev pub Story : Image → Ran → List Group → List ℕ → Image → Ran → ℕ → List Group → List ℕ → Type 0
-Story I a gs out I' r n gs' out' =
-    (b : Board) → BoardAt b I a
-    → (done : List ℕ) × Appended out a.place done out' r.place
-    × ((k : Board) × BoardAt k I' r × (groups_text b 1 gs ≡ done ++ groups_text k n gs'))
+-- the groups gs were to be run from s on, with the page p; the groups gs' are left, the first of which has the number n, with s' and p'
+abbrev pub Story : Sheet → List Group → Page → Sheet → ℕ → List Group → Page → Type 0
+Story s gs p s' n gs' p' =
+    (b : Board) → BoardAt b s
+    → (done : List ℕ) × Appended p done p'
+    × ((k : Board) × BoardAt k s' × (groups_text b 1 gs ≡ done ++ groups_text k n gs'))
 
-module _ (I : Image) (a : Ran) (gs : List Group) (out : List ℕ) where
-  module _ (I' : Image) (r : Ran) (n : ℕ) (gs' : List Group) (out' : List ℕ) (story : Story I a gs out I' r n gs' out') where
+-- every sheet stands on some board, so that a page keeps its size
+abbrev board_of : Sheet → Board
+board_of s = record {
+  device = record { layout = s.session.layout; image = s.image.now; session = s.session; durable = []; played = []; adr_played = [] };
+  clients = s.client ∷ [];
+}
+
+pub group_keeps : (s s' : Sheet) (n : ℕ) (g : Group) (p p' : Page) → GroupRan s n g p s' p' → length p'.out.now ≡ length p.out.now
+group_keeps s s' n g p p' x = (x (board_of s) (refl, refl, refl)).0.size
+
+module _ (s : Sheet) (gs : List Group) (p : Page) where
+  -- none is run
+  pub story_none : Story s gs p s 1 gs p
+  story_none b «is» = ([], appended_none, (b, «is», refl))
+
+  module _ (s' : Sheet) (n : ℕ) (gs' : List Group) (p' : Page) (story : Story s gs p s' n gs' p') where
     -- one group more
-    pub story_more : (g : Group) (hs : List Group) (I'' : Image) (out'' : List ℕ) (q : Ran) → gs' ≡ g ∷ hs → GroupRan I' r n g out' I'' out'' q
-        → Story I a gs out I'' q (suc n) hs out''
+    pub story_more : (g : Group) (hs : List Group) (s'' : Sheet) (p'' : Page) → gs' ≡ g ∷ hs → GroupRan s' n g p' s'' p'' → Story s gs p s'' (suc n) hs p''
     unfolding groups_text
-    story_more g hs I'' out'' q e x b «is» =
+    story_more g hs s'' p'' e x b «is» =
         let y = story b «is» in
         let k = y.2.0 in
         let z = x k y.2.1 in
@@ -42,14 +55,13 @@ module _ (I : Image) (a : Ran) (gs : List Group) (out : List ℕ) where
         )
 
     -- none left
-    pub story_end : gs' ≡ [] → GroupsRan I a gs out out' r.place
+    pub story_end : gs' ≡ [] → GroupsRan s gs p p'
     unfolding groups_text
     story_end e b «is» =
         let y = story b «is» in
         appended_as (sym (y.2.2 ∙ ap (λ (v : List Group). y.0 ++ groups_text y.2.0 n v) e ∙ append-nil y.0)) y.1
 
 -- an opening, then the groups
-pub script_ran : (l : Layout) (gs : List Group) (out out₁ out₂ : List ℕ) (I : Image) (w : Ran) (q : ℕ) → Opened l out I out₁ w
-    → GroupsRan I w gs out₁ out₂ q → ScriptRan (good l gs) out out₂ q
+pub script_ran : (l : Layout) (gs : List Group) (s : Sheet) (p q r : Page) → Opened l p s q → GroupsRan s gs q r → ScriptRan (good l gs) p r
 unfolding script_text
-script_ran l gs out out₁ out₂ I w q o f = appended_then o.0 (f (opened_board l) o.1)
+script_ran l gs s p q r o f = appended_then o.0 (f (opened_board l) o.1)

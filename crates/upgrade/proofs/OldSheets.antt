@@ -11,9 +11,10 @@ use Rattle.model.specs.declared.Layout.{Layout}
 use Rattle.model.specs.Layout.{layout_of}
 use Rattle.text.specs.Text.{text, Line, lines_of}
 use Rattle.std.specs.Prelude.{Option, None, Some}
+use Rattle.lines.specs.declared.Key.TheVariants.{Mains, Backups, Blocks}
 use Rattle.lines.specs.Line.{named, number_in}
 use Rattle.parser.specs.Script.{most_bytes, line_at, verdict, good, Group, groups_of, default_backups, blocks_line, sizes_of, judged, parse_by, parse, has_backups}
-use Rattle.parser.proofs.VerdictLaws.{verdict_long, verdict_good}
+use Rattle.parser.proofs.VerdictLaws.{verdict_long, verdict_short}
 use Rattle.printer.specs.Decimal.{decimal_in, decimal}
 use Rattle.calls.specs.Printed.{script_text, printed_by}
 use Rattle.upgrade.specs.Upgrade.{older_backups, LeavesOut, first_line, mains_of, backups_line, rewritten, good_text, upgrade_text}
@@ -22,13 +23,13 @@ use Rattle.upgrade.proofs.RewritingLaws.{line, rewritten_lines, rewritten_size, 
 
 -- ---- lines with and without the line of backup segments say the same
 
-same_said : (rule : ℕ → ℕ) (a s : Line) (ls ls' : List Line) → ls' ≡ a ∷ s ∷ drop 1 ls → a ≡ line_at ls 0 → named 1 s ≡ true → number_in 1 s ≡ number_in 0 a
-    → named 1 (line_at ls 1) ≡ false → judged rule None ls' ≡ judged older_backups None ls
+same_said : (rule : ℕ → ℕ) (a s : Line) (ls ls' : List Line) → ls' ≡ a ∷ s ∷ drop 1 ls → a ≡ line_at ls 0 → named Backups s ≡ true → number_in Backups s ≡ number_in Mains a
+    → named Backups (line_at ls 1) ≡ false → judged rule None ls' ≡ judged older_backups None ls
 unfolding sizes_of blocks_line older_backups
 same_said rule a s ls ls' e f n g w =
     rw (e, n, g, w)
     (ap₂ (λ (l : Layout) (gs : List Group). good l gs)
-    (ap₂ (λ (l b : Line). layout_of (number_in 0 l) (number_in 0 l) (number_in 2 b)) f (get_or-drop 1 ls 0 _))
+    (ap₂ (λ (l b : Line). layout_of (number_in Mains l) (number_in Mains l) (number_in Blocks b)) f (get_or-drop 1 ls 0 _))
     (ap groups_of (drop-drop 1 1 ls)))
 
 -- ---- a good sheet that leaves the line out
@@ -37,7 +38,7 @@ module _ (input : List ℕ) (h : LeavesOut input) where
   read_again : length (rewritten input) ≤ most_bytes → parse (rewritten input) ≡ parse_by older_backups input
   unfolding parse_by
   read_again short =
-      rw (sym (verdict_good (rewritten input) 0 short (sym (rewritten_good input h)) refl), h.good)
+      rw (sym (sym (rewritten_good input h) ∙ verdict_short (rewritten input) short), h.good)
       (same_said default_backups (first_line input) (backups_line (mains_of input)) (lines_of input) (lines_of (rewritten input)) (rewritten_lines input h) refl
       (line input h).names (line input h).gives h.without)
 

@@ -3,7 +3,8 @@
 use Rattle.std.specs.Prelude.{ℕ, ◌≡◌, false, cond, List, ◌++◌, ltb, length, drop}
 use Rattle.text.specs.Text.{text, Line, lines_of}
 use Rattle.std.specs.Prelude.{Option, None, Some}
-use Rattle.lines.specs.Line.{mains_key, backups_key, number_in}
+use Rattle.lines.specs.declared.Key.TheVariants.{Mains, Backups}
+use Rattle.lines.specs.Line.{number_in}
 use Rattle.parser.specs.Script.{most_bytes, line_at, verdict, has_backups, bad}
 use Rattle.printer.specs.Decimal.{decimal}
 use Rattle.calls.specs.Printed.{script_text}
@@ -24,7 +25,7 @@ abbrev pub first_line : List ℕ → Line
 first_line input = line_at (lines_of input) 0
 
 abbrev pub mains_of : List ℕ → ℕ
-mains_of input = number_in mains_key (first_line input)
+mains_of input = number_in Mains (first_line input)
 
 -- the line of n backup segments
 unfoldable pub backups_line : ℕ → Line
@@ -39,7 +40,7 @@ rewritten input = first_line input ++ backups_line (mains_of input) ++ drop (len
 -- for a good sheet: the line that it has; how many bytes it would have, if these are too many; the rewritten sheet
 unfoldable pub good_text : List ℕ → List ℕ
 good_text input =
-    cond (has_backups (lines_of input)) (backups_line (number_in backups_key (line_at (lines_of input) 1)))
+    cond (has_backups (lines_of input)) (backups_line (number_in Backups (line_at (lines_of input) 1)))
     (cond (ltb most_bytes (length (rewritten input))) (text "bytes=" ++ decimal (length (rewritten input)) ++ text "\n") (rewritten input))
 
 -- by the verdict: for a bad sheet what the sheet program prints

@@ -3,46 +3,51 @@
 
 #![tactic(auto)]
 
-ghost use Rattle.std.specs.Prelude.{◌≤◌, ◌≡◌, ◌++◌, length, drop};
+ghost use Rattle.std.specs.Prelude.{◌≤◌, ◌≡◌, ◌++◌, length, drop, None};
 ghost use Rattle.io.specs.Counts.{IsPrefixLen};
-ghost use Rattle.std.specs.Prelude.{None};
 ghost use Rattle.parser.specs.Script.{most_bytes, verdict};
-ghost use Rattle.printer.specs.Decimal.{Appended};
+ghost use Rattle.printer.specs.Page.{Room, Appended};
 ghost use Rattle.upgrade.specs.Upgrade.{LeavesOut, rewritten, good_text, upgrade_text};
 
-use text::Number;
+use lines::Key;
+use printer::Page;
 
 // The bytes of a line of backup segments: its key, one digit, byte 10.
 const LINE_SIZE: usize = 9;
 
-// Puts the rewritten sheet at the start of a buffer.
-fn put_rewritten(input: &[u8], out: &mut [u8]) -> usize
-    requires { LeavesOut input.now × (length (rewritten input.now) ≤ most_bytes) × (most_bytes ≤ length out.old) }
-    ensures { Appended out.old 0 (rewritten input.now) out.new result }
+// Appends the rewritten sheet.
+fn put_rewritten(input: &[u8], page: &mut Page)
+    requires leaves_out { LeavesOut input.now }
+    requires size { length (rewritten input.now) ≤ most_bytes }
+    requires room { Room page.old most_bytes }
+    ensures { Appended page.old (rewritten input.now) page.new }
 {
-    let second = text::next_line(input, 0);
-    let mains = lines::number_at(lines::MAINS, input, 0, second);
-    let first = printer::append_text(out, 0, &input[..second]);
-    let line = printer::append_number(out, first, b"spares=", mains, b"\n");
-    printer::append_text(out, line, &input[second..])
+    let (first, rest) = text::split_line(input);
+    page.text(first);
+    let mains = Key::Mains.number_in(first);
+    page.number(b"spares=", mains, b"\n");
+    page.text(rest);
 }
 
 // A good sheet: its line, if it has one; how long it would be, if that is too long; rewritten.
-fn upgrade_good(input: &[u8], out: &mut [u8]) -> usize
-    requires { (verdict input.now ≡ None) × (most_bytes ≤ length out.old) }
-    ensures { Appended out.old 0 (good_text input.now) out.new result }
+fn upgrade_good(input: &[u8], page: &mut Page)
+    requires good { verdict input.now ≡ None }
+    requires room { Room page.old most_bytes }
+    ensures { Appended page.old (good_text input.now) page.new }
 {
-    let second = text::next_line(input, 0);
-    let third = text::next_line(input, second);
-    if lines::is_named(lines::BACKUPS, &input[second..third]) {
-        let backups = lines::number_at(lines::BACKUPS, input, second, third);
-        return printer::append_number(out, 0, b"spares=", backups, b"\n");
+    let (_, rest) = text::split_line(input);
+    let (second, _) = text::split_line(rest);
+    if Key::Backups.is_named(second) {
+        let backups = Key::Backups.number_in(second);
+        page.number(b"spares=", backups, b"\n");
+        return;
     }
     let size = input.len() + LINE_SIZE;
     if parser::MOST_BYTES < size {
-        return printer::append_number(out, 0, b"bytes=", size as u64, b"\n");
+        page.number(b"bytes=", size as u64, b"\n");
+        return;
     }
-    put_rewritten(input, out)
+    put_rewritten(input, page);
 }
 
 // Puts what becomes of a sheet at the start of a buffer, and answers how many bytes that are.
@@ -50,8 +55,10 @@ pub fn upgrade_sheet(input: &[u8], out: &mut [u8; parser::MOST_BYTES]) -> usize
     ensures prefix_len { IsPrefixLen result out.new }
     ensures value { (result ≡ length (upgrade_text input.now)) × (out.new ≡ upgrade_text input.now ++ drop result out.old) }
 {
+    let mut page = Page::new(out);
     match parser::verdict(input) {
-        Number::Some(n) => printer::append_number(out, 0, b"sheet=", n, b"\n"),
-        Number::None => upgrade_good(input, out),
+        Some(n) => page.number(b"sheet=", n, b"\n"),
+        None => upgrade_good(input, &mut page),
     }
+    page.end
 }

@@ -1,15 +1,12 @@
-use Rattle.std.proofs.Common.{sym, ◌∙◌, ◌++◌}
-use Rattle.printer.specs.Decimal.{decimal, Appended}
+use Rattle.std.proofs.Common.{sym}
 use Rattle.printer.proofs.AppendedLaws.{appended_first, appended_as}
-use Rattle.calls.proofs.Texts.{line_end_bytes, sheet_bytes, bad_text}
 use Rattle.upgrade.proofs.AnswerLaws.{answer_good, answer_bad}
 use Rattle.upgrade.proofs.upgrade_sheet.Goals as goal
+use Rattle.upgrade.proofs.upgrade_sheet.Goals.{in-Some, in-None}
 
-pub returns-in-Is-clause-value : goal.returns-in-Is-clause-value
-returns-in-Is-clause-value c =
-    let n = c.in-Is.n in
-    let line : Appended _ 0 (sheet_bytes ++ decimal n ++ line_end_bytes) _ c.append_number.result = c.append_number.ensures.appended in
-    (appended_first (appended_as (bad_text n ∙ answer_bad c.args.input.now n (sym c.in-Is.ensures)) line)).1
-
-pub returns-in-None-clause-value : goal.returns-in-None-clause-value
-returns-in-None-clause-value c = (appended_first (appended_as (answer_good c.args.input.now (sym c.in-None.ensures)) c.upgrade_good.ensures)).1
+pub returns-clause-value : goal.returns-clause-value
+returns-clause-value c =
+    elim c.match-verdict.branch [
+      | in-Some w ↦ rw w.page-is (appended_first c.new-page.ensures.begun (appended_as (answer_bad c.args.input.now w.in-Some.n (sym w.in-Some.ensures)) w.number.ensures.appended)).1
+      | in-None w ↦ rw w.page-is (appended_first c.new-page.ensures.begun (appended_as (answer_good c.args.input.now (sym w.in-None.ensures)) w.upgrade_good.ensures)).1
+    ]
