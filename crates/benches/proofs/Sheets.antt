@@ -10,7 +10,7 @@ use Rattle.model.specs.Range.{cat}
 use Rattle.model.specs.Layout.{unpaired}
 use Rattle.model.specs.Container.{committed_epoch}
 use Rattle.text.specs.Text.{text, starts_with, lines_of, number_of, hex_pairs, hex_bytes}
-use Rattle.lines.specs.Line.{key, named, value_of, good_line}
+use Rattle.lines.specs.Line.{name, takes, named, value_of, good_line}
 use Rattle.parser.specs.Script.{most_bytes, Script, bad, good, Group, first_bad, verdict, group_of, first_groups, groups_of, default_backups, blocks_line, sizes_of, parse_by, parse}
 use Rattle.printer.specs.Decimal.{decimal_in, decimal}
 use Rattle.calls.specs.Printed.{blank, Board, answer_on, board_step, answer_text, write_of, checkpointed, checkpoint_text, after_group, group_text, groups_text, opened_board, open_text, script_text, printed_by, printed}
@@ -76,7 +76,7 @@ agrees expected pairs t ps = same t expected && same ps pairs
 
 -- every definition of the sheet
 unfoldable sheet_rules : Unit {0}
-unfolding model_rules cat text starts_with lines_of number_of hex_pairs hex_bytes key named value_of good_line first_bad verdict group_of first_groups groups_of default_backups blocks_line sizes_of parse_by decimal_in decimal blank board_step answer_text checkpointed checkpoint_text opened_board open_text known ran_known sheet_known same agrees
+unfolding model_rules cat text starts_with lines_of number_of hex_pairs hex_bytes name takes named value_of good_line first_bad verdict group_of first_groups groups_of default_backups blocks_line sizes_of parse_by decimal_in decimal blank board_step answer_text checkpointed checkpoint_text opened_board open_text known ran_known sheet_known same agrees
 sheet_rules = tt
 
 -- what the test means

@@ -2,7 +2,6 @@
 use Prim.Native.Nat.{ℕ, suc}
 use mathlib.Core.Path.{◌≡◌, refl, sym, ap, ◌∙◌}
 use mathlib.Core.List.{List, [], ◌∷◌, ◌++◌, append_assoc, append-nil}
-use lib.ListN.{length}
 use Rattle.model.specs.declared.Layout.{Layout}
 use Rattle.parser.specs.Script.{good, Group}
 use Rattle.printer.specs.declared.Page.{Page}
@@ -20,16 +19,6 @@ Story s gs p s' n gs' p' =
     (b : Board) → BoardAt b s
     → (done : List ℕ) × Appended p done p'
     × ((k : Board) × BoardAt k s' × (groups_text b 1 gs ≡ done ++ groups_text k n gs'))
-
--- every sheet stands on some board, so that a page keeps its size
-abbrev board_of : Sheet → Board
-board_of s = record {
-  device = record { layout = s.session.layout; image = s.image.now; session = s.session; durable = []; played = []; adr_played = [] };
-  clients = s.client ∷ [];
-}
-
-pub group_keeps : (s s' : Sheet) (n : ℕ) (g : Group) (p p' : Page) → GroupRan s n g p s' p' → length p'.out.now ≡ length p.out.now
-group_keeps s s' n g p p' x = (x (board_of s) (refl, refl, refl)).0.size
 
 module _ (s : Sheet) (gs : List Group) (p : Page) where
   -- none is run

@@ -3,13 +3,13 @@
 
 #![tactic(auto)]
 
-ghost use Rattle.std.specs.Prelude.{◌+◌, ◌*◌, ◌/◌, ◌≤◌, ◌≡◌, true, ◌++◌, length, drop, None};
+ghost use Rattle.std.specs.Prelude.{◌*◌, ◌/◌, ◌≤◌, ◌≡◌, true, ◌++◌, length, drop, None};
 ghost use Rattle.model.specs.Layout.{word_size};
 ghost use Rattle.text.specs.Text.{hex_pairs};
 ghost use Rattle.lines.specs.Line.{most_digits};
 ghost use Rattle.parser.specs.Script.{verdict, parse};
 ghost use Rattle.io.specs.Counts.{IsPrefixLen};
-ghost use Rattle.printer.specs.Page.{Room};
+ghost use Rattle.printer.specs.Page.{Room, Grown};
 ghost use Rattle.calls.specs.Printed.{printed};
 ghost use Rattle.calls.specs.Ran.{Kept};
 ghost use Rattle.group.specs.GroupRan.{group_size, GroupRan};
@@ -38,7 +38,7 @@ fn run_read(read: GroupAt, n: u64, sheet: &mut Sheet, page: &mut Page)
     requires room { Room page.old group_size }
     ensures kept { Kept sheet.old sheet.new }
     ensures group_ran { GroupRan sheet.old n (group_in read.entry) page.old sheet.new page.new }
-    ensures upper_bound { page.new.end ≤ page.old.end + group_size }
+    ensures grown { Grown page.old group_size page.new }
 {
     let mut bytes = [0; SPAN_SIZE];
     let count = text::decode_bytes(read.digits, &mut bytes);

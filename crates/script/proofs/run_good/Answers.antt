@@ -35,7 +35,7 @@ pub run_groups-requires-clause-room : goal.run_groups-requires-clause-room
 run_groups-requires-clause-room c =
     let o = c.open-sheet.ensures in
     record {
-      room = omega (arith, o.upper_bound, o.opened.0.size, c.requires.room.room, header_room _ _ c.header-header.ensures c.requires.good, (good_sheet _ c.requires.good).0);
+      room = omega (arith, o.grown.upper_bound, o.grown.size, c.requires.room.room, header_room _ _ c.header-header.ensures c.requires.good, (good_sheet _ c.requires.good).0);
     }
 
 pub returns : goal.returns

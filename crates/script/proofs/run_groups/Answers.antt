@@ -3,7 +3,7 @@ use Rattle.std.proofs.lemmas.Bool.Decides.{nat_tests}
 use Rattle.parser.proofs.GroupLaws.{groups_end, group_next}
 use Rattle.script.specs.SheetRan.{groups_from, group_in}
 use Rattle.script.proofs.GroupLaws.{digits_fit, group_first, good_rest}
-use Rattle.script.proofs.Story.{story_none, story_more, story_end, group_keeps}
+use Rattle.script.proofs.Story.{story_none, story_more, story_end}
 use Rattle.script.proofs.run_groups.Goals as goal
 
 pub loop-rest-init : goal.loop-rest-init
@@ -32,10 +32,10 @@ loop-rest-preserved c =
       omega arith,
       omega (arith, n, l.invariant.2),
       record { same = x.kept.same ∙ l.invariant.3.same; size = x.kept.size ∙ l.invariant.3.size },
-      omega (arith, n, x.upper_bound, l.invariant.4),
-      group_keeps l.sheet c.run_read.new.sheet _ _ l.page c.run_read.new.page x.group_ran ∙ l.invariant.5,
+      omega (arith, n, x.grown.upper_bound, l.invariant.4),
+      x.grown.size ∙ l.invariant.5,
       rw add-one (story_more c.args.sheet.now (groups_from c.args.input.now) c.args.page.now l.sheet l.n (groups_from l.rest.now) l.page l.invariant.6
-        (group_in r) _ c.run_read.new.sheet c.run_read.new.page (group_first _ l.invariant.0 some _ c.group_at-read.ensures) x.group_ran),
+          (group_in r) _ c.run_read.new.sheet c.run_read.new.page (group_first _ l.invariant.0 some _ c.group_at-read.ensures) x.group_ran),
     )
 
 pub loop-rest-smaller : goal.loop-rest-smaller
