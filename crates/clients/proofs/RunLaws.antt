@@ -9,7 +9,7 @@ use native.Mathlib.Decide.{dec_lt, ℕ_discrete}
 use native.Mathlib.Numerals.{add-one}
 use lib.Dec.{ltb, eqb}
 use lib.ListN.{length, take, set, length-set, length-replicate, get_or, get_or-replicate, get_or-eq_default}
-use lib.Seq.{get_or-set_same, get_or-set_other, set-get_or, set_out}
+use lib.Seq.{get_or-set_same, get_or-set_other, set-get_or}
 use borrow.Author.Tests.{lt-ltb, le-ltb, le-leb, lt-leb}
 use Rattle.std.proofs.lemmas.List.{ext_get_or, length-take, get_or-take}
 use Rattle.std.specs.Array.{IsFromFnResultFrom}
@@ -163,10 +163,6 @@ module _ (run : Run) (R : Clients) (e : run ≡ loaded R) (k : ℕ) (h : k < mos
   under_limit b = lt-leb (client_at R k).quota (client_at R k).used (rw (run_at run R e k h) at b)
 
 -- ---- what a call leaves
-
--- a record past the last is not stored
-pub put_past : (R : Clients) (c : Client) → set R (length R) c ≡ R
-put_past R c = set_out R (length R) c (omega arith)
 
 -- the record of a client after a served write
 pub put_used : (R : Clients) (k : ℕ) (b : Bool)
