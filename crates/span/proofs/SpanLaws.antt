@@ -1,6 +1,5 @@
--- Laws of a span: room for its words, a word made byte by byte, the words that lie whole among its bytes, its first word, and the
--- test of its end.
-use Prim.Native.Nat.{ℕ, zero, suc, ◌+◌, ◌-◌, ◌*◌, ◌/◌, ◌%◌, ◌≤◌, ◌<◌}
+-- Laws of a span: room for its words, a word with bytes laid over it, the words that lie whole among its bytes, and its first word.
+use Prim.Native.Nat.{ℕ, zero, suc, ◌+◌, ◌-◌, ◌*◌, ◌/◌, ◌%◌, ◌≤◌, ◌<◌, min, max}
 use mathlib.Core.Path.{◌≡◌, refl, sym, ap, ap₂, ◌∙◌}
 use mathlib.Core.Bool.{Bool, true, false, not, cond}
 use mathlib.Core.Logic.{◌≢◌}
@@ -10,14 +9,17 @@ use native.Mathlib.Nat.{zero-add}
 use native.Mathlib.Decide.{dec_lt, ℕ_discrete}
 use lib.Dec.{eqb}
 use lib.ListN.{length, get_or, set, take, drop, length-drop}
-use lib.Seq.{get_or-set_same, get_or-set_other, get_or-drop, take_all}
+use lib.Seq.{get_or-drop, take_all}
+use borrow.Author.Rules.{rules}
 use borrow.Author.Tests.{eq-eqb, ne_eqb}
+use borrow.Rule.Slice.PartMut.{put_mid}
+use Rattle.std.proofs.lemmas.List.{places}
 use Rattle.model.specs.Words.{Image, byte_at, word_of, word_at, overlay}
 use Rattle.model.specs.Range.{cat}
 use Rattle.model.specs.Ops.{store, Ops, for_domain, stores, word_place}
 use Rattle.model.specs.Write.{span_words, span_stores}
 use Rattle.model.proofs.Laws.Range.{cat_ext}
-use Rattle.model.proofs.Laws.Words.{word_moved, word_cong, overlay_in, overlay-before, overlay-after, overlay_inside}
+use Rattle.model.proofs.Laws.Words.{word_moved, word_cong, overlay_in, overlay-before, overlay-after, overlay_inside, overlay_sets, overlay_shift}
 use Rattle.model.proofs.Laws.Domain.{domain_stores}
 use Rattle.model.proofs.Laws.Counts.{length-stores}
 use Rattle.trace.specs.declared.Writer.{Writer}
@@ -45,56 +47,27 @@ module _ {w : Writer} (I : Image) (a : ℕ) (bs : List ℕ) (h : Fits w (span_st
   pub words_fit : Fits w (word_stores a bs)
   words_fit = record { room = omega (arith, span_room, length-written w.domain (length bs / 8) a (λ k. word_at bs (8 * k))) }
 
--- ---- a word of the image with bytes laid over it, made byte by byte
+-- ---- a word of the image with bytes laid over it
 
--- eight bytes on the way to the word at p: before the place i the bytes are laid over, from i on what stood there still does
-abbrev pub Laid : (f : ℕ → ℕ) (a : ℕ) (bs : List ℕ) (p i : ℕ) (w : List ℕ) → Type 0
-Laid f a bs p i w = (k : ℕ) → k < 8 → (p + k < i → byte_at w k ≡ overlay f a bs (p + k)) × (i ≤ p + k → byte_at w k ≡ f (p + k))
+-- the bytes that meet it, from s to e, are copied into it
+module _ (f : ℕ → ℕ) (a : ℕ) (bs w : List ℕ) (p s e : ℕ) (n : length w ≡ 8) (first : s ≡ max a p) (last : e ≡ min (a + length bs) (p + 8)) (some : s ≤ e) where
+  abbrev pub laid : List ℕ
+  laid = put_mid (s - p) (e - p - (s - p)) w (take (e - a - (s - a)) (drop (s - a) bs))
 
--- at the start, where the bytes or the word begin, none is laid over
-pub laid_none : (f : ℕ → ℕ) (a : ℕ) (bs : List ℕ) (p i : ℕ) (w : List ℕ) → (a < i → i ≤ p) → ((k : ℕ) → k < 8 → byte_at w k ≡ f (p + k)) → Laid f a bs p i w
-laid_none f a bs p i w h e k l = (λ b. e k l ∙ sym (overlay-before f a bs (p + k) (go b (dec_lt a i))), λ b. e k l)
-  where
-    go : p + k < i → Dec (a < i) → p + k < a
-    go b (yes x) = omega (arith, h x)
-    go b (no x) = omega arith
+  pub word_laid : ((k : ℕ) → k < 8 → byte_at w k ≡ f (p + k)) → word_at laid 0 ≡ word_of (overlay f a bs) p
+  word_laid h = word_moved (byte_at laid) (overlay f a bs) 0 p (λ k l. ap (byte_at laid) (zero-add k) ∙ go k l (dec_lt (p + k) s) (dec_lt (p + k) e))
+    where
+      go : (k : ℕ) → k < 8 → Dec (p + k < s) → Dec (p + k < e) → byte_at laid k ≡ overlay f a bs (p + k)
+      go k l (yes b) d = let q : byte_at laid k ≡ byte_at w k = search (rules, places) in q ∙ h k l ∙ sym (overlay-before f a bs (p + k) (omega arith))
+      go k l (no b) (yes d) = let q : byte_at laid k ≡ get_or bs (p + k - a) 0 = grind (arith, places) in q ∙ overlay_inside f a bs (p + k) (omega arith) (omega arith)
+      go k l (no b) (no d) = let q : byte_at laid k ≡ byte_at w k = search (rules, places) in q ∙ h k l ∙ sym (overlay-after f a bs (p + k) (omega arith))
 
--- with one byte more set
-pub laid_more : (f : ℕ → ℕ) (a : ℕ) (bs : List ℕ) (p i : ℕ) (w : List ℕ) → a ≤ i → i < a + length bs → p ≤ i → i < p + 8 → length w ≡ 8
-    → Laid f a bs p i w → Laid f a bs p (i + 1) (set w (i - p) (byte_at bs (i - a)))
-laid_more f a bs p i w ai ib pi ip n h k l = go (ℕ_discrete k (i - p))
-  where
-    v : ℕ
-    v = byte_at bs (i - a)
-
-    go : Dec (k ≡ i - p) → (p + k < i + 1 → byte_at (set w (i - p) v) k ≡ overlay f a bs (p + k)) × (i + 1 ≤ p + k → byte_at (set w (i - p) v) k ≡ f (p + k))
-    go (yes e) =
-        let q : i ≡ p + k = omega arith in
-        let s : byte_at (set w (i - p) v) k ≡ overlay f a bs (p + k) =
-        ap (byte_at (set w (i - p) v)) e ∙ get_or-set_same w (i - p) v 0 (omega arith) ∙ overlay_inside f a bs i ai (omega arith) ∙ ap (overlay f a bs) q
-        in (λ b. s, λ b. absurd (omega arith))
-    go (no e) =
-        let s : byte_at (set w (i - p) v) k ≡ byte_at w k = get_or-set_other w (i - p) k v 0 e in
-        (λ b. s ∙ (h k l).0 (omega arith), λ b. s ∙ (h k l).1 (omega arith))
-
--- behind the last byte, of the word or of the bytes, it is the word
-pub laid_all : (f : ℕ → ℕ) (a : ℕ) (bs : List ℕ) (p i : ℕ) (w : List ℕ) → (i < p + 8 → a + length bs ≤ i) → Laid f a bs p i w
-    → word_at w 0 ≡ word_of (overlay f a bs) p
-laid_all f a bs p i w e h = word_moved (byte_at w) (overlay f a bs) 0 p (λ k l. ap (byte_at w) (zero-add k) ∙ go k l (dec_lt (p + k) i))
-  where
-    go : (k : ℕ) → k < 8 → Dec (p + k < i) → byte_at w k ≡ overlay f a bs (p + k)
-    go k l (yes b) = (h k l).0 b
-    go k l (no b) = let x : a + length bs ≤ p + k = omega (arith, e (omega arith)) in (h k l).1 (omega arith) ∙ sym (overlay-after f a bs (p + k) x)
-
--- one byte laid over
+-- one byte is set in it
 pub byte_laid : (f : ℕ → ℕ) (w : List ℕ) (i b : ℕ) → length w ≡ 8 → ((k : ℕ) → k < 8 → byte_at w k ≡ f (word_place i + k))
     → word_at (set w (i % 8) b) 0 ≡ word_of (overlay f i (b ∷ [])) (word_place i)
-byte_laid f w i b n h =
-    let l : Laid f i (b ∷ []) (word_place i) (i + 1) (set w (i - word_place i) (byte_at (b ∷ []) (i - i))) =
-    laid_more f i (b ∷ []) (word_place i) i w (omega arith) (omega arith) (omega arith) (omega arith) n (laid_none f i (b ∷ []) (word_place i) i w (λ x. omega arith) h) in
-    let e : i - word_place i ≡ i % 8 = omega arith in
-    let z : i - i ≡ 0 = omega arith in
-    laid_all f i (b ∷ []) (word_place i) (i + 1) (set w (i % 8) b) (λ x. omega arith) (rw (e, z) at l)
+byte_laid f w i b n h = word_moved (byte_at (set w (i % 8) b)) (overlay f i (b ∷ [])) 0 (word_place i) (λ k l.
+    ap (byte_at (set w (i % 8) b)) (zero-add k) ∙ overlay_sets w (i % 8) (b ∷ []) k (omega arith)
+    ∙ overlay_shift (byte_at w) f (i % 8) i (b ∷ []) k (word_place i + k) (word_place i) (omega arith) refl (h k l))
 
 -- ---- the words that lie whole among bytes
 

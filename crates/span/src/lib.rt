@@ -62,17 +62,15 @@ impl Span {
 
 // ---- bytes laid over an image
 
-// The word at a place of the image with the bytes laid over it.
+// The word at a place of the image with the bytes laid over it, which meet it or touch it.
 fn overlaid_word(image: &[u8], at: usize, bytes: &[u8], place: usize) -> u64
-    requires { (place + word_size ≤ length image.now) × (at + length bytes.now < 2 ^ 64) }
+    requires { (place + word_size ≤ length image.now) × (at + length bytes.now < 2 ^ 64) × (at ≤ place + word_size) × (place ≤ at + length bytes.now) }
     ensures { result ≡ word_of (overlay (byte_at image.now) at bytes.now) place }
 {
-    let bytes_end = at + bytes.len();
-    let word_end = place + WORD_SIZE;
+    let start = at.max(place);
+    let end = (at + bytes.len()).min(place + WORD_SIZE);
     let mut word = words::bytes_at(image, place);
-    for i in at.max(place)..bytes_end.min(word_end) {
-        word[i - place] = bytes[i - at];
-    }
+    word[start - place..end - place].copy_from_slice(&bytes[start - at..end - at]);
     words::join(word)
 }
 
@@ -90,7 +88,7 @@ pub fn span_words(at: usize, len: usize) -> usize
 
 // Stores the word at a place of the image with the bytes laid over it.
 fn put_overlaid(image: &[u8], at: usize, bytes: &[u8], place: usize, out: &mut Writer)
-    requires word_size_in_bounds { (place + word_size ≤ length image.now) × (at + length bytes.now < 2 ^ 64) }
+    requires word_size_in_bounds { (place + word_size ≤ length image.now) × (at + length bytes.now < 2 ^ 64) × (at ≤ place + word_size) × (place ≤ at + length bytes.now) }
     requires fits { Fits out.old (overlaid_store image.now at bytes.now place ∷ []) }
     ensures { Emitted out.old (overlaid_store image.now at bytes.now place ∷ []) out.new }
 {
