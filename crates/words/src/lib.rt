@@ -30,7 +30,7 @@ pub fn bytes_at(image: &[u8], at: usize) -> [u8; WORD_LEN]
     requires { at + word_size ≤ length image.now }
     ensures { (k : ℕ) → k < word_size → byte_at result k ≡ byte_at image.now (at + k) }
 {
-    let mut bytes = [0; WORD_LEN];
+    let mut bytes = [0u8; WORD_LEN];
     bytes.copy_from_slice(&image[at..at + WORD_LEN]);
     bytes
 }
