@@ -112,47 +112,7 @@ fn append_states_at(image: &[u8], page: &mut Page)
     }
 }
 
-// Appends the first line of an image that a read answers with this status.
-fn append_first(image: &[u8], layout: Layout, status: Result<(), Refusal>, page: &mut Page)
-    requires code { code_of status ≡ dump_status layout image.now }
-    requires room { Room page.old first_room }
-    ensures appended { Appended page.old (first_text layout image.now) page.new }
-    ensures upper_bound { page.new.end ≤ page.old.end + first_room }
-{
-    append_sizes(layout, image.len() as u64, page);
-    append_epoch(image, page);
-    append_states_at(image, page);
-    let code = model::status_code(status);
-    page.number(b" refusal=", code, b"\n");
-}
-
-// ---- the parts of a main segment's line
-
-// Appends the number and the active state of a main segment.
-fn append_state(image: &[u8], main: u64, page: &mut Page)
-    requires main_lt_most { main < most }
-    requires room { Room page.old state_room }
-    ensures appended { Appended page.old (keyed "level=" (decimal main) ++ keyed " state=" (decimal (active_state image.now main))) page.new }
-    ensures upper_bound { page.new.end ≤ page.old.end + state_room }
-{
-    let state = byte_or_zero(image, active_line(image) + main as usize);
-    page.keyed(b"level=", main);
-    page.keyed(b" state=", u64::from(state));
-}
-
-// Appends the backup segment of a main segment.
-#[tactic(auto, unfolding(crate::specs::DumpText::backup_text, metadata::specs::Find::found_below, text::specs::Text::text, model::specs::Range::cat))]
-fn append_backup(image: &[u8], layout: Layout, main: u64, page: &mut Page)
-    requires backups_le_most { (layout.backups ≤ most) × (main < most) × (pairs_end ≤ length image.now) }
-    requires room { Room page.old backup_room }
-    ensures appended { Appended page.old (keyed " spare=" (backup_text layout image.now main)) page.new }
-    ensures upper_bound { page.new.end ≤ page.old.end + backup_room }
-{
-    match metadata::find_paired_backup(image, layout, main) {
-        None => page.text(b" spare=-"),
-        Some(backup) => page.keyed(b" spare=", backup),
-    }
-}
+// ---- pieces of a main segment's line
 
 // Appends a key and where a part starts.
 fn append_part(key: &[u8], part: Part, page: &mut Page)
@@ -168,16 +128,30 @@ fn append_part(key: &[u8], part: Part, page: &mut Page)
     }
 }
 
-// Appends where the checkpoint of a main segment starts, and where its working bytes do.
-fn append_parts(image: &[u8], layout: Layout, main: u64, page: &mut Page)
-    requires { Room page.old parts_room }
-    ensures appended { Appended page.old (keyed " saved=" (part_text (checkpoint_part layout image.now main 0)) ++ keyed " working=" (part_text (working_part layout image.now main 0))) page.new }
-    ensures upper_bound { page.new.end ≤ page.old.end + parts_room }
+// Appends a number to a list: behind a comma, if others stand there before it.
+fn append_item(n: u64, seen: bool, page: &mut Page)
+    requires { Room page.old item_room }
+    ensures appended { Appended page.old (cond seen (text ",") [] ++ decimal n) page.new }
+    ensures upper_bound { page.new.end ≤ page.old.end + item_room }
 {
-    let saved = reads::checkpoint_part(image, layout, main, 0);
-    let working = reads::working_part(image, layout, main, 0);
-    append_part(b" saved=", saved, page);
-    append_part(b" working=", working, page);
+    if seen {
+        page.text(b",");
+    }
+    page.decimal(n);
+}
+
+// Appends the end of a line.
+#[tactic(auto, unfolding(text::specs::Text::text, model::specs::Range::cat))]
+fn append_end(silent: bool, page: &mut Page)
+    requires { Room page.old 8 }
+    ensures appended { Appended page.old (cond silent (text " silent\n") (text "\n")) page.new }
+    ensures upper_bound { page.new.end ≤ page.old.end + 8 }
+{
+    if silent {
+        page.text(b" silent\n");
+    } else {
+        page.text(b"\n");
+    }
 }
 
 // ---- blocks
@@ -207,114 +181,149 @@ pub fn parts_same(a: &[u8], b: &[u8]) -> bool
     blocks::blocks_equal(a, b)
 }
 
-// Whether the checkpoint bytes of a block and its working bytes differ.
-#[tactic(auto, using(crate::proofs::PartLaws::checkpoint_long, crate::proofs::PartLaws::working_long), unfolding(crate::specs::DumpText::block_differs))]
-fn block_differs(image: &[u8], layout: Layout, main: u64, block: u64) -> bool
-    ensures { result ≡ block_differs layout image.now main block }
-{
-    let saved = reads::crpm_read_checkpoint(image, layout, main, block);
-    let working = reads::crpm_read_working(image, layout, main, block);
-    !parts_same(saved, working)
+// ---- an image by its layout
+
+// An image, and the layout by which it is judged.
+#[derive(Clone, Copy)]
+struct Dump<'a> {
+    image: &'a [u8],
+    layout: Layout,
 }
 
-// Whether the checkpoint bytes of a block are all 0.
-#[tactic(auto, using(crate::proofs::PartLaws::checkpoint_long), unfolding(model::specs::Same::same_bytes))]
-fn block_is_silent(image: &[u8], layout: Layout, main: u64, block: u64) -> bool
-    ensures { result ≡ same_bytes block_size (checkpoint_block layout image.now main block) [] }
-{
-    part_is_zero(reads::crpm_read_checkpoint(image, layout, main, block))
-}
-
-// Whether all checkpoint bytes of a main segment are 0.
-fn all_silent(image: &[u8], layout: Layout, main: u64) -> bool
-    ensures { result ≡ all_b layout.blocks (λ b. same_bytes block_size (checkpoint_block layout image.now main b) []) }
-{
-    (0..layout.blocks).all(|block| block_is_silent(image, layout, main, block))
-}
-
-// Whether a main segment has a checkpoint and all bytes of it are 0.
-#[tactic(auto, unfolding(crate::specs::DumpText::is_silent))]
-fn is_silent(image: &[u8], layout: Layout, main: u64) -> bool
-    ensures { result ≡ is_silent layout image.now main }
-{
-    let saved = reads::checkpoint_part(image, layout, main, 0);
-    saved.size != 0 && all_silent(image, layout, main)
-}
-
-// ---- the line of a main segment
-
-// Appends a number to a list: behind a comma, if others stand there before it.
-fn append_item(n: u64, seen: bool, page: &mut Page)
-    requires { Room page.old item_room }
-    ensures appended { Appended page.old (cond seen (text ",") [] ++ decimal n) page.new }
-    ensures upper_bound { page.new.end ≤ page.old.end + item_room }
-{
-    if seen {
-        page.text(b",");
+impl Dump<'_> {
+    // Appends the first line of an image that a read answers with this status.
+    fn append_first(self, status: Result<(), Refusal>, page: &mut Page)
+        requires code { code_of status ≡ dump_status self.layout self.image.now }
+        requires room { Room page.old first_room }
+        ensures appended { Appended page.old (first_text self.entry.layout self.entry.image.now) page.new }
+        ensures upper_bound { page.new.end ≤ page.old.end + first_room }
+    {
+        append_sizes(self.layout, self.image.len() as u64, page);
+        append_epoch(self.image, page);
+        append_states_at(self.image, page);
+        let code = model::status_code(status);
+        page.number(b" refusal=", code, b"\n");
     }
-    page.decimal(n);
-}
 
-// Appends the list of the blocks in which checkpoint bytes and working bytes differ.
-#[tactic(auto, using(printer::proofs::AppendedLaws::appended_none), unfolding(model::specs::Range::any_b, crate::specs::DumpText::listed, crate::specs::DumpText::list_text))]
-fn append_list(image: &[u8], layout: Layout, main: u64, page: &mut Page)
-    requires blocks_le_most { layout.blocks ≤ most }
-    requires room { Room page.old list_room }
-    ensures appended { Appended page.old (list_text layout.blocks (block_differs layout image.now main)) page.new }
-    ensures upper_bound { page.new.end ≤ page.old.end + list_room }
-{
-    let mut seen = false;
-    for block in 0..layout.blocks {
-        if block_differs(image, layout, main, block) {
-            append_item(block, seen, page);
-            seen = true;
+    // Appends the number and the active state of a main segment.
+    fn append_state(self, main: u64, page: &mut Page)
+        requires main_lt_most { main < most }
+        requires room { Room page.old state_room }
+        ensures appended { Appended page.old (keyed "level=" (decimal main) ++ keyed " state=" (decimal (active_state self.entry.image.now main))) page.new }
+        ensures upper_bound { page.new.end ≤ page.old.end + state_room }
+    {
+        let state = byte_or_zero(self.image, active_line(self.image) + main as usize);
+        page.keyed(b"level=", main);
+        page.keyed(b" state=", u64::from(state));
+    }
+
+    // Appends the backup segment of a main segment.
+    #[tactic(auto, unfolding(crate::specs::DumpText::backup_text, metadata::specs::Find::found_below, text::specs::Text::text, model::specs::Range::cat))]
+    fn append_backup(self, main: u64, page: &mut Page)
+        requires backups_le_most { (self.layout.backups ≤ most) × (main < most) × (pairs_end ≤ length self.image.now) }
+        requires room { Room page.old backup_room }
+        ensures appended { Appended page.old (keyed " spare=" (backup_text self.entry.layout self.entry.image.now main)) page.new }
+        ensures upper_bound { page.new.end ≤ page.old.end + backup_room }
+    {
+        match metadata::find_paired_backup(self.image, self.layout, main) {
+            None => page.text(b" spare=-"),
+            Some(backup) => page.keyed(b" spare=", backup),
         }
     }
-    if !seen {
-        page.text(b"-");
+
+    // Appends where the checkpoint of a main segment starts, and where its working bytes do.
+    fn append_parts(self, main: u64, page: &mut Page)
+        requires { Room page.old parts_room }
+        ensures appended { Appended page.old (keyed " saved=" (part_text (checkpoint_part self.entry.layout self.entry.image.now main 0)) ++ keyed " working=" (part_text (working_part self.entry.layout self.entry.image.now main 0))) page.new }
+        ensures upper_bound { page.new.end ≤ page.old.end + parts_room }
+    {
+        let saved = reads::checkpoint_part(self.image, self.layout, main, 0);
+        let working = reads::working_part(self.image, self.layout, main, 0);
+        append_part(b" saved=", saved, page);
+        append_part(b" working=", working, page);
     }
-}
 
-// Appends the end of a line.
-#[tactic(auto, unfolding(text::specs::Text::text, model::specs::Range::cat))]
-fn append_end(silent: bool, page: &mut Page)
-    requires { Room page.old 8 }
-    ensures appended { Appended page.old (cond silent (text " silent\n") (text "\n")) page.new }
-    ensures upper_bound { page.new.end ≤ page.old.end + 8 }
-{
-    if silent {
-        page.text(b" silent\n");
-    } else {
-        page.text(b"\n");
+    // Whether the checkpoint bytes of a block and its working bytes differ.
+    #[tactic(auto, using(crate::proofs::PartLaws::checkpoint_long, crate::proofs::PartLaws::working_long), unfolding(crate::specs::DumpText::block_differs))]
+    fn block_differs(self, main: u64, block: u64) -> bool
+        ensures { result ≡ block_differs self.entry.layout self.entry.image.now main block }
+    {
+        let saved = reads::crpm_read_checkpoint(self.image, self.layout, main, block);
+        let working = reads::crpm_read_working(self.image, self.layout, main, block);
+        !parts_same(saved, working)
     }
-}
 
-// Appends the line of a main segment.
-#[tactic(auto, using(crate::proofs::LineLaws::ready))]
-fn append_level(image: &[u8], layout: Layout, main: u64, page: &mut Page)
-    requires value { dump_status layout image.now ≡ 0 }
-    requires main_lt_mains { main < layout.mains }
-    requires room { Room page.old level_room }
-    ensures appended { Appended page.old (level_text layout image.now main) page.new }
-    ensures upper_bound { page.new.end ≤ page.old.end + level_room }
-{
-    append_state(image, main, page);
-    append_backup(image, layout, main, page);
-    append_parts(image, layout, main, page);
-    page.text(b" differ=");
-    append_list(image, layout, main, page);
-    append_end(is_silent(image, layout, main), page);
-}
+    // Whether the checkpoint bytes of a block are all 0.
+    #[tactic(auto, using(crate::proofs::PartLaws::checkpoint_long), unfolding(model::specs::Same::same_bytes))]
+    fn block_is_silent(self, main: u64, block: u64) -> bool
+        ensures { result ≡ same_bytes block_size (checkpoint_block self.entry.layout self.entry.image.now main block) [] }
+    {
+        part_is_zero(reads::crpm_read_checkpoint(self.image, self.layout, main, block))
+    }
 
-// Appends the lines of all main segments.
-#[tactic(auto, using(crate::proofs::LineLaws::ready), unfolding(model::specs::Range::cat))]
-fn append_levels(image: &[u8], layout: Layout, page: &mut Page)
-    requires value { dump_status layout image.now ≡ 0 }
-    requires room { Room page.old (level_room * most) }
-    ensures { Appended page.old (cat layout.mains (level_text layout image.now)) page.new }
-{
-    for main in 0..layout.mains {
-        append_level(image, layout, main, page);
+    // Whether all checkpoint bytes of a main segment are 0.
+    fn all_silent(self, main: u64) -> bool
+        ensures { result ≡ all_b self.entry.layout.blocks (λ b. same_bytes block_size (checkpoint_block self.entry.layout self.entry.image.now main b) []) }
+    {
+        (0..self.layout.blocks).all(|block| self.block_is_silent(main, block))
+    }
+
+    // Whether a main segment has a checkpoint and all bytes of it are 0.
+    #[tactic(auto, unfolding(crate::specs::DumpText::is_silent))]
+    fn is_silent(self, main: u64) -> bool
+        ensures { result ≡ is_silent self.entry.layout self.entry.image.now main }
+    {
+        let saved = reads::checkpoint_part(self.image, self.layout, main, 0);
+        saved.size != 0 && self.all_silent(main)
+    }
+
+    // Appends the list of the blocks in which checkpoint bytes and working bytes differ.
+    #[tactic(auto, using(printer::proofs::AppendedLaws::appended_none), unfolding(model::specs::Range::any_b, crate::specs::DumpText::listed, crate::specs::DumpText::list_text))]
+    fn append_list(self, main: u64, page: &mut Page)
+        requires blocks_le_most { self.layout.blocks ≤ most }
+        requires room { Room page.old list_room }
+        ensures appended { Appended page.old (list_text self.entry.layout.blocks (block_differs self.entry.layout self.entry.image.now main)) page.new }
+        ensures upper_bound { page.new.end ≤ page.old.end + list_room }
+    {
+        let mut seen = false;
+        for block in 0..self.layout.blocks {
+            if self.block_differs(main, block) {
+                append_item(block, seen, page);
+                seen = true;
+            }
+        }
+        if !seen {
+            page.text(b"-");
+        }
+    }
+
+    // Appends the line of a main segment.
+    #[tactic(auto, using(crate::proofs::LineLaws::ready))]
+    fn append_level(self, main: u64, page: &mut Page)
+        requires value { dump_status self.layout self.image.now ≡ 0 }
+        requires main_lt_mains { main < self.layout.mains }
+        requires room { Room page.old level_room }
+        ensures appended { Appended page.old (level_text self.entry.layout self.entry.image.now main) page.new }
+        ensures upper_bound { page.new.end ≤ page.old.end + level_room }
+    {
+        self.append_state(main, page);
+        self.append_backup(main, page);
+        self.append_parts(main, page);
+        page.text(b" differ=");
+        self.append_list(main, page);
+        append_end(self.is_silent(main), page);
+    }
+
+    // Appends the lines of all main segments.
+    #[tactic(auto, using(crate::proofs::LineLaws::ready), unfolding(model::specs::Range::cat))]
+    fn append_levels(self, page: &mut Page)
+        requires value { dump_status self.layout self.image.now ≡ 0 }
+        requires room { Room page.old (level_room * most) }
+        ensures { Appended page.old (cat self.entry.layout.mains (level_text self.entry.layout self.entry.image.now)) page.new }
+    {
+        for main in 0..self.layout.mains {
+            self.append_level(main, page);
+        }
     }
 }
 
@@ -333,11 +342,12 @@ pub fn dump_text(image: &[u8], layout: Layout, out: &mut [u8; MOST_TEXT]) -> Dum
     ensures prefix_len { IsPrefixLen result.size out.new }
     ensures size_value { (result.size ≡ length (dump_text layout image.now)) × (out.new ≡ dump_text layout image.now ++ drop result.size out.old) }
 {
+    let dump = Dump { image, layout };
     let mut page = Page::new(out);
     let status = reads::read_status(image, layout, 0, 0);
-    append_first(image, layout, status, &mut page);
+    dump.append_first(status, &mut page);
     if status.is_ok() {
-        append_levels(image, layout, &mut page);
+        dump.append_levels(&mut page);
     }
     Dumped {
         status,

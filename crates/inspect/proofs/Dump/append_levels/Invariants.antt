@@ -3,10 +3,10 @@ use Rattle.model.specs.Range.{cat}
 use Rattle.printer.specs.Page.{Appended}
 use Rattle.inspect.specs.DumpText.{level_text}
 use Rattle.inspect.specs.Room.{level_room}
-use Rattle.inspect.proofs.append_levels.Given as goal
+use Rattle.inspect.proofs.Dump.append_levels.Given as goal
 
 abbrev pub invariant-loop-main : goal.invariant-loop-main
 invariant-loop-main l = record {
   upper_bound : l.page.end ≤ l.initial.page.end + level_room * l.main;
-  appended : Appended l.initial.page (cat l.main (level_text l.layout l.image)) l.page;
+  appended : Appended l.initial.page (cat l.main (level_text l.self.layout l.self.image.now)) l.page;
 }

@@ -2,7 +2,7 @@ use Rattle.model.specs.Range.{cat}
 use Rattle.text.specs.Text.{text}
 use Rattle.printer.proofs.AppendedLaws.{appended_then}
 use Rattle.inspect.specs.DumpText.{level_text}
-use Rattle.inspect.proofs.append_level.Goals as goal
+use Rattle.inspect.proofs.Dump.append_level.Goals as goal
 
 pub returns-clause-appended : goal.returns-clause-appended
 unfolding level_text text cat

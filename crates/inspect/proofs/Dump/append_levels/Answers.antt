@@ -2,7 +2,7 @@ use native.Mathlib.Omega.{arith}
 use native.Mathlib.Numerals.{add-one}
 use Rattle.model.specs.Range.{cat}
 use Rattle.printer.proofs.AppendedLaws.{appended_then}
-use Rattle.inspect.proofs.append_levels.Goals as goal
+use Rattle.inspect.proofs.Dump.append_levels.Goals as goal
 
 pub loop-main-preserved : goal.loop-main-preserved
 unfolding cat

@@ -2,7 +2,7 @@ use Rattle.model.specs.Range.{cat}
 use Rattle.text.specs.Text.{text}
 use Rattle.printer.proofs.AppendedLaws.{appended_then}
 use Rattle.unlike.specs.SameText.{unlike_text}
-use Rattle.unlike.proofs.append_unlike.Goals as goal
+use Rattle.unlike.proofs.Pair.append_unlike.Goals as goal
 
 pub returns : goal.returns
 unfolding unlike_text text cat

@@ -1,7 +1,7 @@
 use Rattle.model.specs.Range.{cat}
 use Rattle.text.specs.Text.{text}
 use Rattle.printer.proofs.AppendedLaws.{appended_then}
-use Rattle.inspect.proofs.append_state.Goals as goal
+use Rattle.inspect.proofs.Dump.append_state.Goals as goal
 
 pub returns-clause-appended : goal.returns-clause-appended
 unfolding text cat

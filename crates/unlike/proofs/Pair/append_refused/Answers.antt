@@ -4,7 +4,7 @@ use Rattle.text.specs.Text.{text}
 use Rattle.printer.proofs.AppendedLaws.{appended_then}
 use Rattle.inspect.proofs.LineLaws.{ok_served}
 use Rattle.unlike.specs.SameText.{refused_text}
-use Rattle.unlike.proofs.append_refused.Goals as goal
+use Rattle.unlike.proofs.Pair.append_refused.Goals as goal
 
 pub returns-then-is_ok : goal.returns-then-is_ok
 unfolding refused_text text cat

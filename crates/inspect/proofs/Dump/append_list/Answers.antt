@@ -7,14 +7,14 @@ use Rattle.text.specs.Text.{text}
 use Rattle.printer.proofs.AppendedLaws.{appended_then}
 use Rattle.inspect.specs.DumpText.{block_differs, list_text}
 use Rattle.inspect.proofs.LineLaws.{listed_more, listed_same, any_more, listed_nothing}
-use Rattle.inspect.proofs.append_list.Goals as goal
-use Rattle.inspect.proofs.append_list.Goals.{then-block_differs, else-block_differs}
+use Rattle.inspect.proofs.Dump.append_list.Goals as goal
+use Rattle.inspect.proofs.Dump.append_list.Goals.{then-block_differs, else-block_differs}
 
 pub loop-block-preserved : goal.loop-block-preserved
 loop-block-preserved c =
     let l = c.loop-block in
     let a = c.args in
-    let p = block_differs a.layout a.image.now a.main in
+    let p = block_differs a.self.layout a.self.image.now a.main in
     elim c.if-block_differs.branch [
       | then-block_differs w ↦
           let on = sym c.block_differs.ensures ∙ w.if-block_differs.true in
@@ -37,15 +37,15 @@ unfolding list_text text cat
 returns-then-not-seen-clause-appended c =
     let l = c.loop-block in
     let a = c.args in
-    let e : l.block ≡ a.layout.blocks = omega arith in
+    let e : l.block ≡ a.self.layout.blocks = omega arith in
     let none = rw e at (sym l.invariant.seen ∙ c.if-not-seen.true) in
-    let listed = rw (e, listed_nothing (block_differs a.layout a.image.now a.main) a.layout.blocks none) at l.invariant.appended in
+    let listed = rw (e, listed_nothing (block_differs a.self.layout a.self.image.now a.main) a.self.layout.blocks none) at l.invariant.appended in
     rw none (appended_then listed c.text.ensures)
 
 pub returns-else-not-seen-clause-appended : goal.returns-else-not-seen-clause-appended
 unfolding list_text
 returns-else-not-seen-clause-appended c =
     let l = c.loop-block in
-    let e : l.block ≡ c.args.layout.blocks = omega arith in
+    let e : l.block ≡ c.args.self.layout.blocks = omega arith in
     let some = rw e at (sym l.invariant.seen ∙ c.if-not-seen.false) in
     rw some (rw e at l.invariant.appended)

@@ -2,7 +2,7 @@ use Rattle.model.specs.Range.{cat}
 use Rattle.text.specs.Text.{text}
 use Rattle.printer.proofs.AppendedLaws.{appended_then}
 use Rattle.inspect.specs.DumpText.{first_text}
-use Rattle.inspect.proofs.append_first.Goals as goal
+use Rattle.inspect.proofs.Dump.append_first.Goals as goal
 
 pub returns-clause-appended : goal.returns-clause-appended
 unfolding first_text text cat
