@@ -6,7 +6,7 @@ use mathlib.Core.List.{List, ◌∷◌}
 use lib.ListN.{length}
 use Rattle.text.specs.Text.{lines_of, hex_pairs}
 use Rattle.lines.specs.Line.{most_digits}
-use Rattle.parser.specs.Script.{Group, group_of, groups_of}
+use Rattle.parser.specs.Script.{group_of}
 use Rattle.parser.specs.declared.GroupAt.{GroupAt}
 use Rattle.parser.specs.Read.{ReadsGroup}
 use Rattle.parser.proofs.GroupLaws.{GoodGroup, group_here, group_rest}
