@@ -1,7 +1,5 @@
 use mathlib.Core.Path.{sym, ap, ◌∙◌}
-use Prim.Native.Nat.{ℕ}
 use Rattle.model.specs.Range.{cat}
-use Rattle.model.specs.Words.{Image}
 use Rattle.model.specs.Container.{committed_epoch}
 use Rattle.text.specs.Text.{text}
 use Rattle.printer.proofs.AppendedLaws.{appended_then, appended_as}

@@ -1,6 +1,5 @@
-use mathlib.Core.Path.{◌≡◌, refl, ◌∙◌}
+use mathlib.Core.Path.{refl}
 use native.Mathlib.Omega.{arith}
-use mathlib.Core.List.{[]}
 use Rattle.model.specs.Range.{cat}
 use Rattle.model.specs.Session.{zero_session}
 use Rattle.text.specs.Text.{text}
