@@ -35,7 +35,3 @@ list_room = item_room * most + 1
 
 abbrev pub level_room : ℕ
 level_room = state_room + backup_room + parts_room + 8 + list_room + 8
-
--- the whole text
-abbrev pub most_text : ℕ
-most_text = first_room + level_room * most

@@ -17,7 +17,7 @@ ghost use Rattle.printer.specs.Decimal.{number_size, decimal};
 ghost use Rattle.printer.specs.Numbers.{hex_size, hexadecimal};
 ghost use Rattle.printer.specs.Page.{Room, Appended};
 ghost use Rattle.inspect.specs.DumpText.{own_layout, dump_status, keyed, sizes_text, epoch_text, states_text, first_text, backup_text, part_text, block_differs, list_text, is_silent, level_text, dump_text};
-ghost use Rattle.inspect.specs.Room.{sizes_room, epoch_room, states_room, first_room, state_room, backup_room, parts_room, item_room, list_room, level_room, most_text};
+ghost use Rattle.inspect.specs.Room.{sizes_room, epoch_room, states_room, first_room, state_room, backup_room, parts_room, item_room, list_room, level_room};
 
 use model::{Layout, Refusal};
 use printer::Page;

@@ -7,7 +7,6 @@ use lib.ListN.{length, take, drop, length-append, length-take, take-append-drop}
 use lib.Seq.{drop-drop}
 use Rattle.io.specs.Counts.{IsPrefixLen}
 use Rattle.printer.specs.declared.Page.{Page}
-use Rattle.printer.specs.Decimal.{decimal}
 use Rattle.printer.specs.Page.{Begun, Appended}
 
 -- nothing
@@ -30,10 +29,6 @@ appended_then {p} {q} {r} {t} {u} f g = record {
 -- the same text by another name
 pub appended_as : {p q : Page} {t u : List ℕ} → t ≡ u → Appended p t q → Appended p u q
 appended_as e f = rw e at f
-
--- a number between two texts, each by another name
-pub number_text : (n : ℕ) (k k' t t' : List ℕ) → k ≡ k' → t ≡ t' → k ++ decimal n ++ t ≡ k' ++ decimal n ++ t'
-number_text n k k' t t' e f = rw (e, f)
 
 -- what a caller sees of a text at the start of a buffer
 pub appended_first : {a t : List ℕ} {p q : Page} → Begun a p → Appended p t q → IsPrefixLen q.end q.out.now × ((q.end ≡ length t) × (q.out.now ≡ t ++ drop q.end a))
