@@ -132,7 +132,7 @@ fn play_open(
     trace: &mut [u64],
 ) -> Result<Answer, Refusal>
     ensures gives { Gives (open_outcome (layout_of 3 2 1) adr image.old (lent clients.old trace.old)) trace.old (told zero_session result) trace.new clients.new }
-    ensures image_after { image.new ≡ (replay_outcome image.old trace.new (told zero_session result).ops).image }
+    ensures image_after { (s : Session) → image.new ≡ (replay_outcome image.old trace.new (told s result).ops).image }
 {
     let opened = crpm::crpm_open(image, SIZES, Session::ADR, &mut clients[..], trace);
     let _ = replay::crpm_replay(image, trace, orders_of(opened));
@@ -220,8 +220,24 @@ const CALLS: [Call; 21] = [
     Call::Write(2, 0),
 ];
 
-// Makes a call with the card and the records that the last one left, plays its orders and prints its answer. The card afterwards, which
-// stays where the call is refused.
+// Makes a call with the card and the records that the last one left, and plays its orders.
+fn play(
+    image: &mut [u8],
+    session: Session,
+    clients: &mut [Client; CONSOLES],
+    trace: &mut [u64],
+    call: Call,
+) -> Result<Answer, Refusal>
+    ensures { image.new ≡ (replay_outcome image.old trace.new (told session result).ops).image }
+{
+    match call {
+        Call::Open => play_open(image, clients, trace),
+        Call::Write(console, level) => play_write(image, session, clients, console, level, trace),
+        Call::Save => play_save(image, session, clients, trace),
+    }
+}
+
+// Makes a call and prints its answer. The card afterwards, which stays where the call is refused.
 fn make(
     rt: &impl Print,
     image: &mut [u8],
@@ -230,24 +246,15 @@ fn make(
     trace: &mut [u64],
     call: Call,
 ) -> io::Result<Session> {
-    let ended = match call {
-        Call::Open => {
-            let opened = play_open(image, clients, trace);
-            print_answer(rt, "open", opened, *clients)?;
-            opened
-        }
+    let ended = play(image, session, clients, trace, call);
+    match call {
+        Call::Open => print_answer(rt, "open", ended, *clients)?,
         Call::Write(console, level) => {
             print!(rt; " console={console} level={level}")?;
-            let written = play_write(image, session, clients, console, level, trace);
-            print_answer(rt, "write", written, *clients)?;
-            written
+            print_answer(rt, "write", ended, *clients)?
         }
-        Call::Save => {
-            let saved = play_save(image, session, clients, trace);
-            print_answer(rt, "save", saved, *clients)?;
-            saved
-        }
-    };
+        Call::Save => print_answer(rt, "save", ended, *clients)?,
+    }
     Ok(ended.map_or(session, |answer| answer.session))
 }
 
