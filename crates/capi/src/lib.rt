@@ -84,11 +84,8 @@ pub extern "C" fn crpm_write(
         Ok(written) => {
             session[DIRTY_SEGMENTS_AT] = written.dirty_segments;
             session[DIRTY_BLOCKS_AT + main as usize] = written.word;
-            clients::put(
-                clients,
-                client as usize,
-                run.record_of(client, written.used),
-            );
+            let record = run.record_of(client, written.used);
+            clients::put(clients, client as usize, record);
             *ops = written.ops;
             0
         }

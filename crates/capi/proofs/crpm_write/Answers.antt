@@ -13,7 +13,7 @@ returns-in-Ok c =
     let g = rw c.view_in-view.ensures at (c.in-Ok.ensures.gives R c.load-run.ensures) in (
       g.0,
       write_stored a.session.now c.told-session _ c.view_in-view.ensures w.dirty_segments a.main w.word c.in-Ok.ensures.main_lt_most.0 ∙ ap words_of g.1,
-      c.put.ensures ∙ ap (set R a.client) (c.record_of.ensures R c.load-run.ensures) ∙ g.4,
+      c.put.ensures ∙ ap (set R a.client) (c.record_of-record.ensures R c.load-run.ensures) ∙ g.4,
       g.3,
       g.2,
     )
