@@ -1,5 +1,4 @@
--- Laws of a checkpoint's refusals: what holds of image and session where those of them let it pass, the records and the epoch after
--- them, and what a refused call gives.
+-- Laws of a checkpoint's refusals: what holds of image and session where those of them let it pass.
 use Prim.Native.Nat.{◌≤◌}
 use mathlib.Core.Path.{◌≡◌, sym, ◌∙◌}
 use mathlib.Core.Logic.{◌≢◌}
@@ -44,18 +43,3 @@ module _ (s : Session) (I : Image) (z : 0 ≡ first_error (context_errors s I)) 
         raises = raises;
         within = words_within s (active_state I) k.0.1 (not-false _ (r 5));
       }
-
-  -- the records are judged after 1 to 5, and the epoch after both
-  module _ (R : Clients) where
-    pub clients_refused : (r : Refusal) → refusal_number r ≡ first_error (clients_errors s.layout R) → refusal_number r ≡ first_error (lent_errors s I R ++ epoch_errors I)
-    clients_refused r x = stage_refused _ (clients_errors s.layout R) (epoch_errors I) x (refusal_refuses r) ∙ sym (after-served (context_errors s I) _ (omega arith) (sym z))
-
-    pub epoch_left : 0 ≡ first_error (clients_errors s.layout R) → first_error (lent_errors s I R ++ epoch_errors I) ≡ first_error (epoch_errors I)
-    epoch_left x = after-served (context_errors s I) _ (omega arith) (sym z) ∙ after-served (clients_errors s.layout R) (epoch_errors I) (omega arith) (sym x)
-
--- a refused checkpoint
-pub refused_checkpoint : (s : Session) (I : Image) (R : Clients) (t : Trace) (r : Refusal) → refusal_number r ≡ checkpoint_status s I (lent R t)
-    → Gives (checkpoint_outcome s I (lent R t)) t (told s (Err r)) t (cond (served (refusal_number r)) (cleared R) R)
-unfolding checkpoint_outcome
-refused_checkpoint s I R t r p =
-    rw (refusal_refuses r) (gives_refused _ s (with_checkpoint s) R (cleared R) s.domain (checkpoint_ops s I) t r p)

@@ -106,6 +106,7 @@ fn put_epoch(image: &[u8], out: &mut Writer)
 // ---- all operations
 
 // Their number on the trace for the kind of module, whatever the dirty segments and the image.
+#[tactic(auto, using(model::proofs::Laws::Counts::Checkpoint::count_checkpoint), unfolding(model::specs::Counts::flushes))]
 fn checkpoint_length(session: SessionView, marked: u64) -> u64
     requires mains_le_most { session.layout.mains ≤ most }
     requires by_index { (i : ℕ) → i < session.layout.mains → get_or session.dirty_blocks.now i 0 < 2 ^ session.layout.blocks }
@@ -134,6 +135,7 @@ fn put_checkpoint(image: &[u8], session: SessionView, marked: u64, out: &mut Wri
 
 // The first refusal of a checkpoint that applies, whatever the trace: a bad image or session, bad records, or an epoch that cannot be
 // raised. `judged` is what refusal 13 says of the records.
+#[tactic(auto, unfolding(model::specs::Status::first_error))]
 fn checkpoint_status(
     image: &[u8],
     session: SessionView,

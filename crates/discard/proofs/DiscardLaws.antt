@@ -75,20 +75,14 @@ module _ (s : Session) (I : Image) (i word : ℕ) (e : word ≡ cond (is_dirty s
       → n ≡ length (for_domain s.domain (discard_ops s I i))
   discarded_length d n k = k s.domain s.layout I i _ (discarded_within d) ∙ ap (λ (O : Ops). length (for_domain s.domain O)) discard_ops_lem
 
--- from and to the places that the code found: zeros, or from where the checkpoint stands
-module _ (l : Layout) (I : Image) (word i to : ℕ) (x : Option ℕ) (place : to ≡ main_at l i) where
-  pub zero_ops : None ≡ x → each_dirty word l.blocks (λ b. put_block false (to + block_size * b) (λ _. 0)) ≡ restore_dirty l I word i x
+-- by where the code found the main segment and the active line of states, and by where it found the checkpoint: zeros, or from there
+module _ (l : Layout) (I : Image) (word i : ℕ) {to line : ℕ} (place : to ≡ main_at l i) (active : line ≡ active_line I) where
+  pub zero_ops : None ≡ checkpoint_located l I line i
+      → each_dirty word l.blocks (λ b. put_block false (to + block_size * b) (λ _. 0)) ≡ restore_dirty l I word i (checkpoint_located l I (active_line I) i)
   unfolding restore_dirty
-  zero_ops e = rw (place, ← e)
+  zero_ops e = rw (place, ← active, ← e)
 
-  pub copy_ops_lem : (p : ℕ) → Some p ≡ x
-      → each_dirty word l.blocks (λ b. put_block false (to + block_size * b) (λ k. word_at I (p + block_size * b + word_size * k))) ≡ restore_dirty l I word i x
+  pub copy_ops_lem : {p : ℕ} → Some p ≡ checkpoint_located l I line i
+      → each_dirty word l.blocks (λ b. put_block false (to + block_size * b) (λ k. word_at I (p + block_size * b + word_size * k))) ≡ restore_dirty l I word i (checkpoint_located l I (active_line I) i)
   unfolding restore_dirty
-  copy_ops_lem p e = rw (place, ← e)
-
--- ---- a refused discard
-
-pub refused_discard : (s : Session) (I : Image) (i : ℕ) (R : Clients) (t : Trace) (r : Refusal) → refusal_number r ≡ discard_status s I i (lent R t)
-    → Gives (discard_outcome s I i (lent R t)) t (told s (Err r)) t R
-unfolding discard_outcome
-refused_discard s I i R t r p = gives_refused _ s s R R s.domain (discard_ops s I i) t r p
+  copy_ops_lem e = rw (place, ← active, ← e)

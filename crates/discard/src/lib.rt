@@ -27,6 +27,7 @@ use trace::Writer;
 // ---- refusals
 
 // The first of refusals 1 to 6 that applies.
+#[tactic(auto, unfolding(model::specs::Status::first_error))]
 fn discard_status(image: &[u8], session: SessionView, main: u64) -> Result<(), Refusal>
     ensures { code_of result ≡ first_error (context_errors (viewed session.entry) image.now ++ main_errors session.entry.layout main) }
 {
@@ -49,6 +50,7 @@ fn discarded_blocks(session: SessionView, main: u64) -> u64
 }
 
 // How many operations that is, wherever the checkpoint stands and whatever the kind of module: none of them is a write-back.
+#[tactic(auto, using(model::proofs::Laws::Counts::dirty_ones, model::proofs::Laws::Counts::Discard::count_restore))]
 fn discard_length(word: u64) -> u64
     ensures { ((d : ℕ) (l : Layout) (I : Image) (i : ℕ) (from : Option ℕ) → word < 2 ^ l.blocks → result ≡ length (for_domain d (restore_dirty l I word i from))) × (result ≤ 2 ^ 33) }
 {
@@ -56,6 +58,7 @@ fn discard_length(word: u64) -> u64
 }
 
 // Writes them: the blocks of the word, stored as they stand where the checkpoint of the main segment stands, or zeros.
+#[tactic(auto, using(model::proofs::Laws::Layout::metadata_inside, metadata::proofs::LocatedLaws::located_inside))]
 fn put_discard(image: &[u8], layout: Layout, word: u64, main: u64, out: &mut Writer)
     requires main_lt_mains { (main < layout.mains) × SizesOk layout × (length image.now ≡ image_size layout) × (word < 2 ^ layout.blocks) }
     requires valid { Valid layout (active_state image.now) (backup_to_main image.now) }

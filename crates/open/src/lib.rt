@@ -60,6 +60,7 @@ fn segment_action(image: &[u8], layout: Layout, line: usize, paired: u64, i: usi
 }
 
 // The backup segment of a main segment, or 0 where it has none.
+#[tactic(auto, using(model::proofs::Laws::Container::paired_at), unfolding(metadata::specs::Find::found_below))]
 fn backup_of(image: &[u8], layout: Layout, main: u64) -> u64
     requires { (main < most) × (layout.backups ≤ most) × (pairs_end ≤ length image.now) }
     ensures { is_paired layout (backup_to_main image.now) main ≡ true → result ≡ paired_backup layout (backup_to_main image.now) main }
@@ -68,6 +69,7 @@ fn backup_of(image: &[u8], layout: Layout, main: u64) -> u64
 }
 
 // Writes the operations of an action on main segment i and backup segment j.
+#[tactic(auto, using(model::proofs::Laws::Layout::segment_in_image), unfolding(model::specs::Open::action_ops))]
 fn put_action(image: &[u8], layout: Layout, i: u64, j: u64, action: Action, out: &mut Writer)
     requires i_lt_mains { (i < layout.mains) × (takes_backup action ≡ true → j < layout.backups) × SizesOk layout × (length image.now ≡ image_size layout) }
     requires fits { Fits out.old (action_ops layout image.now i j action) }
@@ -90,6 +92,7 @@ fn put_action(image: &[u8], layout: Layout, i: u64, j: u64, action: Action, out:
 }
 
 // Writes the operations of recovery of main segment i.
+#[tactic(auto, using(model::proofs::Laws::Layout::metadata_inside, crate::proofs::ActionLaws::takes_there, crate::proofs::ActionLaws::takes_own, crate::proofs::ActionLaws::own_ops))]
 fn put_segment(image: &[u8], layout: Layout, line: usize, paired: u64, i: usize, out: &mut Writer)
     requires i_lt_mains { (i < layout.mains) × ValidBy layout image.now line × PairedSet layout image.now paired }
     requires fits { Fits out.old (recover_segment layout image.now line i) }
@@ -103,6 +106,7 @@ fn put_segment(image: &[u8], layout: Layout, line: usize, paired: u64, i: usize,
 // ---- all segments
 
 // How many main segments recovery treats.
+#[tactic(auto, using(model::proofs::Laws::Range::sum_none, model::proofs::Laws::Range::sum_more), unfolding(model::specs::Counts::treated))]
 fn count_treated(image: &[u8], layout: Layout, line: usize, paired: u64) -> u64
     requires { ValidBy layout image.now line × PairedSet layout image.now paired }
     ensures { (result ≡ treated layout image.now line) × (result ≤ most) }
@@ -115,6 +119,7 @@ fn count_treated(image: &[u8], layout: Layout, line: usize, paired: u64) -> u64
 }
 
 // The number of the operations of recovery on the trace for a kind of module.
+#[tactic(auto, using(model::proofs::Laws::Counts::count_recovery, crate::proofs::RecoveryLaws::recovery_bound))]
 fn recovery_length(image: &[u8], layout: Layout, line: usize, paired: u64, domain: u64) -> u64
     requires { ValidBy layout image.now line × PairedSet layout image.now paired }
     ensures { (result ≡ length (for_domain domain (recovery_ops layout image.now line))) × (result < 2 ^ 32) }
@@ -123,6 +128,7 @@ fn recovery_length(image: &[u8], layout: Layout, line: usize, paired: u64, domai
 }
 
 // Writes the operations of recovery: the main segments upward, then one fence.
+#[tactic(auto, using(trace::proofs::EmitLaws::fits_first, trace::proofs::EmitLaws::fits_then, trace::proofs::EmitLaws::fits_each), unfolding(model::specs::Open::recovery_ops))]
 fn put_recovery(image: &[u8], layout: Layout, line: usize, paired: u64, out: &mut Writer)
     requires valid_by { ValidBy layout image.now line × PairedSet layout image.now paired }
     requires fits { Fits out.old (recovery_ops layout image.now line) }
@@ -176,6 +182,7 @@ fn recover(
 // Opening by a layout and a kind of module (SPECIFICATION 9): recovers the checkpoint after any crash, and answers a session in which
 // nothing is dirty. `judged` is what refusal 13 says of the records, which the caller judges (clients::Run::judge), and clears where the
 // call is served.
+#[tactic(auto, using(model::proofs::Laws::Layout::metadata_inside, places::proofs::PlaceLaws::sized))]
 pub fn open_parts(
     image: &[u8],
     layout: Layout,

@@ -72,48 +72,13 @@ writable s I w h =
       word = words_within s (active_state I) (omega arith) (not-false _ (r 5)) w.main m;
     }
 
--- ---- refusals 1 to 5, 13, and 6 to 8, one after the other
+-- by refusals 1 to 5, 6 and 7, and 8
+module _ (s : Session) (I : Image) (w : WriteArgs) (x : 0 ≡ first_error (context_errors s I)) (z : 0 ≡ first_error (main_errors s.layout w.main ++ block_errors s.layout w.block)) where
+  pub block_lt_blocks : (w.block < s.layout.blocks) × (s.layout.blocks ≤ most)
+  block_lt_blocks = (leb-false _ _ (served_condition (main_errors s.layout w.main ++ block_errors s.layout w.block) (omega arith) (sym z) 7), (container_then s.layout I _ (sym x)).0.sizes.2.1)
 
-module _ (s : Session) (I : Image) (w : WriteArgs) (x : 0 ≡ first_error (context_errors s I)) where
-  abbrev of_place : Errors
-  of_place = main_errors s.layout w.main ++ block_errors s.layout w.block
-
-  module _ (R : Clients) where
-    early : first_error (early_errors s I R w) ≡ first_error (client_errors s.layout R w.client ++ of_place ++ span_errors s.layout w)
-    early = after-served (context_errors s I) _ (omega arith) (sym x)
-
-    pub early_client : (r : Refusal) → refusal_number r ≡ first_error (client_errors s.layout R w.client) → refusal_number r ≡ first_error (early_errors s I R w)
-    early_client r h = stage_refused _ (client_errors s.layout R w.client) (of_place ++ span_errors s.layout w) h (refusal_refuses r) ∙ sym early
-
-    module _ (y : 0 ≡ first_error (client_errors s.layout R w.client)) where
-      after_client : first_error (early_errors s I R w) ≡ first_error (of_place ++ span_errors s.layout w)
-      after_client = early ∙ after-served (client_errors s.layout R w.client) (of_place ++ span_errors s.layout w) (omega arith) (sym y)
-
-      pub early_place : (r : Refusal) → refusal_number r ≡ first_error of_place → refusal_number r ≡ first_error (early_errors s I R w)
-      early_place r h = stage_refused _ of_place (span_errors s.layout w) h (refusal_refuses r) ∙ sym after_client
-
-      pub early_span : 0 ≡ first_error of_place → first_error (early_errors s I R w) ≡ first_error (span_errors s.layout w)
-      early_span z = after_client ∙ after-served of_place (span_errors s.layout w) (omega arith) (sym z)
-
-  -- the block and its number of blocks
-  pub block_lt_blocks : 0 ≡ first_error of_place → (w.block < s.layout.blocks) × (s.layout.blocks ≤ most)
-  block_lt_blocks z = (leb-false _ _ (served_condition of_place (omega arith) (sym z) 7), (container_then s.layout I _ (sym x)).0.sizes.2.1)
-
-  -- where none applies
-  pub early_writable : 0 ≡ first_error of_place → span_bad s.layout w ≡ false → SpanWritable s I w
-  early_writable z h =
-      writable s I w
-      (after-served (context_errors s I) _ (omega arith) (sym x) ∙ after-served of_place (span_errors s.layout w) (omega arith) (sym z) ∙ sym (first_fails 8 0 _ _ h first_of_none))
-
--- ---- refusals 14 and 15
-
--- a write that copies nothing does not look at the free backup segments
-pub share_same : (R : Clients) (k : ℕ) {a b : Bool} {n free : ℕ} → a ≡ b → (b ≡ true → n ≡ free) → share_errors a R k n ≡ share_errors b R k free
-share_same R k {b = b} {n = n} {free = free} e h = ap (λ (x : Bool). share_errors x R k n) e ∙ go b h
-  where
-    go : (x : Bool) → (x ≡ true → n ≡ free) → share_errors x R k n ≡ share_errors x R k free
-    go true f = ap (share_errors true R k) (f refl)
-    go false f = refl
+  pub early_writable : span_bad s.layout w ≡ false → SpanWritable s I w
+  early_writable h = writable s I w (after-served _ _ (omega arith) (sym x) ∙ after-served _ _ (omega arith) (sym z) ∙ sym (first_fails 8 0 _ _ h first_of_none))
 
 -- ---- the operations
 
@@ -148,23 +113,12 @@ module _ (s : Session) (I : Image) (R : Clients) (w : WriteArgs) (t : Trace) whe
   abbrev free : ℕ
   free = free_backups s.layout (active_state I) (backup_to_main I)
 
-  refused_with : (r : Refusal) → refusal_number r ≡ write_status s I w (lent R t) → Given (Err r) t
-  unfolding write_outcome
-  refused_with r e = gives_refused _ s _ R _ _ _ t r e
-
-  pub refused_early : (r : Refusal) → refusal_number r ≡ first_error (early_errors s I R w) → Given (Err r) t
-  unfolding write_status
-  refused_early r e = refused_with r (stage_refused _ (early_errors s I R w) _ e (refusal_refuses r))
-
   module _ (p : Plan) (at : ℕ) (early : 0 ≡ first_error (early_errors s I R w)) (plan : p ≡ copy_plan s I w.main) (place : at ≡ span_at s.layout w) where
-    status_late : first_error (late_errors p R w.client free (on_trace s I w p at) t) ≡ write_status s I w (lent R t)
+    pub status_late : first_error (late_errors p R w.client free (on_trace s I w p at) t) ≡ write_status s I w (lent R t)
     unfolding write_status
     status_late =
         ap₂ (λ (q : Plan) (O : Ops). first_error (late_errors q R w.client free (for_domain s.domain O) t)) plan (write_ops_lem s I w p at plan place)
         ∙ sym (after-served (early_errors s I R w) (late_errors (copy_plan s I w.main) R w.client free (for_domain s.domain (write_ops s I w)) t) (omega arith) (sym early))
-
-    pub refused_late : (r : Refusal) → refusal_number r ≡ first_error (late_errors p R w.client free (on_trace s I w p at) t) → Given (Err r) t
-    refused_late r e = refused_with r (e ∙ status_late)
 
     module _ (z : 0 ≡ first_error (late_errors p R w.client free (on_trace s I w p at) t)) where
       -- the segment is copied exactly if it must be

@@ -30,6 +30,7 @@ use trace::Writer;
 // ---- refusals
 
 // The first of refusals 1 to 5, 13, and 6 to 8 that applies to a write by a client of the run.
+#[tactic(auto, unfolding(model::specs::Status::first_error))]
 fn judge_early(
     image: &[u8],
     session: SessionView,
@@ -64,6 +65,7 @@ fn free_for(image: &[u8], layout: Layout, plan: Plan) -> u64
 
 // The first of refusals 9, 14, 15 and 11 that applies to a write with this plan by a client of the run, for so many operations and a
 // trace of `room` numbers.
+#[tactic(auto, unfolding(model::specs::Status::first_error))]
 fn judge_late(
     image: &[u8],
     layout: Layout,
