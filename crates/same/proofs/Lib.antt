@@ -1,1 +1,2 @@
 pub mod SameLaws
+pub mod TestLaws

@@ -1,195 +1,154 @@
--- Laws of equality of two checkpoints: states, a test of many bytes block by block, and where a segment's checkpoint stands.
+-- Laws of equality of two checkpoints: what an accepted image holds, where a segment's checkpoint stands, one segment and all of them.
 use Prim.Native.Nat.{ℕ, zero, suc, ◌+◌, ◌-◌, ◌*◌, ◌≤◌, ◌<◌}
 use mathlib.Core.Path.{◌≡◌, refl, sym, ap, ap₂, ◌∙◌, subst}
-use mathlib.Core.Logic.{◌↔◌}
-use mathlib.Core.Bool.{Bool, true, false, ◌&&◌, beq, and-true, and_assoc}
+use mathlib.Core.Logic.{◌≢◌}
+use mathlib.Core.Bool.{Bool, true, false, ◌&&◌, beq}
 use native.Mathlib.Omega.{arith}
-use native.Mathlib.Numerals.{add-one}
-use native.Mathlib.Nat.{add-zero, add-suc, add-sub_cancel_left, mul_assoc, mul_comm, mul-zero, mul-suc}
+use native.Mathlib.Nat.{add-sub_cancel_left, mul_assoc, mul_comm}
 use lib.Dec.{eqb}
-use lib.ListN.{length, get_or, take, drop, get_or-replicate}
+use lib.ListN.{length, get_or, take, drop, replicate, length-take, length-drop}
 use lib.Seq.{get_or-take, get_or-drop}
-use borrow.Author.Tests.{eq-eqb, eqb-true}
+use borrow.Author.Tests.{eq-eqb, ne_eqb}
 use Rattle.model.specs.declared.Layout.{Layout}
-use Rattle.std.specs.Prelude.{Option, None, Some}
+use Rattle.model.specs.declared.Refusal.{Refusal}
+use Rattle.std.specs.Prelude.{None, Some}
 use Rattle.model.specs.Range.{all_b}
 use Rattle.model.specs.Words.{Image, byte_at}
-use Rattle.model.specs.Layout.{SizesOk, ss_initial, segment_size, main_at, backup_at}
-use Rattle.model.specs.Status.{first_error, served}
-use Rattle.model.specs.Container.{active_line, active_state, seg_state, backup_to_main, paired_backup, Valid, by_state, checkpoint_located, checkpoint_segment, checkpoint_bytes, container_errors}
-use Rattle.model.specs.Same.{same_initial, same_bytes, same_checkpoint, same_status, same_outcome}
-use Rattle.model.proofs.Laws.Range.{all_none, all_more, all_from, all_ext}
+use Rattle.model.specs.Layout.{ss_initial, segment_size, main_at, backup_at}
+use Rattle.model.specs.Status.{refusal_number, first_error}
+use Rattle.model.specs.Container.{active_line, active_state, seg_state, backup_to_main, paired_backup, by_state, checkpoint_located, checkpoint_segment, checkpoint_bytes, container_errors}
+use Rattle.model.specs.Same.{same_initial, same_bytes, same_status, same_checkpoint}
+use Rattle.model.proofs.Laws.Range.{all_from, all_ext}
 use Rattle.model.proofs.Laws.Layout.{metadata_inside}
-use Rattle.model.proofs.Laws.Status.{served_parts}
+use Rattle.model.proofs.Laws.Status.{stage_refused, after-served, served_parts, refusal_refuses}
 use Rattle.model.proofs.Laws.Container.{container_ok}
 use Rattle.model.proofs.Argument.Pages.{checkpoint_at}
 use Rattle.metadata.proofs.LocatedLaws.{Inside, located_nowhere, located_inside}
+use Rattle.same.specs.Accepted.{Accepted}
+use Rattle.same.specs.Segment.{same_segment}
+use Rattle.same.proofs.TestLaws.{runs, all_both}
 
--- ---- states
+-- ---- the status: refused for the first image, or judged by the second
 
-pub initial_none : (st su : ℕ → ℕ) → true ≡ same_initial 0 st su
-unfolding same_initial
-initial_none st su = all_none _
+module _ (l : Layout) (I J : Image) where
+  pub first_refused : (r : Refusal) → refusal_number r ≡ first_error (container_errors l I) → refusal_number r ≡ same_status l I J
+  first_refused r e = stage_refused _ (container_errors l I) (container_errors l J) e (refusal_refuses r)
 
-pub initial_more : (n : ℕ) (st su : ℕ → ℕ) {a b : Bool} → a ≡ same_initial n st su → b ≡ beq (eqb (st n) ss_initial) (eqb (su n) ss_initial)
-    → (a && b) ≡ same_initial (n + 1) st su
-unfolding same_initial
-initial_more n st su = all_more n _
+  pub first_passed : (n : ℕ) → 0 ≡ first_error (container_errors l I) → n ≡ first_error (container_errors l J) → n ≡ same_status l I J
+  first_passed n e h = h ∙ sym (after-served (container_errors l I) (container_errors l J) (omega arith) (sym e))
 
--- ---- tests in runs of c
+-- ---- one image
 
-all_append : (n m : ℕ) (P : ℕ → Bool) → all_b (n + m) P ≡ (all_b n P && all_b m (λ k. P (n + k)))
-unfolding all_b
-all_append n zero P = rw add-zero (sym (and-true (all_b n P)))
-all_append n (suc m) P = rw add-suc (ap (λ (b : Bool). b && P (n + m)) (all_append n m P) ∙ and_assoc (all_b n P) _ _)
+module _ (l : Layout) (I : Image) where
+  accepted : first_error (container_errors l I) ≡ 0 → Accepted l I
+  accepted h =
+      let ok = container_ok l I h in
+      record { sizes = ok.sizes; long = ok.long; room = omega (arith, ok.long, metadata_inside l); header = ok.header; valid = ok.valid }
 
-pub runs_none : (c : ℕ) (P : ℕ → Bool) → true ≡ all_b (c * 0) P
-unfolding all_b
-runs_none c P = rw mul-zero
+  module _ (i : ℕ) where
+    -- the checkpoint of a main segment stands nowhere only if the segment is in state 0
+    pub nowhere : None ≡ checkpoint_located l I (active_line I) i → active_state I i ≡ ss_initial
+    unfolding checkpoint_located by_state
+    nowhere e = go (active_state I i) refl e
+      where
+        go : (n : ℕ) → active_state I i ≡ n → None ≡ by_state n None (Some (main_at l i)) (Some (backup_at l (paired_backup l (backup_to_main I) i)))
+            → active_state I i ≡ ss_initial
+        go zero e q = e
+        go (suc zero) e q = cc
+        go (suc (suc n)) e q = cc
 
-pub runs_more : (c n : ℕ) (P Q : ℕ → Bool) {a b : Bool} → a ≡ all_b (c * n) P → b ≡ all_b c Q → ((k : ℕ) → k < c → Q k ≡ P (c * n + k))
-    → (a && b) ≡ all_b (c * (n + 1)) P
-runs_more c n P Q p q h =
-    rw (add-one, mul-suc) (ap₂ (λ (x y : Bool). x && y) p (q ∙ all_ext c Q _ h) ∙ sym (all_append (c * n) c P))
+    module _ (p : ℕ) (at : Some p ≡ checkpoint_located l I (active_line I) i) where
+      pub somewhere : active_state I i ≢ ss_initial
+      somewhere e = let n = located_nowhere l I (active_line I) i e in cc
 
--- ---- a block that is handed on as a part of an image
+      pub inside : Accepted l I → i < l.mains → p + segment_size l ≤ length I
+      inside a h = subst (Inside l I) (sym at) (located_inside l I (active_line I) i a.valid h a.long)
 
--- byte k of block n of the segment at a place
-pub part_byte : (I : Image) (from n k : ℕ) → k < 256 → get_or (take (from + 256 * n + 256 - (from + 256 * n)) (drop (from + 256 * n) I)) k 0 ≡ byte_at I (from + (256 * n + k))
-part_byte I from n k h =
-    ap (λ (m : ℕ). get_or (take m (drop (from + 256 * n) I)) k 0) (add-sub_cancel_left (from + 256 * n) 256)
-    ∙ get_or-take 256 (drop (from + 256 * n) I) k 0 h ∙ get_or-drop (from + 256 * n) I k 0 ∙ ap (byte_at I) (omega arith)
+      -- the part of the image that holds it
+      pub its_bytes : take (p + segment_size l - p) (drop p I) ≡ checkpoint_segment l I (active_line I) i
+      unfolding checkpoint_segment
+      its_bytes = ap (λ (n : ℕ). take n (drop p I)) (add-sub_cancel_left p (segment_size l)) ∙ rw (← at)
 
--- ---- where the checkpoint of a main segment stands
+      pub its_length : Accepted l I → i < l.mains → length (take (p + segment_size l - p) (drop p I)) ≡ segment_size l
+      its_length a h = let e = inside a h in simp (length-take, length-drop) (omega arith)
 
-nowhere_not_at : (p : ℕ) → None ≡ Some p → ⊥
-nowhere_not_at p e = let x : ◌≡◌ {A = ℕ} 0 1 = cc in omega (arith, x)
-
--- what the code goes by in an image that is not refused
-pub sizes_and_room : (l : Layout) (I : Image) → first_error (container_errors l I) ≡ 0 → SizesOk l × (512 ≤ length I)
-sizes_and_room l I accepted = let ok = container_ok l I accepted in (ok.sizes, omega (arith, ok.long, metadata_inside l))
-
-module _ (l : Layout) (I : Image) (i : ℕ) where
-  -- the same, with n the active line that it found
-  pub searched : first_error (container_errors l I) ≡ 0 → i < l.mains → (n : ℕ) → n ≡ active_line I → n ≤ 192
-      → ((i < l.mains) × SizesOk l × (320 ≤ length I) × (n + 64 ≤ length I)) × Valid l (seg_state I n) (backup_to_main I)
-  searched accepted h n e b =
-      let ok = container_ok l I accepted in
-      let m = sizes_and_room l I accepted in
-      ((h, ok.sizes, omega (arith, m.1), omega (arith, m.1)), subst (λ (k : ℕ). Valid l (seg_state I k) (backup_to_main I)) (sym e) ok.valid)
-
-  -- the place x that it found
-  pub found_at : {x y : Option ℕ} {n : ℕ} → y ≡ x → y ≡ checkpoint_located l I n i → n ≡ active_line I → x ≡ checkpoint_located l I (active_line I) i
-  found_at g e q = sym g ∙ e ∙ ap (λ (k : ℕ). checkpoint_located l I k i) q
-
-  abbrev segment : ℕ → ℕ
-  segment k = get_or (checkpoint_segment l I (active_line I) i) k 0
-
-  -- nowhere only if the main segment is in state 0
-  pub nowhere_initial : None ≡ checkpoint_located l I (active_line I) i → active_state I i ≡ ss_initial
-  unfolding checkpoint_located by_state
-  nowhere_initial = go (active_state I i) refl
-    where
-      go : (n : ℕ) → active_state I i ≡ n → None ≡ by_state n None (Some (main_at l i)) (Some (backup_at l (paired_backup l (backup_to_main I) i)))
-          → active_state I i ≡ ss_initial
-      go zero e q = e
-      go (suc zero) e q = absurd (nowhere_not_at _ q)
-      go (suc (suc n)) e q = absurd (nowhere_not_at _ q)
-
-  -- byte k of it, nowhere and somewhere
-  pub byte_nowhere : None ≡ checkpoint_located l I (active_line I) i → (k : ℕ) → k < segment_size l → segment k ≡ 0
-  unfolding checkpoint_segment
-  byte_nowhere e k h = rw (← e) (get_or-replicate (segment_size l) k 0 0 h)
-
-  pub byte_at_lem : (p : ℕ) → Some p ≡ checkpoint_located l I (active_line I) i → (k : ℕ) → k < segment_size l → segment k ≡ byte_at I (p + k)
-  unfolding checkpoint_segment
-  byte_at_lem p e k h = rw (← e) (get_or-take (segment_size l) (drop p I) k 0 h ∙ get_or-drop p I k 0)
-
-  -- it lies inside the image
-  pub inside_at : first_error (container_errors l I) ≡ 0 → i < l.mains → (p : ℕ) → Some p ≡ checkpoint_located l I (active_line I) i → p + segment_size l ≤ length I
-  inside_at accepted h p e =
-      let ok = container_ok l I accepted in
-      subst (Inside l I) (sym e) (located_inside l I (active_line I) i ok.valid h ok.long)
+    -- and then it is all zeros
+    none_bytes : active_state I i ≡ ss_initial → replicate (segment_size l) 0 ≡ checkpoint_segment l I (active_line I) i
+    unfolding checkpoint_segment
+    none_bytes e = rw (← located_nowhere l I (active_line I) i e)
 
 -- ---- two images
 
-module _ (l : Layout) (I J : Image) (i : ℕ) where
-  abbrev same_segment : Bool
-  same_segment = same_bytes (segment_size l) (checkpoint_segment l I (active_line I) i) (checkpoint_segment l J (active_line J) i)
-
-  abbrev IsAt : Image → Option ℕ → Type 0
-  IsAt K x = x ≡ checkpoint_located l K (active_line K) i
-
-  -- the main segment is in state 0 in both or in neither: by where the first stands
-  module _ (agree : (active_state I i ≡ ss_initial) ↔ (active_state J i ≡ ss_initial)) where
-    pub both_nowhere : IsAt I None → true ≡ same_segment
-    unfolding same_bytes
-    both_nowhere a =
-        let b = located_nowhere l J (active_line J) i (agree.0 (nowhere_initial l I i a)) in
-        sym (all_from (segment_size l) _ (λ k m. eq-eqb _ _ (byte_nowhere l I i a k m ∙ sym (byte_nowhere l J i b k m))))
-
-    pub not_one : (p : ℕ) → IsAt I (Some p) → IsAt J None → ⊥
-    not_one p a b =
-        let e : None ≡ Some p = located_nowhere l I (active_line I) i (agree.1 (nowhere_initial l J i b)) ∙ sym a in
-        nowhere_not_at p e
-
-  pub none_nowhere : (x y : ℕ) {r : Bool} → IsAt I (Some x) → IsAt J (Some y)
-      → r ≡ all_b (segment_size l) (λ k. eqb (byte_at I (x + k)) (byte_at J (y + k))) → r ≡ same_segment
-  unfolding same_bytes
-  none_nowhere x y a b s =
-      s ∙ all_ext (segment_size l) _ _ (λ k m. ap₂ (λ (x y : ℕ). eqb x y) (sym (byte_at_lem l I i x a k m)) (sym (byte_at_lem l J i y b k m)))
-
-  -- a turn of the loop over the main segments
-  pub segments_more : first_error (container_errors l I) ≡ 0 → first_error (container_errors l J) ≡ 0 → i < l.mains → {a b : Bool}
-      → a ≡ same_bytes (segment_size l * i) (checkpoint_bytes l I (active_line I)) (checkpoint_bytes l J (active_line J))
-      → b ≡ same_segment → (a && b) ≡ same_bytes (segment_size l * (i + 1)) (checkpoint_bytes l I (active_line I)) (checkpoint_bytes l J (active_line J))
-  unfolding same_bytes
-  segments_more p q h s t = runs_more (segment_size l) i _ _ s t (λ k m. ap₂ (λ (x y : ℕ). eqb x y) (byte I p k m) (byte J q k m))
-    where
-      place : 256 * (i * l.blocks) ≡ 256 * l.blocks * i
-      place = ap (λ (n : ℕ). 256 * n) (mul_comm i l.blocks) ∙ sym (mul_assoc 256 l.blocks i)
-
-      byte : (K : Image) → first_error (container_errors l K) ≡ 0 → (k : ℕ) → k < segment_size l
-          → get_or (checkpoint_segment l K (active_line K) i) k 0 ≡ get_or (checkpoint_bytes l K (active_line K)) (segment_size l * i + k) 0
-      byte K u k m =
-          sym (checkpoint_at l K (container_ok l K u) i k h m) ∙ ap (λ (n : ℕ). get_or (checkpoint_bytes l K (active_line K)) (n + k) 0) place
-
--- ---- the call
+pub both_accepted : (l : Layout) (I J : Image) → 0 ≡ same_status l I J → Accepted l I × Accepted l J
+both_accepted l I J e =
+    let s = served_parts (container_errors l I) (container_errors l J) (omega arith) (sym e) in
+    (accepted l I s.0, accepted l J s.1)
 
 module _ (l : Layout) (I J : Image) where
-  pub segments_none : true ≡ same_bytes (segment_size l * 0) (checkpoint_bytes l I (active_line I)) (checkpoint_bytes l J (active_line J))
-  unfolding same_bytes
-  segments_none = runs_none (segment_size l) _
+  -- a main segment that is in state 0 in both, in one alone, in none
+  module _ (i : ℕ) where
+    pub both_none : active_state I i ≡ ss_initial → active_state J i ≡ ss_initial → true ≡ same_segment l I J i
+    unfolding same_segment same_bytes
+    both_none p q =
+        rw (eq-eqb _ 0 p, eq-eqb _ 0 q, ← none_bytes l I i p, ← none_bytes l J i q) (sym (all_from (segment_size l) _ (λ k h. eq-eqb _ _ refl)))
 
-  -- what the code's test of the states says, with m and n the active lines that it found
-  pub states_tested : {m n : ℕ} {r : Bool} → m ≡ active_line I → n ≡ active_line J → r ≡ same_initial l.mains (seg_state I m) (seg_state J n)
-      → same_initial l.mains (active_state I) (active_state J) ≡ r
-  states_tested a b e = sym (e ∙ ap₂ (λ (x y : ℕ). same_initial l.mains (seg_state I x) (seg_state J y)) a b)
+    pub second_none : active_state I i ≢ ss_initial → active_state J i ≡ ss_initial → false ≡ same_segment l I J i
+    unfolding same_segment
+    second_none p q = rw (ne_eqb _ 0 p, eq-eqb _ 0 q)
 
-  pub unlike_by_states : same_initial l.mains (active_state I) (active_state J) ≡ false → false ≡ same_checkpoint l I J
+    pub first_none : active_state I i ≡ ss_initial → active_state J i ≢ ss_initial → false ≡ same_segment l I J i
+    unfolding same_segment
+    first_none p q = rw (eq-eqb _ 0 p, ne_eqb _ 0 q)
+
+    pub both_there : active_state I i ≢ ss_initial → active_state J i ≢ ss_initial
+        → same_bytes (segment_size l) (checkpoint_segment l I (active_line I) i) (checkpoint_segment l J (active_line J) i) ≡ same_segment l I J i
+    unfolding same_segment
+    both_there p q = rw (ne_eqb _ 0 p, ne_eqb _ 0 q)
+
+-- ---- all main segments
+
+-- byte k of segment i among all bytes
+byte_of : (l : Layout) (I : Image) → Accepted l I → (i k : ℕ) → i < l.mains → k < segment_size l
+    → get_or (checkpoint_segment l I (active_line I) i) k 0 ≡ get_or (checkpoint_bytes l I (active_line I)) (segment_size l * i + k) 0
+byte_of l I a i k h m =
+    let place : 256 * (i * l.blocks) ≡ 256 * l.blocks * i = ap (λ (n : ℕ). 256 * n) (mul_comm i l.blocks) ∙ sym (mul_assoc 256 l.blocks i) in
+    sym (checkpoint_at l I (record { sizes = a.sizes; long = a.long; header = a.header; valid = a.valid }) i k h m) ∙ ap (λ (n : ℕ). get_or (checkpoint_bytes l I (active_line I)) (n + k) 0) place
+
+module _ (l : Layout) (I J : Image) where
+  abbrev states : Bool
+  states = same_initial l.mains (active_state I) (active_state J)
+
+  abbrev bytes : Bool
+  bytes = same_bytes (segment_size l * l.mains) (checkpoint_bytes l I (active_line I)) (checkpoint_bytes l J (active_line J))
+
+  all_segments : Accepted l I → Accepted l J → all_b l.mains (same_segment l I J) ≡ (states && bytes)
+  unfolding same_segment same_initial same_bytes
+  all_segments p q =
+      all_both l.mains _ _
+      ∙ ap (λ (b : Bool). states && b) (
+      all_ext l.mains _ _ (λ i h. all_ext (segment_size l) _ _ (λ k m. ap₂ (λ (x y : ℕ). eqb x y) (byte_of l I p i k h m) (byte_of l J q i k h m)))
+      ∙ sym (runs (segment_size l) l.mains _))
+
+  -- what the code's test of the states says, of the parts of the two images that hold them
+  pub states_tested : (x y : ℕ) {r : Bool} → x ≡ active_line I → y ≡ active_line J → x + l.mains ≤ length I
+      → r ≡ same_initial (length (take (x + l.mains - x) (drop x I))) (byte_at (take (x + l.mains - x) (drop x I))) (byte_at (take (y + l.mains - y) (drop y J))) → r ≡ states
+  unfolding same_initial
+  states_tested x y p q h e =
+      e
+      ∙ ap (λ (n : ℕ). all_b n (λ i. beq (eqb (byte_at (take (x + l.mains - x) (drop x I)) i) ss_initial) (eqb (byte_at (take (y + l.mains - y) (drop y J)) i) ss_initial)))
+      (simp (length-take, length-drop) (omega arith))
+      ∙ all_ext l.mains _ _ (λ i m. ap₂ (λ (s t : ℕ). beq (eqb s ss_initial) (eqb t ss_initial))
+      (state I x i m ∙ ap (λ (n : ℕ). seg_state I n i) p) (state J y i m ∙ ap (λ (n : ℕ). seg_state J n i) q))
+    where
+      state : (K : Image) (x i : ℕ) → i < l.mains → get_or (take (x + l.mains - x) (drop x K)) i 0 ≡ seg_state K x i
+      state K x i m =
+          ap (λ (n : ℕ). get_or (take n (drop x K)) i 0) (add-sub_cancel_left x l.mains) ∙ get_or-take l.mains (drop x K) i 0 m ∙ get_or-drop x K i 0
+
+  -- decided by the states, or by the segments
+  pub unlike_by_states : false ≡ states → false ≡ same_checkpoint l I J
   unfolding same_checkpoint
-  unlike_by_states e = rw e
+  unlike_by_states e = rw (← e)
 
-  pub decided_by_bytes : same_initial l.mains (active_state I) (active_state J) ≡ true
-      → same_bytes (segment_size l * l.mains) (checkpoint_bytes l I (active_line I)) (checkpoint_bytes l J (active_line J)) ≡ same_checkpoint l I J
+  pub decided_by_segments : true ≡ states → Accepted l I → Accepted l J → all_b l.mains (same_segment l I J) ≡ same_checkpoint l I J
   unfolding same_checkpoint
-  decided_by_bytes e = rw e
-
-  -- what the code's test of the status says
-  pub judged : (n : ℕ) (r : Bool) → n ≡ same_status l I J → r ≡ served n → served (same_status l I J) ≡ r
-  judged n r e h = ap (λ (k : ℕ). served k) (sym e) ∙ sym h
-
-  pub both_accepted : served (same_status l I J) ≡ true → (first_error (container_errors l I) ≡ 0) × (first_error (container_errors l J) ≡ 0)
-  both_accepted h = served_parts (container_errors l I) (container_errors l J) (omega arith) (eqb-true _ _ h)
-
-  pub status_given : same_status l I J ≡ (same_outcome l I J).status
-  unfolding same_outcome
-  status_given = refl
-
-  pub same_refused : served (same_status l I J) ≡ false → false ≡ (same_outcome l I J).same
-  unfolding same_outcome
-  same_refused n = rw n
-
-  pub same_served : served (same_status l I J) ≡ true → same_checkpoint l I J ≡ (same_outcome l I J).same
-  unfolding same_outcome
-  same_served e = rw e
+  decided_by_segments e p q = all_segments p q

@@ -1,12 +1,11 @@
-use Prim.Native.Nat.{◌-◌, ◌*◌, ◌≤◌}
+use Prim.Native.Nat.{◌/◌}
 use mathlib.Core.Path.{◌≡◌}
-use Rattle.model.specs.Layout.{segment_size}
-use Rattle.model.specs.Container.{active_line, checkpoint_bytes}
+use mathlib.Core.List.{[]}
+use lib.ListN.{length, get_or}
+use Rattle.std.specs.Simd.{first_chunks}
+use Rattle.model.specs.Range.{all_b}
 use Rattle.model.specs.Same.{same_bytes}
 use Rattle.same.proofs.same_bytes.Given as goal
 
-abbrev pub invariant-loop-i : goal.invariant-loop-i
-invariant-loop-i l = (l.i ≤ l.mains) × (l.ok ≡ same_bytes (segment_size l.layout * l.i) (checkpoint_bytes l.layout l.a (active_line l.a)) (checkpoint_bytes l.layout l.b (active_line l.b)))
-
-abbrev pub decreases-loop-i : goal.decreases-loop-i
-decreases-loop-i l = l.mains - l.i
+abbrev pub invariant-loop-x : goal.invariant-loop-x
+invariant-loop-x l = l.same ≡ all_b (length l.yielded) (λ i. same_bytes 256 (get_or (first_chunks 256 (length l.a / 256) l.a) i []) (get_or (first_chunks 256 (length l.b / 256) l.b) i []))

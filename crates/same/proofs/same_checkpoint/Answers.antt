@@ -1,44 +1,28 @@
-use mathlib.Core.Path.{◌∙◌}
+use mathlib.Core.Path.{◌≡◌, refl, sym, ◌∙◌}
+use mathlib.Core.Bool.{true, false}
 use native.Mathlib.Omega.{arith}
-use Rattle.model.proofs.Laws.Same.{initial_agree}
-use Rattle.same.proofs.SameLaws.{sizes_and_room, states_tested, unlike_by_states, decided_by_bytes}
+use borrow.Author.Rules.{rules}
+use borrow.Author.Tests.{tests}
+use Rattle.std.proofs.lemmas.Iterator.{cases_from_all, YieldsList-from_range}
+use Rattle.same.specs.Segment.{same_segment}
+use Rattle.same.proofs.TestLaws.{range_tested}
+use Rattle.same.proofs.SameLaws.{states_tested, unlike_by_states, decided_by_segments}
 use Rattle.same.proofs.same_checkpoint.Goals as goal
 
-pub active_at-x-requires : goal.active_at-x-requires
-active_at-x-requires c =
-    omega (arith, sizes_and_room c.args.layout c.args.a.now c.requires.a_value)
+pub returns-then-same_initial : goal.returns-then-same_initial
+returns-then-same_initial c =
+    let l = c.args.layout in
+    let a = c.args.a.now in
+    let b = c.args.b.now in
+    let s = states_tested l a b c.active_at-x.result c.active_at-y.result c.active_at-x.ensures.0 c.active_at-y.ensures.0 (omega arith) c.same_initial.ensures in
+    range_tested (same_segment l a b) l.mains c.all.result
+    (cases_from_all c.all.new.self _ _ (λ i. same_segment l a b i ≡ true) (λ i. same_segment l a b i ≡ false) c.all.ensures.ran (YieldsList-from_range 0 l.mains l.mains refl (omega arith)) (λ x q k. search (rules, tests)) (λ x q k. search (rules, tests)))
+    ∙ decided_by_segments l a b (sym c.if-same_initial.true ∙ s) c.requires.a_accepted c.requires.b_accepted
 
-pub active_at-y-requires : goal.active_at-y-requires
-active_at-y-requires c =
-    omega (arith, sizes_and_room c.args.layout c.args.b.now c.requires.b_value)
-
-pub same_initial-requires : goal.same_initial-requires
-same_initial-requires c =
-    let a = sizes_and_room c.args.layout c.args.a.now c.requires.a_value in
-    let b = sizes_and_room c.args.layout c.args.b.now c.requires.b_value in
-    let x = c.active_at-x.ensures in
-    let y = c.active_at-y.ensures in
-    record { mains_le_most = omega (arith, a.0.0); line_size_in_bounds = omega (arith, a.1, x.2); line_size_in_bounds_2 = omega (arith, b.1, y.2) }
-
-pub returns-then-not-same_initial : goal.returns-then-not-same_initial
-returns-then-not-same_initial c =
-    let a = c.args in
-    unlike_by_states a.layout a.a.now a.b.now
-    (states_tested a.layout a.a.now a.b.now c.active_at-x.ensures.0 c.active_at-y.ensures.0 c.same_initial.ensures ∙ c.if-not-same_initial.true)
-
-pub same_bytes-requires : goal.same_bytes-requires
-same_bytes-requires c =
-    let a = c.args in
-    record {
-      a_value = c.requires.a_value;
-      b_value = c.requires.b_value;
-      initial_agree = (initial_agree a.layout a.a.now a.b.now).0
-          (states_tested a.layout a.a.now a.b.now c.active_at-x.ensures.0 c.active_at-y.ensures.0 c.same_initial.ensures ∙ c.if-not-same_initial.false);
-    }
-
-pub returns : goal.returns
-returns c =
-    let a = c.args in
-    c.same_bytes.ensures
-    ∙ decided_by_bytes a.layout a.a.now a.b.now
-    (states_tested a.layout a.a.now a.b.now c.active_at-x.ensures.0 c.active_at-y.ensures.0 c.same_initial.ensures ∙ c.if-not-same_initial.false)
+pub returns-else-same_initial : goal.returns-else-same_initial
+returns-else-same_initial c =
+    let l = c.args.layout in
+    let a = c.args.a.now in
+    let b = c.args.b.now in
+    let s = states_tested l a b c.active_at-x.result c.active_at-y.result c.active_at-x.ensures.0 c.active_at-y.ensures.0 (omega arith) c.same_initial.ensures in
+    c.if-same_initial.false ∙ unlike_by_states l a b (sym c.if-same_initial.false ∙ s)
