@@ -58,6 +58,7 @@ impl<'a> Sheet<'a> {
         let mut trace = [0; TRACE_NUMBERS];
         let clients = slice::from_mut(&mut client);
         let opened = driver::step_open(image, layout, Session::ADR, clients, &mut trace);
+        // that of zeros, which a refused opening leaves
         let session = Session::fresh(Layout::new(0, 0, 0), Session::ADR);
         let mut sheet = Sheet {
             image,
