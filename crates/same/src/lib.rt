@@ -31,7 +31,6 @@ fn same_initial(a: &[u8], b: &[u8]) -> bool
 }
 
 // Whether two runs of whole blocks have the same bytes.
-#[inline(never)]
 fn same_bytes(a: &[u8], b: &[u8]) -> bool
     requires same_len { length a.now ≡ length b.now }
     requires whole { length a.now % block_size ≡ 0 }
