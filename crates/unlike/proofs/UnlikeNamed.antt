@@ -12,13 +12,14 @@ use borrow.Author.Tests.{eqb-true, eq-eqb, not-false, ltb-true, le-ltb}
 use Rattle.model.specs.declared.Layout.{Layout}
 use Rattle.model.specs.Range.{any_b, first_b}
 use Rattle.model.specs.Words.{Image}
+use Rattle.model.specs.Container.{container_errors}
 use Rattle.model.specs.Reads.{checkpoint_part, checkpoint_block}
 use Rattle.model.specs.Same.{same_bytes, same_outcome}
 use Rattle.model.specs.SameCheckpoint.{Same, Accepted}
 use Rattle.model.proofs.Laws.Range.{any_first, any_none, or_none, all_at, all_from, first_none}
+use Rattle.model.proofs.Laws.Status.{served_parts}
 use Rattle.model.proofs.Laws.Container.{ContainerOk, container_ok}
 use Rattle.model.proofs.SameCheckpoint.{same_reads}
-use Rattle.same.proofs.SameLaws.{both_accepted, status_given}
 use Rattle.inspect.proofs.PartLaws.{blocks_long, size_whole}
 use Rattle.unlike.specs.SameText.{block_unlike, initial_unlike, main_unlike, first_main}
 use Rattle.unlike.specs.UnlikeNamed.{UnlikeNamed}
@@ -94,14 +95,14 @@ module _ (l : Layout) (I J : Image) (a : ContainerOk l I) (b : ContainerOk l J) 
     main_alike i hi = rw (initial_alike i hi, none_passes l.blocks (block_unlike l I J i) (λ n hn. block_alike i n hi hn))
 
 pub unlike_named : UnlikeNamed
-unfolding first_main
+unfolding first_main same_outcome
 unlike_named l I J z = (
   λ f. go f (any_b l.mains (main_unlike l I J)) refl,
   λ h. different h (same_outcome l I J).same refl,
 )
   where
     accepted : Accepted l I × Accepted l J
-    accepted = both_accepted l I J (eq-eqb _ 0 (status_given l I J ∙ z))
+    accepted = served_parts (container_errors l I) (container_errors l J) (omega arith) z
 
     go : (same_outcome l I J).same ≡ false → (t : Bool) → any_b l.mains (main_unlike l I J) ≡ t → first_b l.mains (main_unlike l I J) < l.mains
     go f true e = ltb-true _ _ (sym (any_first l.mains (main_unlike l I J)) ∙ e)

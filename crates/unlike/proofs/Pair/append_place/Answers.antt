@@ -10,11 +10,13 @@ pub returns-then-block-self : goal.returns-then-block-self
 unfolding place_text text cat
 returns-then-block-self c =
     let block = c.first_block-block in
-    rw (← block.ensures, lt-ltb block.result c.args.self.layout.blocks (omega arith), ← c.crpm_read_checkpoint-x.ensures.result_value, ← c.crpm_read_checkpoint-y.ensures.result_value, ← c.first_byte.ensures)
+    let l = c.args.self.layout in
+    rw (← block.ensures, lt-ltb block.result l.blocks (omega arith), ← c.crpm_read_checkpoint-x.ensures.result_value, ← c.crpm_read_checkpoint-y.ensures.result_value, ← c.first_byte.ensures)
     (appended_then c.keyed.ensures.appended c.number.ensures.appended)
 
 pub returns-else-block-self : goal.returns-else-block-self
 unfolding place_text text cat
 returns-else-block-self c =
     let block = c.first_block-block in
-    rw (← block.ensures, le-ltb block.result c.args.self.layout.blocks (omega arith)) c.text.ensures
+    let l = c.args.self.layout in
+    rw (← block.ensures, le-ltb block.result l.blocks (omega arith)) c.text.ensures
