@@ -1,6 +1,6 @@
--- Laws of tests: of every item of a chain, of two lists of bytes, and of runs of whole blocks.
+-- Laws of tests: of every number of a range, of the states of two images, and of runs of whole blocks.
 use Prim.Native.Nat.{ℕ, zero, suc, ◌+◌, ◌*◌, ◌/◌, ◌%◌, ◌<◌}
-use mathlib.Core.Path.{◌≡◌, refl, sym, ap, ap₂, ◌∙◌}
+use mathlib.Core.Path.{◌≡◌, refl, sym, ap, ap₂, ◌∙◌, subst}
 use mathlib.Core.Bool.{Bool, true, false, ◌&&◌, beq, and-true, and_assoc, true≢false}
 use mathlib.Core.List.{List, []}
 use native.Mathlib.Omega.{arith}
@@ -8,45 +8,29 @@ use native.Mathlib.Nat.{zero-add, add-zero, add-suc, mul-zero, mul-suc}
 use lib.Dec.{eqb}
 use lib.ListN.{length, get_or, take, drop}
 use Rattle.std.specs.Bool.{MatchBool}
-use Rattle.std.specs.List.{AllWithin, HoldsAt, zip, range_with_len}
+use Rattle.std.specs.List.{AllWithin, HoldsAt, range_with_len}
 use Rattle.std.specs.Simd.{first_chunks}
 use Rattle.std.proofs.lemmas.List.{drop-drop}
 use Rattle.std.proofs.lemmas.List.FromFn.{get_or-range_with_len, length-range_with_len}
 use Rattle.std.proofs.lemmas.Simd.{get_or-chunk}
-use Rattle.std.proofs.lemmas.Slice.Zip.{get_or-zip, length-zip}
 use Rattle.model.specs.Range.{all_b}
 use Rattle.model.specs.Words.{byte_at}
 use Rattle.model.specs.Layout.{ss_initial}
 use Rattle.model.specs.Same.{same_initial, same_bytes}
 use Rattle.model.proofs.Laws.Range.{all_at, all_from, all_more, all_ext}
 
--- ---- a test of every item of a chain
-
-module _ {X : Type 0} (P : X → Bool) (xs : List X) where
-  -- what the chain says of its answer
-  abbrev pub Tested : Bool → Type 0
-  Tested r = MatchBool r (AllWithin (λ x. P x ≡ true) xs 0 (length xs)) ((k : ℕ) × (k < length xs) × HoldsAt (λ x. P x ≡ false) xs k)
-
-  tested : (d : X) (n : ℕ) (r : Bool) → length xs ≡ n → Tested r → r ≡ all_b n (λ k. P (get_or xs k d))
-  tested d n true e h = sym (all_from n _ (λ k l. h k d (omega arith) (omega arith)))
-  tested d n false e h = go (all_b n (λ k. P (get_or xs k d))) refl
-    where
-      go : (b : Bool) → all_b n (λ k. P (get_or xs k d)) ≡ b → false ≡ all_b n (λ k. P (get_or xs k d))
-      go true q = absurd (true≢false (sym (all_at n _ q h.0 (omega (arith, h.1))) ∙ h.2 d))
-      go false q = sym q
-
--- of a range from 0
-pub range_tested : (P : ℕ → Bool) (n : ℕ) (r : Bool) → Tested P (range_with_len 0 n) r → r ≡ all_b n P
-range_tested P n r h =
-    tested P (range_with_len 0 n) 0 n r (length-range_with_len 0 n) h
-    ∙ all_ext n _ P (λ k l. ap P (get_or-range_with_len 0 n k 0 l ∙ zero-add k))
-
--- of two lists of one length, side by side
-pub zip_tested : {A B : Type 0} (P : A → B → Bool) (xs : List A) (ys : List B) (c : A) (d : B) (n : ℕ) (r : Bool) → length xs ≡ n → length ys ≡ n
-    → Tested (λ (p : A × B). P p.0 p.1) (zip xs ys) r → r ≡ all_b n (λ k. P (get_or xs k c) (get_or ys k d))
-zip_tested {A} {B} P xs ys c d n r e f h =
-    tested (λ (p : A × B). P p.0 p.1) (zip xs ys) (c, d) n r (omega (arith, length-zip xs ys)) h
-    ∙ all_ext n _ _ (λ k l. ap (λ (p : A × B). P p.0 p.1) (get_or-zip xs ys k (c, d) (omega arith) (omega arith)))
+-- what `all` over a range from 0 says of its answer
+pub range_tested : (P : ℕ → Bool) (n : ℕ) (r : Bool) → MatchBool r (AllWithin (λ i. P i ≡ true) (range_with_len 0 n) 0 (length (range_with_len 0 n)))
+    ((k : ℕ) × (k < length (range_with_len 0 n)) × HoldsAt (λ i. P i ≡ false) (range_with_len 0 n) k) → r ≡ all_b n P
+range_tested P n true h =
+    sym (all_from n P (λ k l. subst (λ i. P i ≡ true) (get_or-range_with_len 0 n k 0 l ∙ zero-add k) (h k 0 (omega arith) (omega (arith, length-range_with_len 0 n)))))
+range_tested P n false h = go (all_b n P) refl
+  where
+    go : (b : Bool) → all_b n P ≡ b → false ≡ all_b n P
+    go true q =
+        let l : h.0 < n = omega (arith, h.1, length-range_with_len 0 n) in
+        absurd (true≢false (sym (all_at n P q h.0 l) ∙ subst (λ i. P i ≡ false) (get_or-range_with_len 0 n h.0 0 l ∙ zero-add h.0) (h.2 0)))
+    go false q = sym q
 
 -- ---- states
 

@@ -30,7 +30,8 @@ fn same_initial(a: &[u8], b: &[u8]) -> bool
     same
 }
 
-// Whether two runs of whole blocks have the same bytes.
+// Whether two runs of whole blocks have the same bytes. It stays a call, since inlined it slows the pass over segments in state 0.
+#[inline(never)]
 fn same_bytes(a: &[u8], b: &[u8]) -> bool
     requires same_len { length a.now ≡ length b.now }
     requires whole { length a.now % block_size ≡ 0 }
