@@ -1,4 +1,4 @@
-use Rattle.std.proofs.Common.{sym, ap, ◌∙◌, cond}
+use Rattle.std.proofs.Common.{sym, ap, ◌∙◌}
 use Rattle.model.specs.Session.{with_checkpoint}
 use Rattle.model.proofs.Laws.Status.{refusal_refuses}
 use Rattle.clients.specs.Words.{clients_in}
