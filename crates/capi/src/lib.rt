@@ -14,12 +14,16 @@ ghost use Rattle.model.specs.Write.{write_args_of};
 ghost use Rattle.model.specs.Replay.{replay_outcome};
 ghost use Rattle.model.specs.Reads.{read_status, working_part, checkpoint_part};
 ghost use Rattle.model.specs.Same.{same_outcome};
+ghost use Rattle.model.specs.Session.{zero_session};
+ghost use Rattle.model.specs.Outcome.{lent, told, Gives};
+ghost use Rattle.model.specs.Open.{open_outcome};
+ghost use Rattle.clients.specs.Run.{loaded};
 ghost use Rattle.clients.specs.Words.{clients_in};
 ghost use Rattle.interface.specs.Interface.{open_returned, write_returned, discard_returned, checkpoint_returned, Returns};
 
 use clients::{CLIENT_WORDS, Run};
 use interface::{DIRTY_BLOCKS_AT, DIRTY_SEGMENTS_AT, SESSION_WORDS};
-use model::{Layout, Place, Session};
+use model::{Answer, Layout, Place, Refusal, Session};
 
 // Formats an image.
 #[unsafe(no_mangle)]
@@ -28,6 +32,30 @@ pub extern "C" fn crpm_format(image: &mut [u8], mains: u64, backups: u64, blocks
     ensures image_after { image.new ≡ (format_outcome (layout_of mains backups blocks) image.old).image }
 {
     model::status_code(format::crpm_format(image, Layout::new(mains, backups, blocks)))
+}
+
+// The records that stand in words, as a value. It stays a call: inlined in three calls, it takes a kilobyte more of the library's code.
+#[inline(never)]
+fn run_in(clients: &[[u64; CLIENT_WORDS]]) -> Run
+    ensures { result ≡ loaded (clients_in clients.now) }
+{
+    Run::load(clients)
+}
+
+// An opening with the records that stand in words, as crpm's.
+fn open_in(
+    image: &[u8],
+    layout: Layout,
+    domain: u64,
+    clients: &mut [[u64; CLIENT_WORDS]],
+    trace: &mut [u64],
+) -> Result<Answer, Refusal>
+    ensures { Gives (open_outcome layout domain image.now (lent (clients_in clients.old) trace.old)) trace.old (told zero_session result) trace.new (clients_in clients.new) }
+{
+    let run = run_in(clients);
+    let answer = open::open_run(image, layout, domain, run, trace)?;
+    clients::clear(clients);
+    Ok(answer)
 }
 
 // Opening on a kind of module: the session that it answers, and the number of its operations.
@@ -45,7 +73,7 @@ pub extern "C" fn crpm_open(
 ) -> u64
     ensures { Returns (open_returned (layout_of mains backups blocks) domain image.now (clients_in clients.old) trace.old) result session.new (clients_in clients.new) trace.new ops.new }
 {
-    let opened = crpm::crpm_open(
+    let opened = open_in(
         image,
         Layout::new(mains, backups, blocks),
         domain,
@@ -73,7 +101,7 @@ pub extern "C" fn crpm_write(
 ) -> u64
     ensures { Returns (write_returned image.now session.old (clients_in clients.old) (write_args_of client main block offset bytes.now) trace.old) result session.new (clients_in clients.new) trace.new ops.new }
 {
-    let run = Run::load(clients);
+    let run = run_in(clients);
     let place = Place {
         main,
         block,
@@ -124,7 +152,7 @@ pub extern "C" fn crpm_checkpoint(
     ensures { Returns (checkpoint_returned image.now session.old (clients_in clients.old) trace.old) result session.new (clients_in clients.new) trace.new ops.new }
 {
     let view = interface::view_in(session);
-    let judged = Run::load(clients).judge(view.layout);
+    let judged = run_in(clients).judge(view.layout);
     match checkpoint::checkpoint_parts(image, view, judged, trace) {
         Ok(reported) => {
             session[DIRTY_SEGMENTS_AT] = 0;

@@ -7,6 +7,6 @@ pub returns : goal.returns
 unfolding zero_session
 returns c =
     let kept : c.fresh-zeros.result ≡ zero_session = c.fresh-zeros.ensures ∙ ap (λ l. fresh_session l adr) c.new-2.ensures in
-    let o = rw c.new.ensures at c.crpm_open-opened.ensures in
+    let o = rw c.new.ensures at c.open_in-opened.ensures in
     let g = rw kept at c.give_answer.ensures in
     (g.value ∙ o.0, g.session_after ∙ ap words_of o.1, o.4, o.3, g.ops_after ∙ o.2)

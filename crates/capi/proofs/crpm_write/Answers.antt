@@ -10,10 +10,10 @@ returns-in-Ok c =
     let a = c.args in
     let R = clients_in a.clients.now in
     let w = c.in-Ok.written in
-    let g = rw c.view_in-view.ensures at (c.in-Ok.ensures.gives R c.load-run.ensures) in (
+    let g = rw c.view_in-view.ensures at (c.in-Ok.ensures.gives R c.run_in-run.ensures) in (
       g.0,
       write_stored a.session.now c.told-session _ c.view_in-view.ensures w.dirty_segments a.main w.word c.in-Ok.ensures.main_lt_most.0 ∙ ap words_of g.1,
-      c.put.ensures ∙ ap (set R a.client) (c.record_of-record.ensures R c.load-run.ensures) ∙ g.4,
+      c.put.ensures ∙ ap (set R a.client) (c.record_of-record.ensures R c.run_in-run.ensures) ∙ g.4,
       g.3,
       g.2,
     )
@@ -21,5 +21,5 @@ returns-in-Ok c =
 pub returns-in-Err : goal.returns-in-Err
 returns-in-Err c =
     let a = c.args in
-    let g = rw c.view_in-view.ensures at (c.in-Err.ensures.gives (clients_in a.clients.now) c.load-run.ensures) in
+    let g = rw c.view_in-view.ensures at (c.in-Err.ensures.gives (clients_in a.clients.now) c.run_in-run.ensures) in
     (c.from.ensures ∙ g.0, sym (words_session a.session.now c.told-session) ∙ ap words_of g.1, g.4, g.3, g.2)
