@@ -11,7 +11,7 @@
 ghost use Rattle.std.specs.Prelude.{◌≤◌};
 
 use model::{Answer, Client, Layout, Place, Refusal, Session};
-use std::{fmt, io};
+use std::fmt;
 
 // The history's sizes: two levels, one spare, one frame each.
 const SIZES: Layout = Layout {
@@ -261,7 +261,7 @@ fn back(image: &[u8], layout: Layout, read: Read, call: Call) -> u64 {
     count
 }
 
-// ---- printed lines
+// ---- printed lines: a write that fails is dropped, and the cases go on
 
 // Prints how a call ended, how many orders it reports, and the card: the levels touched and the marks of levels 0 and 1, a bit
 // each. The answer, which has the card that was lent and no orders where the call was refused.
@@ -270,7 +270,7 @@ fn print_answer(
     name: &str,
     kept: Session,
     ended: Result<Answer, Refusal>,
-) -> io::Result<Answer> {
+) -> Answer {
     let code = model::status_code(ended);
     let answer = ended.unwrap_or(Answer {
         session: kept,
@@ -280,127 +280,118 @@ fn print_answer(
     let touched = answer.session.dirty_segments;
     let first = answer.session.dirty_blocks[0];
     let second = answer.session.dirty_blocks[1];
-    print!(rt; " {name}={code} orders={ops} touched={touched} marks={first},{second}")?;
-    Ok(answer)
+    let _ = print!(rt; " {name}={code} orders={ops} touched={touched} marks={first},{second}");
+    answer
 }
 
 // Prints an order: kind, place, and the word in hexadecimal.
-fn print_op(rt: &impl Print, name: &str, op: &[u64]) -> io::Result<()> {
-    match op {
-        [kind, place, word] => print!(rt; " {name}={kind},{place},{word:016x}"),
-        _ => Ok(()),
+fn print_op(rt: &impl Print, name: &str, op: &[u64]) {
+    if let [kind, place, word] = op {
+        let _ = print!(rt; " {name}={kind},{place},{word:016x}");
     }
 }
 
 // Prints the first and the last of some orders.
-fn print_ops(rt: &impl Print, trace: &[u64], ops: u64) -> io::Result<()> {
+fn print_ops(rt: &impl Print, trace: &[u64], ops: u64) {
     let all = trace.len() / trace::OP_NUMBERS;
     let count = all.min(ops as usize);
     if count == 0 {
-        return Ok(());
+        return;
     }
-    print_op(rt, "first", &trace[..trace::OP_NUMBERS])?;
+    print_op(rt, "first", &trace[..trace::OP_NUMBERS]);
     let last = trace::OP_NUMBERS * (count - 1);
-    print_op(rt, "last", &trace[last..last + trace::OP_NUMBERS])
+    print_op(rt, "last", &trace[last..last + trace::OP_NUMBERS]);
 }
 
 // Prints the length of the saved read of a level's frame 0 and, if it is not 0, where it starts.
-fn print_saved(rt: &impl Print, image: &[u8], layout: Layout, main: u64) -> io::Result<()> {
+fn print_saved(rt: &impl Print, image: &[u8], layout: Layout, main: u64) {
     let start = reads::checkpoint_part(image, layout, main, 0).start;
-    match reads::crpm_read_checkpoint(image, layout, main, 0).len() {
+    let _ = match reads::crpm_read_checkpoint(image, layout, main, 0).len() {
         0 => print!(rt; "0"),
         size => print!(rt; "{size}@{start}"),
-    }
+    };
 }
 
 // Prints the first byte of the epoch, the states of levels 0 and 1 on either line, and the first pair.
-fn print_metadata(rt: &impl Print, image: &[u8]) -> io::Result<()> {
+fn print_metadata(rt: &impl Print, image: &[u8]) {
     let epoch = byte_at(image, 0);
-    print!(rt; " epoch={epoch}")?;
-    print!(rt; " at128={},{}", byte_at(image, 128), byte_at(image, 129))?;
-    print!(rt; " at192={},{}", byte_at(image, 192), byte_at(image, 193))?;
-    print!(rt; " at256={}", byte_at(image, 256))
+    let _ = print!(rt; " epoch={epoch}");
+    let _ = print!(rt; " at128={},{}", byte_at(image, 128), byte_at(image, 129));
+    let _ = print!(rt; " at192={},{}", byte_at(image, 192), byte_at(image, 193));
+    let _ = print!(rt; " at256={}", byte_at(image, 256));
 }
 
 // Prints how many bytes a read gives back: zeros, and of the long writes those of L2, of L4, of L6 and of the one of L7 that is
 // served.
-fn print_back(
-    rt: &impl Print,
-    name: &str,
-    image: &[u8],
-    layout: Layout,
-    read: Read,
-) -> io::Result<()> {
+fn print_back(rt: &impl Print, name: &str, image: &[u8], layout: Layout, read: Read) {
     let zeros = back(image, layout, read, ZEROS);
     let l2 = back(image, layout, read, L2);
     let l4 = back(image, layout, read, L4);
     let l6 = back(image, layout, read, L6);
     let l7 = back(image, layout, read, L7);
-    print!(rt; " {name}={zeros},{l2},{l4},{l6},{l7}")
+    let _ = print!(rt; " {name}={zeros},{l2},{l4},{l6},{l7}");
 }
 
 // Prints a level: its saved read, and the first two bytes of its working read in hexadecimal.
-fn print_level(rt: &impl Print, image: &[u8], layout: Layout, main: u64) -> io::Result<()> {
+fn print_level(rt: &impl Print, image: &[u8], layout: Layout, main: u64) {
     let part = reads::crpm_read_working(image, layout, main, 0);
     let first = byte_at(part, 0);
     let second = byte_at(part, 1);
-    print_saved(rt, image, layout, main)?;
-    print!(rt; ":{first:02x}{second:02x}")
+    print_saved(rt, image, layout, main);
+    let _ = print!(rt; ":{first:02x}{second:02x}");
 }
 
 // Prints the first `count` levels.
-fn print_levels(rt: &impl Print, image: &[u8], layout: Layout, count: u64) -> io::Result<()> {
-    print!(rt; " levels=")?;
-    print_level(rt, image, layout, 0)?;
+fn print_levels(rt: &impl Print, image: &[u8], layout: Layout, count: u64) {
+    let _ = print!(rt; " levels=");
+    print_level(rt, image, layout, 0);
     for main in 1..count {
-        print!(rt; ",")?;
-        print_level(rt, image, layout, main)?;
+        let _ = print!(rt; ",");
+        print_level(rt, image, layout, main);
     }
-    Ok(())
 }
 
 // Prints `count` bytes from a place of an image on, with commas.
-fn print_bytes(rt: &impl Print, name: &str, image: &[u8], at: usize, count: usize) -> io::Result<()>
+fn print_bytes(rt: &impl Print, name: &str, image: &[u8], at: usize, count: usize)
     requires { (at ≤ 256) × (count ≤ 8) }
 {
-    print!(rt; " {name}={}", byte_at(image, at))?;
+    let _ = print!(rt; " {name}={}", byte_at(image, at));
     for i in 1..count {
-        print!(rt; ",{}", byte_at(image, at + i))?;
+        let _ = print!(rt; ",{}", byte_at(image, at + i));
     }
-    Ok(())
 }
 
 // Prints the board of the restart: the first byte of the epoch, the states of its six levels on the active line, the pairs of its
 // four spares, and the levels.
-fn print_board(rt: &impl Print, image: &[u8], layout: Layout) -> io::Result<()> {
-    print!(rt; " epoch={}", byte_at(image, 0))?;
-    print_bytes(rt, "states", image, active_line(image), 6)?;
-    print_bytes(rt, "pairs", image, 256, 4)?;
-    print_levels(rt, image, layout, 6)
+fn print_board(rt: &impl Print, image: &[u8], layout: Layout) {
+    let _ = print!(rt; " epoch={}", byte_at(image, 0));
+    print_bytes(rt, "states", image, active_line(image), 6);
+    print_bytes(rt, "pairs", image, 256, 4);
+    print_levels(rt, image, layout, 6);
 }
 
 // Prints what stands after a case, and the end of the line: of the restart's cases the board; of the others the metadata, the saved reads
 // of levels 0 and 1, and for a long write what is read back, or for dropped edits the levels.
-fn print_image(rt: &impl Print, image: &[u8], layout: Layout, case: Case) -> io::Result<()> {
+fn print_image(rt: &impl Print, image: &[u8], layout: Layout, case: Case) {
     match case {
-        Case::R(_) => print_board(rt, image, layout)?,
+        Case::R(_) => print_board(rt, image, layout),
         Case::D(_) => {
-            print_metadata(rt, image)?;
-            print_levels(rt, image, layout, 2)?;
+            print_metadata(rt, image);
+            print_levels(rt, image, layout, 2);
         }
         Case::P(_) | Case::L(_) => {
-            print_metadata(rt, image)?;
-            print!(rt; " saved=")?;
-            print_saved(rt, image, layout, 0)?;
-            print!(rt; ",")?;
-            print_saved(rt, image, layout, 1)?;
+            print_metadata(rt, image);
+            let _ = print!(rt; " saved=");
+            print_saved(rt, image, layout, 0);
+            let _ = print!(rt; ",");
+            print_saved(rt, image, layout, 1);
         }
     }
     if let Case::L(_) = case {
-        print_back(rt, "working", image, layout, Read::Working)?;
-        print_back(rt, "kept", image, layout, Read::Saved)?;
+        print_back(rt, "working", image, layout, Read::Working);
+        print_back(rt, "kept", image, layout, Read::Saved);
     }
-    println!(rt; "")
+    let _ = println!(rt; "");
 }
 
 // ---- histories
@@ -421,9 +412,9 @@ fn make(
     session: Session,
     clients: &mut [Client],
     call: Call,
-) -> io::Result<Answer> {
+) -> Answer {
     let Call(case, action) = call;
-    print!(rt; "{case}")?;
+    let _ = print!(rt; "{case}");
     match action {
         Action::Save => {
             let saved = driver::step_checkpoint(image, session, clients, trace);
@@ -431,7 +422,7 @@ fn make(
         }
         Action::Discard(main, numbers) => {
             let tape = numbers.min(trace.len());
-            print!(rt; " level={main} tape={tape}")?;
+            let _ = print!(rt; " level={main} tape={tape}");
             let dropped = driver::step_discard(image, session, main, &mut trace[..tape]);
             print_answer(rt, "drop", session, dropped)
         }
@@ -441,10 +432,10 @@ fn make(
                 *byte = byte_of(case, i);
             }
             let given = first_of(&bytes, length);
-            print!(rt;
+            let _ = print!(rt;
                 " level={main} frame={block} at={offset} length={}",
                 given.len()
-            )?;
+            );
             let place = Place {
                 main,
                 block,
@@ -463,30 +454,25 @@ fn history(
     trace: &mut [u64],
     given: Stand,
     calls: &[Call],
-) -> io::Result<Stand> {
+) -> Stand {
     let mut stand = given;
     for call in calls {
         let Call(case, _) = *call;
         let Stand { session, client } = stand;
         let mut clients = [client];
-        let answer = make(rt, image, trace, session, &mut clients, *call)?;
-        print_ops(rt, trace, answer.ops)?;
-        print_image(rt, image, session.layout, case)?;
+        let answer = make(rt, image, trace, session, &mut clients, *call);
+        print_ops(rt, trace, answer.ops);
+        print_image(rt, image, session.layout, case);
         stand = Stand {
             session: answer.session,
             client: clients[0],
         };
     }
-    Ok(stand)
+    stand
 }
 
 // What stands is opened, with the record of a console that has taken nothing.
-fn start(
-    rt: &impl Print,
-    image: &mut [u8],
-    layout: Layout,
-    trace: &mut [u64],
-) -> io::Result<Stand> {
+fn start(rt: &impl Print, image: &mut [u8], layout: Layout, trace: &mut [u64]) -> Stand {
     let mut clients = [Client {
         reserved: layout.backups,
         quota: layout.backups,
@@ -494,17 +480,17 @@ fn start(
     }];
     let opened = driver::step_open(image, layout, Session::ADR, &mut clients, trace);
     let none = Session::fresh(Layout::new(0, 0, 0), Session::ADR);
-    let answer = print_answer(rt, "open", none, opened)?;
-    Ok(Stand {
+    let answer = print_answer(rt, "open", none, opened);
+    Stand {
         session: answer.session,
         client: clients[0],
-    })
+    }
 }
 
 // A fresh opening with a tape.
-fn open(rt: &impl Print, image: &mut [u8], layout: Layout, trace: &mut [u64]) -> io::Result<Stand> {
+fn open(rt: &impl Print, image: &mut [u8], layout: Layout, trace: &mut [u64]) -> Stand {
     let _ = format::crpm_format(image, layout);
-    print!(rt; " tape={}", trace.len())?;
+    let _ = print!(rt; " tape={}", trace.len());
     start(rt, image, layout, trace)
 }
 
@@ -515,10 +501,10 @@ fn reopen(
     layout: Layout,
     trace: &mut [u64],
     case: Case,
-) -> io::Result<Stand> {
-    let stand = start(rt, image, layout, trace)?;
-    print_image(rt, image, layout, case)?;
-    Ok(stand)
+) -> Stand {
+    let stand = start(rt, image, layout, trace);
+    print_image(rt, image, layout, case);
+    stand
 }
 
 // A call cut after n orders, every store of which has arrived; what stands is opened and looked at.
@@ -529,97 +515,94 @@ fn cut(
     orders: &[u64],
     n: u64,
     case: Case,
-) -> io::Result<Stand> {
+) -> Stand {
     let mut trace = [0u64; TAPE];
     let played = replay::crpm_replay(image, orders, n).unwrap_or(0);
-    print!(rt; "{case} cut={played}")?;
+    let _ = print!(rt; "{case} cut={played}");
     reopen(rt, image, layout, &mut trace, case)
 }
 
 // ---- P1 to P10
 
 // Lays out an image of any length with the history's sizes.
-fn lay_out(rt: &impl Print, image: &mut [u8]) -> io::Result<()> {
+fn lay_out(rt: &impl Print, image: &mut [u8]) {
     let length = image.len();
     let code = model::status_code(format::crpm_format(image, SIZES));
-    print!(rt; " length={length} lay={code}")
+    let _ = print!(rt; " length={length} lay={code}");
 }
 
 // P1: the lengths of images, other lengths, and a size out of range.
-fn p1(rt: &impl Print) -> io::Result<()> {
+fn p1(rt: &impl Print) {
     let most = Layout::MOST;
     let image = places::image_size(SIZES);
     let largest = places::image_size(Layout::new(most, most, most));
-    print!(rt; "P1 image={image} largest={largest}")?;
-    lay_out(rt, &mut [7u8; IMAGE - 1])?;
-    lay_out(rt, &mut [7u8; IMAGE])?;
-    lay_out(rt, &mut [7u8; IMAGE + 1])?;
+    let _ = print!(rt; "P1 image={image} largest={largest}");
+    lay_out(rt, &mut [7u8; IMAGE - 1]);
+    lay_out(rt, &mut [7u8; IMAGE]);
+    lay_out(rt, &mut [7u8; IMAGE + 1]);
     let mains = most + 1;
     let sizes = Layout { mains, ..SIZES };
     let code = model::status_code(format::crpm_format(&mut [7u8; IMAGE], sizes));
-    println!(rt; " mains={mains} lay={code}")
+    let _ = println!(rt; " mains={mains} lay={code}");
 }
 
 // P2: a tape too short by one, and one that is just long enough.
-fn p2(rt: &impl Print, image: &mut [u8]) -> io::Result<Stand> {
-    print!(rt; "P2")?;
-    open(rt, image, SIZES, &mut [0u64; OPENING - 1])?;
-    let stand = open(rt, image, SIZES, &mut [0u64; OPENING])?;
-    println!(rt; "")?;
-    Ok(stand)
+fn p2(rt: &impl Print, image: &mut [u8]) -> Stand {
+    let _ = print!(rt; "P2");
+    open(rt, image, SIZES, &mut [0u64; OPENING - 1]);
+    let stand = open(rt, image, SIZES, &mut [0u64; OPENING]);
+    let _ = println!(rt; "");
+    stand
 }
 
 // P3 to P9.
-fn p3_to_p9(rt: &impl Print) -> io::Result<()> {
+fn p3_to_p9(rt: &impl Print) {
     let mut image = [7u8; IMAGE];
     let mut trace = [0u64; TAPE];
-    let stand = p2(rt, &mut image)?;
-    history(rt, &mut image, &mut trace, stand, &P3_TO_P9)?;
-    Ok(())
+    let stand = p2(rt, &mut image);
+    history(rt, &mut image, &mut trace, stand, &P3_TO_P9);
 }
 
 // P10: before the last call of its history the level is paired, in state 1 and untouched, with one mark.
-fn p10(rt: &impl Print) -> io::Result<()> {
+fn p10(rt: &impl Print) {
     let mut image = [7u8; IMAGE_LONG];
     let mut trace = [0u64; TAPE];
-    print!(rt; "P10")?;
-    let stand = open(rt, &mut image, SIZES_LONG, &mut trace)?;
-    println!(rt; "")?;
-    history(rt, &mut image, &mut trace, stand, &P10)?;
-    Ok(())
+    let _ = print!(rt; "P10");
+    let stand = open(rt, &mut image, SIZES_LONG, &mut trace);
+    let _ = println!(rt; "");
+    history(rt, &mut image, &mut trace, stand, &P10);
 }
 
 // ---- the restart
 
 // R3 to R7: the calls after the restart, and the cuts of their save. A cut after 16 or 17 may leave the epoch's line as it was too, which
 // is what a cut after 15 leaves.
-fn restarted(rt: &impl Print, opened: [u8; IMAGE_BOARD], stand: Stand) -> io::Result<()> {
+fn restarted(rt: &impl Print, opened: [u8; IMAGE_BOARD], stand: Stand) {
     let mut image = opened;
     let mut trace = [0u64; TAPE];
-    let touched = history(rt, &mut image, &mut trace, stand, &R3_AND_R4)?;
+    let touched = history(rt, &mut image, &mut trace, stand, &R3_AND_R4);
     let before = image;
-    let saved = history(rt, &mut image, &mut trace, touched, &R5)?;
+    let saved = history(rt, &mut image, &mut trace, touched, &R5);
     for n in [15, 16] {
         let mut left = before;
         let mut again = [0u64; TAPE];
-        let shown = cut(rt, &mut left, SIZES_BOARD, &trace, n, Case::R(5))?;
-        history(rt, &mut left, &mut again, shown, &R6_AND_R7)?;
+        let shown = cut(rt, &mut left, SIZES_BOARD, &trace, n, Case::R(5));
+        history(rt, &mut left, &mut again, shown, &R6_AND_R7);
     }
-    history(rt, &mut image, &mut trace, saved, &R7)?;
-    Ok(())
+    history(rt, &mut image, &mut trace, saved, &R7);
 }
 
 // R1: a save, and writes after it that take every spare; then power fails, and every store has arrived. R2 opens what stands.
-fn restart(rt: &impl Print) -> io::Result<()> {
+fn restart(rt: &impl Print) {
     let mut image = [7u8; IMAGE_BOARD];
     let mut trace = [0u64; TAPE];
-    print!(rt; "R1")?;
-    let stand = open(rt, &mut image, SIZES_BOARD, &mut trace)?;
-    println!(rt; "")?;
-    history(rt, &mut image, &mut trace, stand, &R1)?;
-    print!(rt; "R2")?;
-    let restored = reopen(rt, &mut image, SIZES_BOARD, &mut trace, Case::R(2))?;
-    restarted(rt, image, restored)
+    let _ = print!(rt; "R1");
+    let stand = open(rt, &mut image, SIZES_BOARD, &mut trace);
+    let _ = println!(rt; "");
+    history(rt, &mut image, &mut trace, stand, &R1);
+    let _ = print!(rt; "R2");
+    let restored = reopen(rt, &mut image, SIZES_BOARD, &mut trace, Case::R(2));
+    restarted(rt, image, restored);
 }
 
 // ---- the long writes
@@ -650,78 +633,76 @@ fn keeps(before: [u8; IMAGE_LONG], written: &[u64], n: u64) -> bool {
 }
 
 // L4 to L7: the calls after the save of L3, and the cuts of their first write, after 0 to 239 orders.
-fn long_again(rt: &impl Print, saved: [u8; IMAGE_LONG], stand: Stand) -> io::Result<()> {
+fn long_again(rt: &impl Print, saved: [u8; IMAGE_LONG], stand: Stand) {
     let mut image = saved;
     let mut trace = [0u64; TAPE];
-    let touched = history(rt, &mut image, &mut trace, stand, &[L4])?;
+    let touched = history(rt, &mut image, &mut trace, stand, &[L4]);
     let mut shown = 0u64;
     for n in 0..240 {
         if keeps(saved, &trace, n) {
             shown = shown.saturating_add(1);
         }
     }
-    println!(rt; "L4 cuts=240 shown={shown}")?;
-    history(rt, &mut image, &mut trace, touched, &L5_TO_L7)?;
-    Ok(())
+    let _ = println!(rt; "L4 cuts=240 shown={shown}");
+    history(rt, &mut image, &mut trace, touched, &L5_TO_L7);
 }
 
 // L3: the save and its cuts; and what follows. A cut after 24 or 25 may leave the epoch's line as it was too, which is what a cut after 23
 // leaves.
-fn long_saved(rt: &impl Print, written: [u8; IMAGE_LONG], stand: Stand) -> io::Result<()> {
+fn long_saved(rt: &impl Print, written: [u8; IMAGE_LONG], stand: Stand) {
     let mut image = written;
     let mut trace = [0u64; TAPE];
-    let saved = history(rt, &mut image, &mut trace, stand, &L3)?;
+    let saved = history(rt, &mut image, &mut trace, stand, &L3);
     for n in 23..27 {
         let mut left = written;
-        cut(rt, &mut left, SIZES_LONG, &trace, n, Case::L(3))?;
+        cut(rt, &mut left, SIZES_LONG, &trace, n, Case::L(3));
     }
-    long_again(rt, image, saved)
+    long_again(rt, image, saved);
 }
 
 // L1 and L2; and what follows.
-fn long(rt: &impl Print) -> io::Result<()> {
+fn long(rt: &impl Print) {
     let mut image = [7u8; IMAGE_LONG];
     let mut trace = [0u64; TAPE];
-    print!(rt; "L1")?;
-    let stand = open(rt, &mut image, SIZES_LONG, &mut trace)?;
-    println!(rt; "")?;
-    let touched = history(rt, &mut image, &mut trace, stand, &[L2])?;
-    long_saved(rt, image, touched)
+    let _ = print!(rt; "L1");
+    let stand = open(rt, &mut image, SIZES_LONG, &mut trace);
+    let _ = println!(rt; "");
+    let touched = history(rt, &mut image, &mut trace, stand, &[L2]);
+    long_saved(rt, image, touched);
 }
 
 // ---- the dropped edits
 
 // D5 to D11: the drops, cuts of the first of them, the save, and an opening of what it left.
-fn drops(rt: &impl Print, edited: [u8; IMAGE], stand: Stand) -> io::Result<()> {
+fn drops(rt: &impl Print, edited: [u8; IMAGE], stand: Stand) {
     let mut image = edited;
     let mut trace = [0u64; TAPE];
-    let dropped = history(rt, &mut image, &mut trace, stand, &D5)?;
+    let dropped = history(rt, &mut image, &mut trace, stand, &D5);
     for n in [0, 1, 32] {
         let mut left = edited;
-        cut(rt, &mut left, SIZES, &trace, n, Case::D(5))?;
+        cut(rt, &mut left, SIZES, &trace, n, Case::D(5));
     }
-    history(rt, &mut image, &mut trace, dropped, &D6_TO_D10)?;
-    print!(rt; "D11")?;
-    reopen(rt, &mut image, SIZES, &mut trace, Case::D(11))?;
-    Ok(())
+    history(rt, &mut image, &mut trace, dropped, &D6_TO_D10);
+    let _ = print!(rt; "D11");
+    reopen(rt, &mut image, SIZES, &mut trace, Case::D(11));
 }
 
 // D1 to D4; and what follows.
-fn edits(rt: &impl Print) -> io::Result<()> {
+fn edits(rt: &impl Print) {
     let mut image = [7u8; IMAGE];
     let mut trace = [0u64; TAPE];
-    print!(rt; "D1")?;
-    let stand = open(rt, &mut image, SIZES, &mut trace)?;
-    println!(rt; "")?;
-    let touched = history(rt, &mut image, &mut trace, stand, &D1_TO_D4)?;
-    drops(rt, image, touched)
+    let _ = print!(rt; "D1");
+    let stand = open(rt, &mut image, SIZES, &mut trace);
+    let _ = println!(rt; "");
+    let touched = history(rt, &mut image, &mut trace, stand, &D1_TO_D4);
+    drops(rt, image, touched);
 }
 
-fn main(rt: HostRuntime) -> io::Result<()> {
-    p1(&rt)?;
-    p3_to_p9(&rt)?;
-    p10(&rt)?;
-    restart(&rt)?;
-    long(&rt)?;
-    edits(&rt)
+fn main(rt: HostRuntime) {
+    p1(&rt);
+    p3_to_p9(&rt);
+    p10(&rt);
+    restart(&rt);
+    long(&rt);
+    edits(&rt);
 }

@@ -29,7 +29,6 @@ ghost use Rattle.model.specs.Checkpoint.{checkpoint_outcome};
 ghost use Rattle.model.specs.Replay.{replay_outcome};
 
 use model::{Answer, Client, Layout, Place, Refusal, Session};
-use std::io;
 
 // The board's sizes: three levels, two spares, one frame each; and the bytes of its image.
 const SIZES: Layout = Layout {
@@ -82,7 +81,7 @@ fn records(share: u64, limit: u64) -> [Client; CONSOLES]
     [stage, gallery]
 }
 
-// ---- printed lines
+// ---- printed lines: a write that fails is dropped, and the story goes on
 
 // Prints how a call ended, how many orders it reports, and how many spares each console has taken.
 fn print_answer(
@@ -90,27 +89,27 @@ fn print_answer(
     name: &str,
     ended: Result<Answer, Refusal>,
     clients: [Client; CONSOLES],
-) -> io::Result<()> {
+) {
     let code = model::status_code(ended);
     let orders = orders_of(ended);
     let [stage, gallery] = clients;
-    print!(rt;
+    let _ = print!(rt;
         " {name}={code} orders={orders} taken={},{}",
         stage.used, gallery.used
-    )
+    );
 }
 
 // Prints the states of the three levels on the active line, and the pairs of the two spares.
-fn print_board(rt: &impl Print, image: &[u8]) -> io::Result<()> {
+fn print_board(rt: &impl Print, image: &[u8]) {
     let line = active_line(image);
     let first = byte_at(image, line);
     let second = byte_at(image, line + 1);
     let third = byte_at(image, line + 2);
-    println!(rt;
+    let _ = println!(rt;
         " states={first},{second},{third} pairs={},{}",
         byte_at(image, 256),
         byte_at(image, 257)
-    )
+    );
 }
 
 // ---- calls with the records lent, and their orders played
@@ -237,7 +236,7 @@ fn play(
     }
 }
 
-// Makes a call and prints its answer. The card afterwards, which stays where the call is refused.
+// Makes a call with the card and the records that the last one left, plays its orders and prints its answer.
 fn make(
     rt: &impl Print,
     image: &mut [u8],
@@ -245,49 +244,55 @@ fn make(
     clients: &mut [Client; CONSOLES],
     trace: &mut [u64],
     call: Call,
-) -> io::Result<Session> {
+) -> Result<Answer, Refusal>
+    ensures { image.new ≡ (replay_outcome image.old trace.new (told session result).ops).image }
+{
     let ended = play(image, session, clients, trace, call);
     match call {
-        Call::Open => print_answer(rt, "open", ended, *clients)?,
+        Call::Open => print_answer(rt, "open", ended, *clients),
         Call::Write(console, level) => {
-            print!(rt; " console={console} level={level}")?;
-            print_answer(rt, "write", ended, *clients)?
+            let _ = print!(rt; " console={console} level={level}");
+            print_answer(rt, "write", ended, *clients);
         }
-        Call::Save => print_answer(rt, "save", ended, *clients)?,
+        Call::Save => print_answer(rt, "save", ended, *clients),
     }
-    Ok(ended.map_or(session, |answer| answer.session))
+    ended
+}
+
+// The card where a call is refused: an opening answers one of zeros, and the others leave the one that was lent.
+fn kept(call: Call, session: Session) -> Session {
+    match call {
+        Call::Open => Session::fresh(Layout::new(0, 0, 0), Session::ADR),
+        Call::Write(_, _) | Call::Save => session,
+    }
 }
 
 // C1 to C21: each call is lent the records that the last one left. The card afterwards.
-fn history(rt: &impl Print, image: &mut [u8], trace: &mut [u64]) -> io::Result<Session> {
+fn history(rt: &impl Print, image: &mut [u8], trace: &mut [u64]) -> Session {
     let mut session = Session::fresh(SIZES, Session::ADR);
     let mut clients = records(1, 2);
     for (i, call) in CALLS.iter().enumerate() {
-        print!(rt; "C{}", i + 1)?;
-        session = make(rt, image, session, &mut clients, trace, *call)?;
-        print_board(rt, image)?;
+        let _ = print!(rt; "C{}", i + 1);
+        let ended = make(rt, image, session, &mut clients, trace, *call);
+        print_board(rt, image);
+        session = ended.map_or(kept(*call, session), |answer| answer.session);
     }
-    Ok(session)
+    session
 }
 
 // C22: a save with records of which one has a share above its limit.
-fn bad_share(
-    rt: &impl Print,
-    image: &mut [u8],
-    session: Session,
-    trace: &mut [u64],
-) -> io::Result<()> {
+fn bad_share(rt: &impl Print, image: &mut [u8], session: Session, trace: &mut [u64]) {
     let mut clients = records(1, 0);
     let saved = play_save(image, session, &mut clients, trace);
-    print!(rt; "C22 share=1 limit=0")?;
-    print_answer(rt, "save", saved, clients)?;
-    print_board(rt, image)
+    let _ = print!(rt; "C22 share=1 limit=0");
+    print_answer(rt, "save", saved, clients);
+    print_board(rt, image);
 }
 
-fn main(rt: HostRuntime) -> io::Result<()> {
+fn main(rt: HostRuntime) {
     let mut image = [7u8; IMAGE];
     let mut trace = [0u64; TAPE];
     let _ = format::crpm_format(&mut image, SIZES);
-    let session = history(&rt, &mut image, &mut trace)?;
-    bad_share(&rt, &mut image, session, &mut trace)
+    let session = history(&rt, &mut image, &mut trace);
+    bad_share(&rt, &mut image, session, &mut trace);
 }
