@@ -8,8 +8,7 @@ use lib.ListN.{length, get_or, take, drop, length-drop}
 use lib.Seq.{get_or-take, get_or-drop}
 use lib.Bits.{bit_or}
 use native.Mathlib.Decide.{dec_lt}
-use Rattle.std.specs.Prelude.{fold, List}
-use Rattle.std.proofs.lemmas.List.{take_all}
+use Rattle.std.specs.Prelude.{fold}
 use Rattle.std.proofs.lemmas.Grind.{common_steps}
 use borrow.Author.Tests.{lt-ltb, le-ltb, eq-eqb, eqb-true, ltb-true}
 use Rattle.model.specs.declared.Layout.{Layout}
@@ -58,22 +57,20 @@ module _ (words : ℕ → ℕ) (n k : ℕ) (h : n ≤ 64) where
           let z = rw (le-ltb (n + i) n (omega arith)) at (all_at 64 either e (n + i) (omega arith)) in
           eq-eqb (words (n + i)) 0 (omega (arith, ltb-true (words (n + i)) 1 z))))
 
--- validity by the tests that the code makes, of a session of 64 words
-pub valid_session_tests : (s : Session) (st : ℕ → ℕ) → s.layout.mains ≤ 64 → length s.dirty_blocks ≡ 64
+-- validity by the tests that the code makes, of a session of 64 words or more
+pub valid_session_tests : (s : Session) (st : ℕ → ℕ) → s.layout.mains ≤ 64 → 64 ≤ length s.dirty_blocks
     → (ltb s.dirty_segments (2 ^ s.layout.mains)
     && (ltb (fold bit_or 0 (take s.layout.mains s.dirty_blocks)) (2 ^ s.layout.blocks)
-    && (eqb (fold bit_or 0 (drop s.layout.mains s.dirty_blocks)) 0
+    && (eqb (fold bit_or 0 (take (64 - s.layout.mains) (drop s.layout.mains s.dirty_blocks))) 0
     && (all_b s.layout.mains (λ (i : ℕ). not (is_dirty s.dirty_segments i && eqb (st i) 1)) && leb s.domain 1))))
     ≡ valid_session s st
 unfolding valid_session dirty_segment
 valid_session_tests s st h l =
     let words = s.dirty_blocks in
     let m = s.layout.mains in
-    let rest : length (drop m words) ≡ 64 - m = omega (arith, length-drop m words) in
     let used = union_within s.layout.blocks words m (omega arith) in
     let none =
-    ap (λ (v : List ℕ). eqb (fold bit_or 0 v) 0) (sym (take_all (64 - m) (drop m words) (omega arith)))
-    ∙ union_zero (drop m words) (64 - m) (omega arith)
+    union_zero (drop m words) (64 - m) (omega (arith, length-drop m words))
     ∙ all_ext (64 - m) _ (λ i. eqb (dirty_word s (m + i)) 0) (λ i b. ap (λ (x : ℕ). eqb x 0) (get_or-drop m words i 0)) in
     let blocks = ap₂ ◌&&◌ used none ∙ words_in_two (dirty_word s) m s.layout.blocks h in
     let kind : leb s.domain 1 ≡ not (ltb 1 s.domain) = grind (arith, common_steps) in

@@ -11,7 +11,6 @@ ghost use Rattle.model.specs.Layout.{line_size, word_size, most, ss_main};
 ghost use Rattle.model.specs.Status.{code_of, first_error};
 ghost use Rattle.model.specs.Session.{is_dirty, set_bit, set_bits, with_checkpoint, valid_session, context_errors};
 ghost use Rattle.model.specs.Counts.{dirty_total};
-ghost use Rattle.session.specs.Parts.{viewed};
 ghost use Rattle.session.specs.Marked.{marked_segments};
 
 use model::{Layout, Refusal, Session};
@@ -28,16 +27,20 @@ const EIGHT: usize = 8;
 // A word with all bits set but the eight lowest.
 const BEYOND_EIGHT: u64 = 0xffffffffffffff00;
 
-// A session that is lent: its words of dirty blocks stand elsewhere, in a session or among the words of the C interface.
+// A session that is lent: its words of dirty blocks stand elsewhere, in a session or among the words of the C interface, a word for each
+// main segment that there can be, or more.
 #[derive(Clone, Copy)]
 pub struct SessionView<'a> {
     pub layout: Layout,
     pub dirty_segments: u64,
-    pub dirty_blocks: &'a [u64; Layout::MOST_LEN],
+    pub dirty_blocks: &'a [u64],
     pub domain: u64,
+    pub ghost enough: { most ≤ length dirty_blocks.now },
 }
 
 impl<'a> SessionView<'a> {
+    ghost use Rattle.session.specs.Parts.{viewed};
+
     // A session, lent.
     pub fn of(session: &'a Session) -> SessionView<'a>
         ensures { viewed result ≡ session.now }
@@ -62,7 +65,9 @@ impl<'a> SessionView<'a> {
             dirty_blocks,
             domain,
         } = self;
-        let (used, rest) = dirty_blocks.split_at(layout.mains as usize);
+        let mains = layout.mains as usize;
+        let used = &dirty_blocks[..mains];
+        let rest = &dirty_blocks[mains..Layout::MOST_LEN];
         words::within(dirty_segments, layout.mains)
             && words::within(union(used), layout.blocks)
             && union(rest) == 0
@@ -168,8 +173,8 @@ pub fn dirty_count(word: u64) -> u64
 
 // Whether the eight main segments from main segment i on are there and have no dirty block, so that they can be passed over.
 #[tactic(auto, using(crate::proofs::UnionLaws::union_clear))]
-fn eight_passed(words: &[u64; Layout::MOST_LEN], i: usize, mains: usize) -> bool
-    requires { (i ≤ mains) × (mains ≤ most) }
+fn eight_passed(words: &[u64], i: usize, mains: usize) -> bool
+    requires { (i ≤ mains) × (mains ≤ most) × (most ≤ length words.now) }
     ensures { result ≡ true → (i + word_size ≤ mains) × ((t : ℕ) → t < word_size → get_or words.now (i + t) 0 ≡ 0) }
 {
     i + EIGHT <= mains && union(&words[i..i + EIGHT]) == 0
@@ -189,8 +194,8 @@ fn with_mark(set: u64, word: u64, i: usize) -> u64
 
 // The main segments that have a dirty block, as bits of a word. Eight without one are passed over at once.
 #[tactic(auto, using(crate::proofs::MarkedLaws::marked_more, crate::proofs::MarkedLaws::marked_skip), unfolding(crate::specs::Marked::marked_segments))]
-pub fn marked_segments(words: &[u64; Layout::MOST_LEN], mains: usize) -> u64
-    requires { mains ≤ most }
+pub fn marked_segments(words: &[u64], mains: usize) -> u64
+    requires { (mains ≤ most) × (most ≤ length words.now) }
     ensures { result ≡ marked_segments words.now mains }
 {
     let mut set = 0;
@@ -207,8 +212,8 @@ pub fn marked_segments(words: &[u64; Layout::MOST_LEN], mains: usize) -> u64
 }
 
 // How many blocks of all main segments are dirty, by their words and the set of those that have one.
-pub fn dirty_total(layout: Layout, words: &[u64; Layout::MOST_LEN], marked: u64) -> u64
-    requires mains_le_most { layout.mains ≤ most }
+pub fn dirty_total(layout: Layout, words: &[u64], marked: u64) -> u64
+    requires mains_le_most { (layout.mains ≤ most) × (most ≤ length words.now) }
     requires by_index { (i : ℕ) → i < layout.mains → get_or words.now i 0 < 2 ^ layout.blocks }
     requires marked_value { marked ≡ marked_segments words.now layout.mains }
     ensures { (result ≡ dirty_total layout words.now) × (result ≤ most * most) }
