@@ -3,10 +3,10 @@
 
 #![tactic(auto)]
 
-ghost use Rattle.std.specs.Prelude.{◌≡◌};
+ghost use Rattle.std.specs.Prelude.{◌≡◌, ◌≤◌, length};
 ghost use Rattle.model.specs.Outcome.{told};
 ghost use Rattle.session.specs.Parts.{viewed};
-ghost use Rattle.interface.specs.Interface.{words_of, session_in};
+ghost use Rattle.interface.specs.Interface.{dirty_segments_at, words_of, session_in};
 
 use model::{Answer, Layout, Refusal, Session};
 use session::SessionView;
@@ -23,16 +23,24 @@ pub const DOMAIN_AT: usize = DIRTY_BLOCKS_AT + Layout::MOST_LEN;
 // Words of a session: these, and the kind of module.
 pub const SESSION_WORDS: usize = DOMAIN_AT + 1;
 
+// The layout of the session that stands in words.
+#[tactic(auto, unfolding(crate::specs::Interface::session_in))]
+pub fn layout_in(words: &[u64]) -> Layout
+    requires { dirty_segments_at ≤ length words.now }
+    ensures { result ≡ (session_in words.now).layout }
+{
+    Layout::new(words[0], words[1], words[2])
+}
+
 // The session that stands in words, lent.
 #[tactic(auto, unfolding(crate::specs::Interface::session_in))]
 pub fn view_in(words: &[u64; SESSION_WORDS]) -> SessionView<'_>
     ensures { viewed result ≡ session_in words.now }
 {
-    let dirty_blocks = words[DIRTY_BLOCKS_AT..DOMAIN_AT].as_array().unwrap();
     SessionView {
-        layout: Layout::new(words[0], words[1], words[2]),
+        layout: layout_in(words),
         dirty_segments: words[DIRTY_SEGMENTS_AT],
-        dirty_blocks,
+        dirty_blocks: &words[DIRTY_BLOCKS_AT..DOMAIN_AT],
         domain: words[DOMAIN_AT],
     }
 }
