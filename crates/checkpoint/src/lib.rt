@@ -49,8 +49,8 @@ const FIXED_FLUSHES: u64 = 2;
 // ---- the dirty blocks
 
 // Writes back every dirty block of every main segment, upward: `marked` has those that have one.
-fn put_flushes(layout: Layout, words: &[u64; Layout::MOST_LEN], marked: u64, out: &mut Writer)
-    requires mains_le_most { (layout.mains ≤ most) × (layout.blocks ≤ most) }
+fn put_flushes(layout: Layout, words: &[u64], marked: u64, out: &mut Writer)
+    requires mains_le_most { (layout.mains ≤ most) × (layout.blocks ≤ most) × (most ≤ length words.now) }
     requires by_index { (i : ℕ) → i < layout.mains → get_or words.now i 0 < 2 ^ layout.blocks }
     requires marked_value { marked ≡ marked_segments words.now layout.mains }
     requires fits { Fits out.old (flush_dirty layout words.now) }
