@@ -1,7 +1,7 @@
 -- The tests that one pass over pairs and one over states make: a helper's, which says nothing that users rely on. That they are the
 -- rules of model's Container is shown in proofs/. Assumes nothing.
 use Rattle.std.specs.Prelude.{◌≡◌, ℕ, zero, suc, ◌+◌, ◌*◌, ◌/◌, ◌%◌, ◌<◌, Bool, true, false, cond, ◌&&◌, ◌||◌, ◌==◌, nat_lt}
-use Rattle.std.specs.Prelude.{Option, None, Some}
+use Rattle.std.specs.Prelude.{Result, Ok, Err}
 use Rattle.model.specs.declared.Layout.{Layout}
 use Rattle.model.specs.Layout.{word_size, most, unpaired}
 use Rattle.model.specs.Session.{is_dirty, set_bit}
@@ -35,13 +35,22 @@ lay_pairs pr (suc n) = lay_pair (lay_pairs pr n) (pr n)
 unfoldable pub state_fits : ℕ → ℕ → Bool
 state_fits paired st = st == paired || st == suc paired
 
--- what the passes find where states and pairs are valid: the set that the words of pairs lay, which has the main segments that are paired
+-- the set that the words of pairs lay, whatever they name
+abbrev pub laid_set : Layout → (ℕ → ℕ) → ℕ
+laid_set l pr = (lay_pairs pr (word_size * ((l.backups + 7) / word_size))).set
+
+-- what the passes find where states and pairs are valid: the set that is laid, which has the main segments that are paired
 pub record ValidWith (l : Layout) (st pr : ℕ → ℕ) (set : ℕ) : Type 0 where
   pub valid : valid_metadata l st pr ≡ true
-  pub laid : set ≡ (lay_pairs pr (word_size * ((l.backups + 7) / word_size))).set
+  pub laid : set ≡ laid_set l pr
   pub paired : (i : ℕ) → i < l.mains → is_dirty set i ≡ is_paired l pr i
 
--- what the passes answer: that set, or nothing where states and pairs are not valid
-abbrev pub ExaminedBy : Layout → (ℕ → ℕ) → (ℕ → ℕ) → Option ℕ → Type 0
-ExaminedBy l st pr None = valid_metadata l st pr ≡ false
-ExaminedBy l st pr (Some set) = ValidWith l st pr set
+-- and where they are not: the set that is laid
+pub record InvalidWith (l : Layout) (st pr : ℕ → ℕ) (set : ℕ) : Type 0 where
+  pub invalid : valid_metadata l st pr ≡ false
+  pub laid : set ≡ laid_set l pr
+
+-- what the passes answer: the set that is laid, as a success exactly if states and pairs are valid
+abbrev pub ExaminedBy : Layout → (ℕ → ℕ) → (ℕ → ℕ) → Result ℕ ℕ → Type 0
+ExaminedBy l st pr (Ok set) = ValidWith l st pr set
+ExaminedBy l st pr (Err set) = InvalidWith l st pr set

@@ -173,8 +173,9 @@ fn states_fit(image: &[u8], line: usize, count: usize, set: u64) -> bool
 
 // ---- pairs and states
 
-// The main segments that are paired, as bits of a word, or none where the metadata is not valid by this line of states.
-pub fn examine(image: &[u8], layout: Layout, line: usize) -> Option<u64>
+// What the pairs lay, as bits of a word: the main segments that are paired, where the metadata is valid by this line of states, and an
+// error where it is not.
+pub fn examine(image: &[u8], layout: Layout, line: usize) -> Result<u64, u64>
     requires { (1 ≤ layout.mains) × (layout.mains ≤ most) × (layout.backups ≤ most) × (pairs_end ≤ length image.now) × (line + line_size ≤ length image.now) }
     ensures { ExaminedBy layout (seg_state image.now line) (backup_to_main image.now) result }
 {
@@ -185,7 +186,11 @@ pub fn examine(image: &[u8], layout: Layout, line: usize) -> Option<u64>
     let states_ok = states_fit(image, line, mains.div_ceil(WORD_SIZE), set);
     let rest_ok = rest_is(image, Layout::PAIRS_AT as usize, backups, Layout::UNPAIRED)
         & rest_is(image, line, mains, Layout::SS_INITIAL);
-    (pairs_ok & states_ok & rest_ok).then_some(set)
+    if pairs_ok & states_ok & rest_ok {
+        Ok(set)
+    } else {
+        Err(set)
+    }
 }
 
 // ---- refusals 1 to 4
@@ -196,6 +201,8 @@ pub fn container_status(image: &[u8], layout: Layout) -> Result<(), Refusal>
     ensures { code_of result ≡ first_error (container_errors layout image.now) }
 {
     places::layout_status(image, layout)?;
-    examine(image, layout, metadata::active_at(image)).ok_or(Refusal::Invalid)?;
+    let Ok(_) = examine(image, layout, metadata::active_at(image)) else {
+        return Err(Refusal::Invalid);
+    };
     Ok(())
 }
