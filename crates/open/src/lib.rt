@@ -172,7 +172,9 @@ fn recover(
     requires { SizesOk layout × (length image.now ≡ image_size layout) × (line + most ≤ length image.now) }
     ensures { (R : Clients) → code_of judged ≡ first_error (clients_errors layout R) → Gives (recovery_outcome layout domain image.now line (lent R trace.old)) trace.old (told zero_session result) trace.new (cond (served (code_of result)) (cleared R) R) }
 {
-    let paired = container::examine(image, layout, line).ok_or(Refusal::Invalid)?;
+    let Ok(paired) = container::examine(image, layout, line) else {
+        return Err(Refusal::Invalid);
+    };
     domain_status(domain)?;
     judged?;
     let ops = recovery_length(image, layout, line, paired, domain);

@@ -1,4 +1,4 @@
-use mathlib.Core.Path.{◌≡◌, refl, sym, ap, ◌∙◌}
+use mathlib.Core.Path.{refl, sym, ap, ◌∙◌}
 use mathlib.Core.Bool.{not}
 use native.Mathlib.Omega.{arith}
 use Rattle.std.proofs.Common.{rules}
@@ -14,27 +14,22 @@ use Rattle.open.proofs.recover.Goals as goal
 pub examine-requires : goal.examine-requires
 examine-requires c = omega (arith, metadata_inside c.args.layout)
 
-pub returns-in_err-paired : goal.returns-in_err-paired
+pub returns-in_default : goal.returns-in_default
 unfolding recovery_outcome
-returns-in_err-paired c = λ R y.
-    let p = err_from_is_err_and c.from_residual.result c.from_residual.ensures.1 in
-    let h = c.in_err-paired.ensures in
-    let v = rw h.ok_part at h.value in
-    let q : c.in_err-paired.field-0.0 ≡ Invalid = cc in
-    rw (p.1, p.2, q) (gives_refused _ _ _ _ _ _ _ _ Invalid (first_holds 4 _ _ (ap not (rw h.ok_part at c.examine.ensures))))
+returns-in_default c = λ R y. gives_refused _ _ _ _ _ _ _ _ Invalid (first_holds 4 _ _ (ap not (rw c.in_default.is at c.examine.ensures).invalid))
 
 pub returns-in_err-domain_status : goal.returns-in_err-domain_status
 unfolding recovery_outcome
 returns-in_err-domain_status c = λ R y.
-    let v = rw c.in_ok-paired.ensures.ok_part at c.examine.ensures in
-    let p = err_from_is_err_and c.from_residual-in_err-domain_status.result c.from_residual-in_err-domain_status.ensures.1 in
+    let v = rw c.in-Ok.is at c.examine.ensures in
+    let p = err_from_is_err_and c.from_residual.result c.from_residual.ensures.1 in
     rw (p.1, p.2, refusal_refuses) (gives_refused _ _ _ _ _ _ _ _ _
     (stage_refused _ _ _ c.in_err-domain_status.ensures (refusal_refuses _) ∙ sym (after-served _ _ (omega arith) (valid_served v))))
 
 pub returns-in_err-judged : goal.returns-in_err-judged
 unfolding recovery_outcome
 returns-in_err-judged c = λ R y.
-    let v = rw c.in_ok-paired.ensures.ok_part at c.examine.ensures in
+    let v = rw c.in-Ok.is at c.examine.ensures in
     let p = err_from_is_err_and c.from_residual-in_err-judged.result c.from_residual-in_err-judged.ensures.1 in
     rw (p.1, p.2, refusal_refuses) (gives_refused _ _ _ _ _ _ _ _ _
     (stage_refused _ _ _ (rw c.in_err-judged.was at y) (refusal_refuses _)
@@ -42,13 +37,13 @@ returns-in_err-judged c = λ R y.
 
 pub recovery_length-ops-requires : goal.recovery_length-ops-requires
 recovery_length-ops-requires c =
-    let v = rw c.in_ok-paired.ensures.ok_part at c.examine.ensures in
+    let v = rw c.in-Ok.is at c.examine.ensures in
     recovers_by c.args.layout c.args.image.now c.args.line c.requires.0 c.requires.1 c.requires.2 v
 
 pub returns-in_err-trace_status : goal.returns-in_err-trace_status
 unfolding recovery_outcome
 returns-in_err-trace_status c = λ R y.
-    let v = rw c.in_ok-paired.ensures.ok_part at c.examine.ensures in
+    let v = rw c.in-Ok.is at c.examine.ensures in
     let p = err_from_is_err_and c.from_residual-in_err-trace_status.result c.from_residual-in_err-trace_status.ensures.1 in
     rw (p.1, p.2, refusal_refuses) (gives_refused _ _ _ _ _ _ _ _ _
     (c.in_err-trace_status.ensures _ c.args.trace.now (sym c.recovery_length-ops.ensures.0) refl ∙ sym (after-served _ _ (omega arith) (sym (rw c.in_ok-judged.was at y)))
@@ -57,7 +52,7 @@ returns-in_err-trace_status c = λ R y.
 pub put_recovery-requires : goal.put_recovery-requires
 put_recovery-requires c =
     let g = c.args in
-    let v = rw c.in_ok-paired.ensures.ok_part at c.examine.ensures in
+    let v = rw c.in-Ok.is at c.examine.ensures in
     record {
       valid_by = recovers_by g.layout g.image.now g.line c.requires.0 c.requires.1 c.requires.2 v;
       fits = fits_whole _ c.new-out.ensures.begun (c.in_ok-trace_status.ensures _ g.trace.now (sym c.recovery_length-ops.ensures.0) refl);
@@ -67,7 +62,7 @@ pub returns : goal.returns
 unfolding recovery_outcome
 returns c = λ R y.
     let m = c.recovery_length-ops.ensures.0 in
-    let v = rw c.in_ok-paired.ensures.ok_part at c.examine.ensures in
+    let v = rw c.in-Ok.is at c.examine.ensures in
     let z = c.in_ok-trace_status.ensures _ c.args.trace.now (sym m) refl in
     gives_served _ _ _ R _ _ _ _
     (after-served _ _ (omega arith) (valid_served v) ∙ after-served _ _ (omega arith) (sym c.in_ok-domain_status.ensures) ∙ after-served _ _ (omega arith) (sym (rw c.in_ok-judged.was at y)) ∙ sym z)
