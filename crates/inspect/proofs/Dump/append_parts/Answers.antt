@@ -1,3 +1,4 @@
+use mathlib.Core.Path.{sym}
 use Rattle.model.specs.Range.{cat}
 use Rattle.text.specs.Text.{text}
 use Rattle.printer.proofs.AppendedLaws.{appended_then}
@@ -9,4 +10,5 @@ unfolding part_text text cat
 returns-clause-appended c =
     let saved = c.checkpoint_part-saved.ensures in
     let working = c.working_part-working.ensures in
-    appended_then (rw (saved.start, saved.size) at c.append_part.ensures.appended) (rw (working.start, working.size) at c.append_part-2.ensures.appended)
+    rw (sym saved.start, sym saved.size, sym working.start, sym working.size)
+    (appended_then c.append_part.ensures.appended c.append_part-2.ensures.appended)
