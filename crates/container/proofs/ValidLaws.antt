@@ -1,19 +1,20 @@
 -- The passes over pairs and states test what model's `valid_metadata` says, and find the paired main segments.
-use Rattle.std.proofs.Common.{◌≡◌, ℕ, suc, ◌-◌, ◌^◌, ◌<◌, ◌≤◌, Bool, true, false, ◌&&◌, ◌||◌, eqb, ltb, ◌≢◌, ◌⊎◌, sym, refl, ap, ap₂, ◌∙◌, inl, inr, ⊎_elim, arith, ltb-true, le-ltb, lt-ltb, eq-eqb, eqb-true}
+use Rattle.std.proofs.Common.{◌≡◌, ℕ, suc, ◌+◌, ◌*◌, ◌/◌, ◌-◌, subst, cond, ◌^◌, ◌<◌, ◌≤◌, Bool, true, false, ◌&&◌, ◌||◌, eqb, ltb, ◌≢◌, ◌⊎◌, sym, refl, ap, ap₂, ◌∙◌, inl, inr, ⊎_elim, arith, ltb-true, le-ltb, lt-ltb, eq-eqb, eqb-true}
+use Rattle.std.specs.Prelude.{Result, Ok, Err}
 use mathlib.Core.Bool.{and-eq-true_iff}
 use native.Mathlib.Decide.{dec_lt}
 use lib.Count.{ones}
 use borrow.Author.Tests.{eqb-false}
 use Rattle.model.specs.declared.Layout.{Layout}
 use Rattle.model.specs.Range.{all_b, any_b, first_b}
-use Rattle.model.specs.Layout.{unpaired, ss_initial, ss_backup}
+use Rattle.model.specs.Layout.{word_size, unpaired, ss_initial, ss_backup}
 use Rattle.model.specs.Session.{bit, is_dirty}
 use Rattle.model.specs.Container.{Valid, is_paired, valid_metadata, paired_backup}
 use Rattle.model.proofs.Laws.Range.{both, or_left, or_right, or_else, all_at, all_from, any_at, first_some, same_test}
 use Rattle.model.proofs.Laws.Session.{bit_lt, bits_below}
 use Rattle.model.proofs.Laws.Container.{paired_at, unpaired_none, paired_by, valid_means, valid_test}
 use Rattle.container.specs.declared.Paired.{Paired}
-use Rattle.container.specs.Scan.{lay_pairs, state_fits}
+use Rattle.container.specs.Scan.{lay_pairs, state_fits, ExaminedBy}
 use Rattle.container.proofs.LineLaws.{fits_means, fits_from}
 use Rattle.container.proofs.PairLaws.{Fine, named, set_small, counted_fine, fine_counted}
 
@@ -170,3 +171,9 @@ module _ (l : Layout) (st pr : ℕ → ℕ) (p q : ℕ) (backups : l.backups ≤
   -- and then the set has the paired main segments
   pub tested_paired : tested ≡ true → (i : ℕ) → i < l.mains → is_dirty set i ≡ is_paired l pr i
   tested_paired h i b = let k = simp and-eq-true_iff at h in set_paired k.1.0 i (omega arith)
+
+-- what the passes answer
+pub examined : (l : Layout) (st pr : ℕ → ℕ) (b : Bool) (s : ℕ) {r : Result ℕ ℕ} → r ≡ cond b (Ok s) (Err s) → b ≡ valid_metadata l st pr
+    → s ≡ (lay_pairs pr (word_size * ((l.backups + 7) / word_size))).set → (b ≡ true → (i : ℕ) → i < l.mains → is_dirty s i ≡ is_paired l pr i) → ExaminedBy l st pr r
+examined l st pr true s e v laid p = subst (ExaminedBy l st pr) (sym e) (record { valid = sym v; laid = laid; paired = p refl })
+examined l st pr false s e v laid p = subst (ExaminedBy l st pr) (sym e) (record { invalid = sym v; laid = laid })

@@ -22,7 +22,7 @@ use Rattle.lines.specs.Line.{name, named, value_of, number_in}
 use Rattle.parser.specs.Script.{line_at, group_of, default_backups, blocks_line, sizes_of}
 use Rattle.parser.specs.declared.HeaderAt.{HeaderAt}
 use Rattle.parser.specs.declared.GroupAt.{GroupAt}
-use Rattle.parser.specs.Read.{line_start, value_start, value_end, ReadsHeader, ReadsGroup}
+use Rattle.parser.specs.Read.{line_start, value_start, value_end, ReadsHeader, HeaderStands, ReadsGroup, GroupStands}
 
 -- ---- line i of some lines, where the lines before it are passed
 
@@ -134,10 +134,15 @@ module _ (input : List ℕ) {a b r₁ r₂ : List ℕ} (s₁ : SplitsLine input 
       let q : n ≡ number_in Blocks (line_at ls 1) = line_number ls 1 second s₂ Blocks en in
       record {
         layout = el ∙ rw (e, ed, ← mains, ← q);
-        inside = start_inside input _;
-        tail = rw e (er ∙ third_start);
         rest = rw e (ap lines_of er ∙ third);
       }
+
+  pub short_stands : {r : HeaderAt} → p ≡ false → r.rest.now ≡ r₂ → HeaderStands input r
+  unfolding blocks_line
+  short_stands {r = r} h er =
+      let e : named Backups (line_at ls 1) ≡ false = sym has ∙ h in
+      let q : r.rest.now ≡ drop (line_start input 2) input = er ∙ third_start in
+      record { inside = start_inside input _; tail = rw e q }
 
   -- with one
   pub header_long : {c r₃ : List ℕ} {x n : ℕ} {r : HeaderAt} → p ≡ true → SplitsLine r₂ c r₃ → x ≡ number_in Backups b → n ≡ number_in Blocks c
@@ -149,10 +154,15 @@ module _ (input : List ℕ) {a b r₁ r₂ : List ℕ} (s₁ : SplitsLine input 
       let z : n ≡ number_in Blocks (line_at ls 2) = line_number ls 2 third s₃ Blocks en in
       record {
         layout = el ∙ rw (e, ← mains, ← y, ← z);
-        inside = start_inside input _;
-        tail = rw e (er ∙ past_start input 2 third_start s₃);
         rest = rw e (ap lines_of er ∙ past_line ls 2 third s₃);
       }
+
+  pub long_stands : {c r₃ : List ℕ} {r : HeaderAt} → p ≡ true → SplitsLine r₂ c r₃ → r.rest.now ≡ r₃ → HeaderStands input r
+  unfolding blocks_line
+  long_stands {r = r} h s₃ er =
+      let e : named Backups (line_at ls 1) ≡ true = sym has ∙ h in
+      let q : r.rest.now ≡ drop (line_start input 3) input = er ∙ past_start input 2 third_start s₃ in
+      record { inside = start_inside input _; tail = rw e q }
 
 -- ---- a group
 
@@ -167,19 +177,26 @@ group_read input r s₁ s₂ s₃ s₄ s₅ em eb eo ed ec er =
     let h2 = past_line ls 1 h1 s₂ in
     let h3 = past_line ls 2 h2 s₃ in
     let h4 = past_line ls 3 h3 s₄ in
+    record {
+      main = line_number ls 0 refl s₁ Main em;
+      block = line_number ls 1 h1 s₂ Block eb;
+      offset = line_number ls 2 h2 s₃ Offset eo;
+      digits = ed ∙ ap (value_of Bytes) (line_is ls 3 h3 s₄);
+      checkpoint = ec ∙ ap (λ (l : Line). eqb (number_in Checkpoint l) 1) (line_is ls 4 h4 s₅);
+      rest = ap lines_of er ∙ past_line ls 4 h4 s₅;
+    }
+
+pub group_stands : (input : List ℕ) {a b c d e r₁ r₂ r₃ r₄ r₅ : List ℕ} (r : GroupAt)
+    → SplitsLine input a r₁ → SplitsLine r₁ b r₂ → SplitsLine r₂ c r₃ → SplitsLine r₃ d r₄ → SplitsLine r₄ e r₅
+    → r.digits.now ≡ value_of Bytes d → r.rest.now ≡ r₅ → GroupStands input r
+group_stands input r s₁ s₂ s₃ s₄ s₅ ed er =
     let p1 = past_start input 0 (first_start input) s₁ in
     let p2 = past_start input 1 p1 s₂ in
     let p3 = past_start input 2 p2 s₃ in
     let p4 = past_start input 3 p3 s₄ in
     record {
-      main = line_number ls 0 refl s₁ Main em;
-      block = line_number ls 1 h1 s₂ Block eb;
-      offset = line_number ls 2 h2 s₃ Offset eo;
       place = line_value input 3 p3 s₄ Bytes ed;
-      digits = ed ∙ ap (value_of Bytes) (line_is ls 3 h3 s₄);
-      checkpoint = ec ∙ ap (λ (l : Line). eqb (number_in Checkpoint l) 1) (line_is ls 4 h4 s₅);
       ordered = (omega arith, omega (arith, start_more input 3, start_more input 4));
       inside = start_inside input 5;
       tail = er ∙ past_start input 4 p4 s₅;
-      rest = ap lines_of er ∙ past_line ls 4 h4 s₅;
     }

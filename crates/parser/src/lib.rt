@@ -6,7 +6,7 @@ ghost use Rattle.std.specs.Prelude.{◌≡◌};
 ghost use Rattle.text.specs.Text.{lines_of};
 ghost use Rattle.lines.specs.declared.Key.TheVariants.{Mains};
 ghost use Rattle.parser.specs.Script.{key_for, following, first_bad, verdict, default_backups};
-ghost use Rattle.parser.specs.Read.{ReadsHeader, ReadsGroup};
+ghost use Rattle.parser.specs.Read.{ReadsHeader, HeaderStands, ReadsGroup, GroupStands};
 
 use lines::Key;
 use model::{Layout, Place};
@@ -88,7 +88,8 @@ pub struct HeaderAt<'a> {
 
 // The sizes of a sheet.
 pub fn header(input: &[u8]) -> HeaderAt<'_>
-    ensures { ReadsHeader input.now result }
+    ensures reads { ReadsHeader input.now result }
+    ensures stands { HeaderStands input.now result }
 {
     let (first, rest) = text::split_line(input);
     let (second, rest) = text::split_line(rest);
@@ -116,7 +117,8 @@ pub struct GroupAt<'a> {
 
 // The group of the first five lines.
 pub fn group_at(input: &[u8]) -> GroupAt<'_>
-    ensures { ReadsGroup input.now result }
+    ensures reads { ReadsGroup input.now result }
+    ensures stands { GroupStands input.now result }
 {
     let (first, rest) = text::split_line(input);
     let (second, rest) = text::split_line(rest);

@@ -9,6 +9,7 @@ use lib.Seq.{get_or-take, get_or-drop}
 use lib.Bits.{bit_or}
 use native.Mathlib.Decide.{dec_lt}
 use Rattle.std.specs.Prelude.{fold}
+use Rattle.std.proofs.lemmas.List.{take_all}
 use Rattle.std.proofs.lemmas.Grind.{common_steps}
 use borrow.Author.Tests.{lt-ltb, le-ltb, eq-eqb, eqb-true, ltb-true}
 use Rattle.model.specs.declared.Layout.{Layout}
@@ -58,14 +59,14 @@ module _ (words : ℕ → ℕ) (n k : ℕ) (h : n ≤ 64) where
           eq-eqb (words (n + i)) 0 (omega (arith, ltb-true (words (n + i)) 1 z))))
 
 -- validity by the tests that the code makes, of a session of 64 words or more
-pub valid_session_tests : (s : Session) (st : ℕ → ℕ) → s.layout.mains ≤ 64 → 64 ≤ length s.dirty_blocks
+pub valid_view_tests : (s : Session) (st : ℕ → ℕ) → s.layout.mains ≤ 64 → 64 ≤ length s.dirty_blocks
     → (ltb s.dirty_segments (2 ^ s.layout.mains)
     && (ltb (fold bit_or 0 (take s.layout.mains s.dirty_blocks)) (2 ^ s.layout.blocks)
     && (eqb (fold bit_or 0 (take (64 - s.layout.mains) (drop s.layout.mains s.dirty_blocks))) 0
     && (all_b s.layout.mains (λ (i : ℕ). not (is_dirty s.dirty_segments i && eqb (st i) 1)) && leb s.domain 1))))
     ≡ valid_session s st
 unfolding valid_session dirty_segment
-valid_session_tests s st h l =
+valid_view_tests s st h l =
     let words = s.dirty_blocks in
     let m = s.layout.mains in
     let used = union_within s.layout.blocks words m (omega arith) in
@@ -75,6 +76,18 @@ valid_session_tests s st h l =
     let blocks = ap₂ ◌&&◌ used none ∙ words_in_two (dirty_word s) m s.layout.blocks h in
     let kind : leb s.domain 1 ≡ not (ltb 1 s.domain) = grind (arith, common_steps) in
     grind (arith, common_steps)
+
+-- and of a session of 64 words, of which those behind the main segments are all that is left
+pub valid_session_tests : (s : Session) (st : ℕ → ℕ) → s.layout.mains ≤ 64 → length s.dirty_blocks ≡ 64
+    → (ltb s.dirty_segments (2 ^ s.layout.mains)
+    && (ltb (fold bit_or 0 (take s.layout.mains s.dirty_blocks)) (2 ^ s.layout.blocks)
+    && (eqb (fold bit_or 0 (drop s.layout.mains s.dirty_blocks)) 0
+    && (all_b s.layout.mains (λ (i : ℕ). not (is_dirty s.dirty_segments i && eqb (st i) 1)) && leb s.domain 1))))
+    ≡ valid_session s st
+valid_session_tests s st h l =
+    let m = s.layout.mains in
+    let rest = drop m s.dirty_blocks in
+    rw (take_all (64 - m) rest (omega (arith, l, length-drop m s.dirty_blocks))) at (valid_view_tests s st h (omega (arith, l)))
 
 -- in a valid session no word of dirty blocks has a bit beyond the blocks
 pub words_within : (s : Session) (st : ℕ → ℕ) → s.layout.mains ≤ most → valid_session s st ≡ true → (i : ℕ) → i < s.layout.mains

@@ -14,9 +14,9 @@ pub run_read-requires : goal.run_read-requires
 run_read-requires c =
     let l = c.loop-rest in
     let some : 0 < length l.rest.now = grind (arith, nat_tests) in
-    let n = group_next _ l.invariant.0.0 l.invariant.0.1 some _ c.group_at-read.ensures in
+    let n = group_next _ l.invariant.0.0 l.invariant.0.1 some _ c.group_at-read.ensures.reads in
     record {
-      digits = digits_fit _ l.invariant.0 some _ c.group_at-read.ensures;
+      digits = digits_fit _ l.invariant.0 some _ c.group_at-read.ensures.reads;
       image = omega (arith, l.invariant.3.size, c.requires.image);
       room = record { room = omega (arith, n, c.requires.room.room, l.invariant.4, l.invariant.5) };
     }
@@ -26,23 +26,23 @@ loop-rest-preserved c =
     let l = c.loop-rest in
     let r = c.group_at-read.result in
     let some : 0 < length l.rest.now = grind (arith, nat_tests) in
-    let n = group_next _ l.invariant.0.0 l.invariant.0.1 some _ c.group_at-read.ensures in
+    let n = group_next _ l.invariant.0.0 l.invariant.0.1 some _ c.group_at-read.ensures.reads in
     let x = c.run_read.ensures in (
-      good_rest _ l.invariant.0 some _ c.group_at-read.ensures,
+      good_rest _ l.invariant.0 some _ c.group_at-read.ensures.reads,
       omega arith,
       omega (arith, n, l.invariant.2),
       record { same = x.kept.same ∙ l.invariant.3.same; size = x.kept.size ∙ l.invariant.3.size },
       omega (arith, n, x.grown.upper_bound, l.invariant.4),
       x.grown.size ∙ l.invariant.5,
       rw add-one (story_more c.args.sheet.now (groups_from c.args.input.now) c.args.page.now l.sheet l.n (groups_from l.rest.now) l.page l.invariant.6
-          (group_in r) _ c.run_read.new.sheet c.run_read.new.page (group_first _ l.invariant.0 some _ c.group_at-read.ensures) x.group_ran),
+          (group_in r) _ c.run_read.new.sheet c.run_read.new.page (group_first _ l.invariant.0 some _ c.group_at-read.ensures.reads) x.group_ran),
     )
 
 pub loop-rest-smaller : goal.loop-rest-smaller
 loop-rest-smaller c =
     let l = c.loop-rest in
     let some : 0 < length l.rest.now = grind (arith, nat_tests) in
-    omega (arith, group_next _ l.invariant.0.0 l.invariant.0.1 some _ c.group_at-read.ensures)
+    omega (arith, group_next _ l.invariant.0.0 l.invariant.0.1 some _ c.group_at-read.ensures.reads)
 
 pub returns : goal.returns
 returns c =
